@@ -10,8 +10,8 @@ import time
 TOP = os.path.dirname(os.path.dirname(os.path.abspath(__file__)))
 LOGIC = 'dac8208d650f15bf'  # the program logic that the proofs were last checked with
 ROOM = 10  # GB of disk that all proofs take
-# Each program: its crate, the one below it that stands on all others, and the script that runs it.
-PROGRAMS = {'ol': ('ol', 'ol_cli', './ol'), 'ol-bench': ('ol_bench_program', 'ol_bench', './ol-bench')}
+# Each program: its crate, and the script that runs it.
+PROGRAMS = {'ol': ('ol', './ol'), 'ol-bench': ('ol_bench_program', './ol-bench')}
 
 
 def tell(text):
@@ -55,36 +55,39 @@ def clock(start):
     return f'{took // 60:3}:{took % 60:02}'
 
 
-def prove_below(top, lanes, count, start):
-    """Has `rt all` prove the crates below this one, and tells each when its proof ends. It is stopped once they are proved: what is
-    left stands on all of them, and gets more processors from a command of its own."""
-    left, ended = crates_below(top), 0
-    words = [sys.executable, TOP + '/scripts/all_check.py', shutil.which('rt'), str(lanes), *left, top]
+def prove_all(names, lanes, count, start):
+    """Has `rt all` prove these crates, and tells each when its proof ends. It is stopped once they are proved: what is left is the program,
+    which is built by a command of its own."""
+    left, ended = set(names), 0
+    words = [sys.executable, TOP + '/scripts/all_check.py', shutil.which('rt'), str(lanes), *names]
     running = subprocess.Popen(words, cwd=TOP, stdin=subprocess.DEVNULL, stdout=subprocess.PIPE, stderr=subprocess.STDOUT, text=True,
                                errors='replace', start_new_session=True)
     said = []
-    for row in running.stdout:
-        found = re.fullmatch(r'== (\w+)\n', row)
-        if found and found.group(1) == 'summary':
-            break
-        said.append(row)
-        if found and found.group(1) in left:
-            ended, said = ended + 1, []
-            left.remove(found.group(1))
-            tell(f'{ended:2} of {count} {clock(start)}  {found.group(1)}')
-            if not left:
-                os.killpg(running.pid, signal.SIGTERM)
+    try:
+        for row in running.stdout:
+            found = re.fullmatch(r'== (\w+)\n', row)
+            if found and found.group(1) == 'summary':
                 break
-    running.stdout.close()
-    running.wait()
+            said.append(row)
+            if found and found.group(1) in left:
+                ended, said = ended + 1, []
+                left.remove(found.group(1))
+                tell(f'{ended:2} of {count} {clock(start)}  {found.group(1)}')
+                if not left:
+                    break
+    finally:
+        if running.poll() is None:
+            os.killpg(running.pid, signal.SIGTERM)
+        running.stdout.close()
+        running.wait()
     if left:
         print(''.join(said), end='')
         stop("not every crate is proved: above is what `rt` printed last; `rt check` in a crate's folder says more.")
 
 
-def build(crate):
+def build(crate, lanes):
     """Builds the program over what is proved. Without words it prints how it is used, and fails."""
-    ran = subprocess.run(['rt', 'run'], cwd=f'{TOP}/crates/{crate}', stdin=subprocess.DEVNULL, stdout=subprocess.PIPE,
+    ran = subprocess.run(['rt', 'run', '--jobs', str(lanes)], cwd=f'{TOP}/crates/{crate}', stdin=subprocess.DEVNULL, stdout=subprocess.PIPE,
                          stderr=subprocess.STDOUT, text=True, errors='replace')
     if ran.returncode != 0 and not re.search(r'(?im)^usage: ', ran.stdout):
         print(ran.stdout)
@@ -93,14 +96,15 @@ def build(crate):
 
 def main():
     words = sys.argv[1:]
-    crate, last, script = PROGRAMS[words.pop(0) if words and words[0] in PROGRAMS else 'ol']
+    crate, script = PROGRAMS[words.pop(0) if words and words[0] in PROGRAMS else 'ol']
     processors = len(os.sched_getaffinity(0))
     lanes = int(words[0]) if words and words[0].isdigit() else processors
     check_the_machine()
-    count, start = len(crates_below(crate)) + 1, time.time()
-    tell(f'{count} crates, at most {lanes} at a time; the last two by all processors together.')
-    prove_below(last, lanes, count, start)
-    build(crate)
+    below, start = sorted(crates_below(crate)), time.time()
+    count = len(below) + 1
+    tell(f'{count} crates, by at most {lanes} processes.')
+    prove_all(below, lanes, count, start)
+    build(crate, lanes)
     program = f'{TOP}/crates/{crate}/out/{crate}'
     os.utime(program)
     tell(f'{count:2} of {count} {clock(start)}  {crate}')
@@ -108,4 +112,8 @@ def main():
 
 
 if __name__ == '__main__':
-    main()
+    signal.signal(signal.SIGTERM, lambda *_: sys.exit(1))
+    try:
+        main()
+    except KeyboardInterrupt:
+        stop('interrupted. What was proved is kept.')

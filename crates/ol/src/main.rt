@@ -6,11 +6,12 @@ ghost use Rattle.ol_io.specs.Readings.{handed, reading};
 ghost use Rattle.ol_parse.specs.Grammar.{Named};
 ghost use Rattle.ol_parse.specs.Texts.{IsText};
 ghost use Rattle.ol_lines.specs.NormalForms.{BeginsReduced};
+ghost use Rattle.ol_cli.specs.NormalForms.{PlainDemandSays, FirstLine, IsFoundWithin};
+ghost use Rattle.ol_cli.specs.NormalForms.{CountsSay, IsNoMoreThanLeftmost, AreFamilies};
 ghost use Rattle.ol_cli.specs.Jobs.{OfReadFiles, TellsTerm, TellsFiles, files_of};
 ghost use Rattle.ol_cli.specs.NormalForms.{LineSays, IsItsNormalForm, TellsOfNone};
 ghost use Rattle.ol_cli.specs.NormalForms.{IsFoundOnDemand, LineSaysOfTwo};
-ghost use Rattle.ol_cli.specs.NormalForms.{ArePlain, PlainDemandFinds, PlainDemandIsFrugal};
-ghost use Rattle.ol_cli.specs.NormalForms.{PlainDemandIsOptimal};
+ghost use Rattle.ol_cli.specs.NormalForms.{ArePlain};
 ghost use Rattle.ol_cli.specs.NormalForms.{PlainEqualSays, PlainLineSays};
 ghost use Rattle.ol_cli.specs.Answers.{IsAnswer};
 ghost use Rattle.ol_cli.specs.Completeness.{AskForWhatCanBeDone, IsDoneOrNothing};
@@ -69,15 +70,18 @@ fn run<'a, R: Files + Input + Print + Threads + Wait + Sync>(
     // `different` only where they aren't.
     ensures plain_demand { result.status ≡ Status.Done
         → OfReadFiles [] (⟦<StdSource<'a, R> as Source>⟧.readings result.src) (λ files.
-        PlainDemandFinds words.now.items files (Some [])
+        PlainDemandSays (λ source. FirstLine (IsFoundWithin 4096 source))
+        words.now.items files (Some [])
         (⟦<StdSink<'a, R> as Sink>⟧.taken result.out)) }
     ensures plain_frugal { result.status ≡ Status.Done
         → OfReadFiles [] (⟦<StdSource<'a, R> as Source>⟧.readings result.src) (λ files.
-        PlainDemandIsFrugal words.now.items files (Some [])
+        PlainDemandSays (λ source. CountsSay (λ line. IsNoMoreThanLeftmost source))
+        words.now.items files (Some [])
         (⟦<StdSink<'a, R> as Sink>⟧.taken result.out)) }
     ensures plain_optimal { result.status ≡ Status.Done
         → OfReadFiles [] (⟦<StdSource<'a, R> as Source>⟧.readings result.src) (λ files.
-        PlainDemandIsOptimal words.now.items files (Some [])
+        PlainDemandSays (λ source. CountsSay (AreFamilies source))
+        words.now.items files (Some [])
         (⟦<StdSink<'a, R> as Sink>⟧.taken result.out)) }
     ensures plain_equal { result.status ≡ Status.Done
         → OfReadFiles [] (⟦<StdSource<'a, R> as Source>⟧.readings result.src) (λ files.

@@ -12,7 +12,7 @@ use crate::answers::End;
 use crate::chaining::ask_once;
 use crate::rewriting::Run;
 use ol_context::Values;
-use ol_io::NoMemory;
+use ol_memory::NoMemory;
 use ol_net::Net;
 use ol_readback::{Asked, Asks, Head, leave_by};
 use std::alloc::Global;

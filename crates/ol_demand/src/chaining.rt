@@ -9,7 +9,7 @@ ghost use Rattle.ol_demand.specs.Chaining.{FindsPair, IsEndOf, IsHeldEnd, KeepsI
 
 use crate::answers::End;
 use ol_context::{Context, Cross, Val, Values, cross};
-use ol_io::NoMemory;
+use ol_memory::NoMemory;
 use ol_net::{Facing, Net, NodeId, Port};
 use ol_readback::Levels;
 use std::alloc::Global;

@@ -10,7 +10,7 @@ ghost use Rattle.ol_demand.specs.Answers.{start_of, IsAnswer, IsSpent, IfDone, j
 use crate::answers::Demanded;
 use crate::asking::Chains;
 use crate::rewriting::Run;
-use ol_io::NoMemory;
+use ol_memory::NoMemory;
 use ol_net::Net;
 use ol_readback::{ReadTree, read};
 use std::alloc::Global;

@@ -11,7 +11,7 @@ ghost use Rattle.ol_net.specs.declared.parts.Rule.{Rule};
 ghost use Rattle.ol_demand.specs.Chaining.{IsPair};
 ghost use Rattle.ol_demand.specs.Rewriting.{Advances, AdvancesEither, AtMostOneStep, StopsEither};
 
-use ol_io::NoMemory;
+use ol_memory::NoMemory;
 use ol_net::{Net, NodeId, Rule};
 use ol_rules::{Entry, Journal, NodeName, StepFault, step};
 use std::alloc::Global;

@@ -15,7 +15,7 @@ ghost use Rattle.ol_diamond.specs.Replaying.{node_number, AreIdle, AreIdleNumber
 ghost use Rattle.ol_diamond.specs.Waves.{IsWavesOf};
 ghost use Rattle.ol_diamond.specs.PortWeights.{weight_at, raised_if, joined_weights, copied, copies_at, arity_of, acts_on, crossed_weights, weights_after, WeighsEntry};
 
-use ol_io::NoMemory;
+use ol_memory::NoMemory;
 use ol_net::{Facing, Net, NodeId, Port, Rule, rule_of};
 use ol_rules::{Entry, Journal, NodeName, is_meeting, step};
 use std::alloc::Global;

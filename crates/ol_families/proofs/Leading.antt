@@ -1,7 +1,8 @@
 -- A labelled head step is the leftmost one, and the root's walk meets its redex.
 use Rattle.std.proofs.Common.{◌≡◌, ℕ, ◌+◌, false, if◌then◌else◌, [], ◌∷◌, ◌++◌, Some, refl, ap, ◌∙◌, subst, append-nil}
 use Rattle.std.specs.Option.{option_map}
-use Rattle.ol_beta.specs.Leftmost.{leftmost, first_of_two}
+use Rattle.std.specs.Option.{option_or}
+use Rattle.ol_beta.specs.Leftmost.{leftmost}
 use Rattle.ol_beta.specs.Leftmost as beta_steps
 use Rattle.ol_frugal.specs.Met.{blank}
 use Rattle.ol_meaning.specs.Heads.{os, outer}
@@ -22,8 +23,8 @@ head_is_leftmost T U d (below_lam {t = t} {u = u} w h) =
 head_is_leftmost T U d (before_argument {f = f} {g = g} a w e h) =
     let r = head_is_leftmost f g d h in (
       1 ∷ r.0,
-      ap (λ b. if b then Some [] else first_of_two (beta_steps.under 1 (leftmost (erased f))) (beta_steps.under 2 (leftmost (erased a)))) e
-          ∙ ap (λ x. first_of_two (beta_steps.under 1 x) (beta_steps.under 2 (leftmost (erased a)))) r.1,
+      ap (λ b. if b then Some [] else option_or (beta_steps.under 1 (leftmost (erased f))) (beta_steps.under 2 (leftmost (erased a)))) e
+          ∙ ap (λ x. option_or (beta_steps.under 1 x) (beta_steps.under 2 (leftmost (erased a)))) r.1,
       r.2,
       ap (option_map (λ g. labels.app g a w)) r.3,
     )

@@ -1,7 +1,8 @@
 -- Each redex that a question comes to has the word of a degree that leftmost reduction to a normal form contracts.
 use Rattle.std.proofs.Common.{◌≡◌, ℕ, zero, suc, ◌++◌, Bool, true, false, if◌then◌else◌, ◌⊎◌, inl, inr, List}
 use Rattle.std.proofs.Common.{[], ◌∷◌, Option, Some, None, refl, sym, ap, ◌∙◌, subst}
-use Rattle.ol_beta.specs.Leftmost.{leftmost, first_of_two, is_abstraction}
+use Rattle.std.specs.Option.{option_or}
+use Rattle.ol_beta.specs.Leftmost.{leftmost, is_abstraction}
 use Rattle.ol_beta.specs.Leftmost as beta_steps
 use Rattle.std.specs.Option.{option_map}
 use Rattle.ol_edges.specs.Edges.{IsIn}
@@ -237,9 +238,9 @@ module _ (τ : Translation) where
   InArgument f a w d U = (leftmost (erased f) ≡ None) × ((b : Labelled) × LeftStep a d b × (U ≡ labels.app f b w))
 
   app_first : (f a : Labelled) (w : Label) → is_abstraction (erased f) ≡ false →
-      leftmost (erased (labels.app f a w)) ≡ first_of_two (beta_steps.under 1 (leftmost (erased f)))
+      leftmost (erased (labels.app f a w)) ≡ option_or (beta_steps.under 1 (leftmost (erased f)))
       (beta_steps.under 2 (leftmost (erased a)))
-  app_first f a w e = ap (λ b. if b then Some [] else first_of_two (beta_steps.under 1 (leftmost (erased f)))
+  app_first f a w e = ap (λ b. if b then Some [] else option_or (beta_steps.under 1 (leftmost (erased f)))
       (beta_steps.under 2 (leftmost (erased a)))) e
 
   pub app_step : (f a : Labelled) (w d : Label) (U : Labelled) → is_abstraction (erased f) ≡ false →
@@ -250,7 +251,7 @@ module _ (τ : Translation) where
           InFunction f a w d U ⊎ InArgument f a w d U
       by (Some at') e y e' =
           let q : s.place ≡ 1 ∷ at' = some_one (sym s.first ∙ app_first f a w plain
-          ∙ ap (λ x. first_of_two (beta_steps.under 1 x) (beta_steps.under 2 (leftmost (erased a)))) e) in
+          ∙ ap (λ x. option_or (beta_steps.under 1 x) (beta_steps.under 2 (leftmost (erased a)))) e) in
           let m = mapped (λ g. labels.app g a w) (contracted f at') U (ap (contracted (labels.app f a w))
           (sym q) ∙ s.gives) in
           inl (
@@ -266,7 +267,7 @@ module _ (τ : Translation) where
           )
       by None e (Some at') e' =
           let q : s.place ≡ 2 ∷ at' = some_one (sym s.first ∙ app_first f a w plain
-          ∙ ap (λ x. first_of_two (beta_steps.under 1 x) (beta_steps.under 2 (leftmost (erased a)))) e
+          ∙ ap (λ x. option_or (beta_steps.under 1 x) (beta_steps.under 2 (leftmost (erased a)))) e
           ∙ ap (λ y. beta_steps.under 2 y) e') in
           let m = mapped (λ b. labels.app f b w) (contracted a at') U (ap (contracted (labels.app f a w))
           (sym q) ∙ s.gives) in
@@ -285,7 +286,7 @@ module _ (τ : Translation) where
             ),
           )
       by None e None e' = absurd (some_none (sym s.first ∙ app_first f a w plain
-          ∙ ap (λ x. first_of_two (beta_steps.under 1 x) (beta_steps.under 2 (leftmost (erased a)))) e
+          ∙ ap (λ x. option_or (beta_steps.under 1 x) (beta_steps.under 2 (leftmost (erased a)))) e
           ∙ ap (λ y. beta_steps.under 2 y) e'))
 
   pub lam_step : (b : Labelled) (w d : Label) (U : Labelled) → LeftStep (labels.lam b w) d U →
@@ -461,9 +462,9 @@ module _ (τ : Translation) where
       by : (x : Option (List ℕ)) → leftmost (erased f) ≡ x → (y : Option (List ℕ)) → leftmost (erased a) ≡ y →
           (leftmost (erased f) ≡ None) × (leftmost (erased a) ≡ None)
       by (Some at') k y k' = absurd (some_none (sym (app_first f a w plain
-          ∙ ap (λ x. first_of_two (beta_steps.under 1 x) (beta_steps.under 2 (leftmost (erased a)))) k) ∙ e))
+          ∙ ap (λ x. option_or (beta_steps.under 1 x) (beta_steps.under 2 (leftmost (erased a)))) k) ∙ e))
       by None k (Some at') k' = absurd (some_none (sym (app_first f a w plain
-          ∙ ap (λ x. first_of_two (beta_steps.under 1 x) (beta_steps.under 2 (leftmost (erased a)))) k
+          ∙ ap (λ x. option_or (beta_steps.under 1 x) (beta_steps.under 2 (leftmost (erased a)))) k
           ∙ ap (λ y. beta_steps.under 2 y) k') ∙ e))
       by None k None k' = (k, k')
 

@@ -4,7 +4,8 @@ ghost use Rattle.ol_io.specs.Outside.{Counts, WritesWithin, write_failed};
 ghost use Rattle.ol_io.specs.Fakes.{fresh_sink, write_answer, after_write};
 
 use crate::mem_source::is_failing;
-use crate::outside::{NoMemory, Put, Sink};
+use crate::outside::{Put, Sink};
+use ol_memory::NoMemory;
 use std::alloc::Global;
 use std::marker::Model;
 

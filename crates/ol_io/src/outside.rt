@@ -3,24 +3,6 @@ ghost use Rattle.std.specs.Prelude.{◌≡◌, ◌+◌, ◌≤◌, ◌<◌, ℕ,
 ghost use Rattle.ol_io.specs.Outside.{Counts, Begins, Reads, ReadsWithin, Writes, WritesWithin, next_count, begin_failed, begin_ready, read_failed, gave_bytes, at_end, byte_count, write_failed};
 ghost use Rattle.ol_io.specs.Readings.{Reading, begun, after_got};
 
-use std::alloc::{AllocError, AllocFailed};
-
-/// No memory was found. Nothing else is ever told by it.
-#[derive(Clone, Copy, Debug, PartialEq, Eq)]
-pub struct NoMemory;
-
-impl From<AllocError> for NoMemory {
-    fn from(_error: AllocError) -> NoMemory {
-        NoMemory
-    }
-}
-
-impl<T: Drop> From<AllocFailed<T>> for NoMemory {
-    fn from(_error: AllocFailed<T>) -> NoMemory {
-        NoMemory
-    }
-}
-
 /// What `begin` answers.
 #[derive(Clone, Copy, Debug, PartialEq, Eq)]
 pub enum Begun {

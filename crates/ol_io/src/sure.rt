@@ -8,7 +8,8 @@ ghost use Rattle.ol_io.specs.Sure.{fresh_sure_source, sure_begin_answer, after_s
 use crate::files::{MemFile, find_file};
 use crate::log::{Log, Note};
 use crate::mem_source::{copy_front, rest};
-use crate::outside::{Begun, Got, NoMemory, Put, Sink, Source};
+use crate::outside::{Begun, Got, Put, Sink, Source};
+use ol_memory::NoMemory;
 use std::alloc::Global;
 use std::marker::Model;
 

@@ -9,7 +9,8 @@ ghost use Rattle.ol_wire.specs.Stand.{IsNewSeat};
 use crate::small_nets::{
     identity_of_identity, identity_twice, is_small, of, stuck_pair, without_end,
 };
-use ol_io::{NoMemory, OpenGate};
+use ol_io::OpenGate;
+use ol_memory::NoMemory;
 use ol_net::{Net, Port};
 use ol_pool::{Hand, Pool};
 use ol_reduce::{End, Reduced, Sweep, Worker, reduce, sweep, worker};

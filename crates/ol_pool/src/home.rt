@@ -45,7 +45,8 @@ impl Home {
         requires below { cell < self.old.own.log.bound }
         ensures sent { OnOk result (self.new
             ≡ record self.old { own = record self.old.own { log = puts self.old.own.log (cell ∷ []) } }) }
-        ensures unchanged { OnErr result (self.new ≡ record self.old { refused = self.new.refused }) }
+        ensures unchanged { OnErr result
+            (self.new ≡ record self.old { refused = self.new.refused }) }
         ensures refused { OnErr result (CountsOne self.old.refused self.new.refused) }
         ensures many { OnErr result (64 ≤ length self.old.own.log.sent) }
         ensures back { IfErr result (λ returned. returned ≡ cell) }

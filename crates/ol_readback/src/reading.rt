@@ -24,7 +24,7 @@ use crate::levels::Levels;
 use crate::skipping::skip_from;
 use crate::tree::ReadTree;
 use ol_context::Values;
-use ol_io::NoMemory;
+use ol_memory::NoMemory;
 use ol_net::Net;
 use std::alloc::Global;
 
@@ -207,6 +207,78 @@ fn first_frame(alloc: Global) -> Frame
     }
 }
 
+// Reads one place after another from free port 0 on, and adds what they are. `false`: the reading
+// ends without a tree. The reader is new, and no place and no group is there yet.
+fn read_on<N, A: Asks<N>>(
+    alloc: Global,
+    asker: &mut A,
+    net: &mut N,
+    heads: u32,
+    reader: &mut Reader,
+    nodes: &mut Vec<ReadNode>,
+    pending: &mut Vec<Group>,
+) -> Result<bool, NoMemory>
+    requires heads { 1 ≤ heads }
+    requires root { 0 < A.free net.old }
+    requires ready { A.ready asker.old net.old }
+    requires begins { A.reads asker.old net.old asker.old net.old heads the_start }
+    requires frames { reader.old.frames.items ≡ [] }
+    requires skips { reader.old.skips.items ≡ [] }
+    requires nodes { nodes.old.items ≡ [] }
+    requires pending { pending.old.items ≡ [] }
+    ensures read { IfOk result (λ is_read. is_read ≡ true →
+        IsReadTo A.reads asker.old net.old asker.new net.new heads nodes.new.items) }
+    ensures ends { IfOk result (λ is_read. is_read ≡ false →
+        A.ends asker.old net.old asker.new net.new heads) }
+    ensures few { OnOk result (length nodes.new.items < 2 ^ 32) }
+    ensures free { OnOk result (A.free net.new ≡ A.free net.old) }
+    ensures stopped { OnErr result (A.stops asker.old net.old asker.new net.new heads) }
+{
+    let mut frame = first_frame(alloc);
+    let most = heads as usize;
+    'places: loop {
+        let Some((node, group)) = reader.read_frame(alloc, asker, net, frame)? else {
+            return Ok(false);
+        };
+        put(nodes, node)?;
+        add(pending, group)?;
+        if reader.frames.len() >= most {
+            cut_all(nodes, pending)?;
+            return Ok(true);
+        }
+        let Some(argument) = next(alloc, &mut reader.values, pending)? else {
+            return Ok(true);
+        };
+        frame = argument;
+    }
+}
+
+// As `read_on`, with a new reader.
+fn read_into<N, A: Asks<N>>(
+    alloc: Global,
+    asker: &mut A,
+    net: &mut N,
+    heads: u32,
+    nodes: &mut Vec<ReadNode>,
+) -> Result<bool, NoMemory>
+    requires heads { 1 ≤ heads }
+    requires root { 0 < A.free net.old }
+    requires ready { A.ready asker.old net.old }
+    requires begins { A.reads asker.old net.old asker.old net.old heads the_start }
+    requires nodes { nodes.old.items ≡ [] }
+    ensures read { IfOk result (λ is_read. is_read ≡ true →
+        IsReadTo A.reads asker.old net.old asker.new net.new heads nodes.new.items) }
+    ensures ends { IfOk result (λ is_read. is_read ≡ false →
+        A.ends asker.old net.old asker.new net.new heads) }
+    ensures few { OnOk result (length nodes.new.items < 2 ^ 32) }
+    ensures free { OnOk result (A.free net.new ≡ A.free net.old) }
+    ensures stopped { OnErr result (A.stops asker.old net.old asker.new net.new heads) }
+{
+    let mut reader = Reader::new(alloc);
+    let mut pending: Vec<Group> = Vec::new(alloc);
+    read_on(alloc, asker, net, heads, &mut reader, nodes, &mut pending)
+}
+
 /// The places of the term that is read from free port 0, in preorder, by one who asks each of the
 /// first `heads` places for its head. Every later place is `Cut`, and so is each whose answer is
 /// `Head::Budget`.
@@ -230,26 +302,12 @@ pub fn read<N, A: Asks<N>>(
     ensures free { IfOk result (λ r. A.free net.new ≡ A.free net.old) }
     ensures stopped { OnErr result (A.stops asker.old net.old asker.new net.new heads) }
 {
-    let mut reader = Reader::new(alloc);
     let mut nodes: Vec<ReadNode> = Vec::new(alloc);
-    let mut pending: Vec<Group> = Vec::new(alloc);
-    let mut frame = first_frame(alloc);
-    let most = heads as usize;
-    loop {
-        let Some((node, group)) = reader.read_frame(alloc, asker, net, frame)? else {
-            return Ok(None);
-        };
-        put(&mut nodes, node)?;
-        add(&mut pending, group)?;
-        if reader.frames.len() >= most {
-            cut_all(&mut nodes, &mut pending)?;
-            return Ok(Some(nodes));
-        }
-        let Some(argument) = next(alloc, &mut reader.values, &mut pending)? else {
-            return Ok(Some(nodes));
-        };
-        frame = argument;
+    let is_read = read_into(alloc, asker, net, heads, &mut nodes)?;
+    if is_read {
+        return Ok(Some(nodes));
     }
+    Ok(None)
 }
 
 /// The term that the net stands for, read from free port 0.

@@ -16,7 +16,7 @@ use crate::chains::{Goal, follow};
 use crate::draft::Draft;
 use crate::live::Live;
 use crate::reading::word_at;
-use ol_io::NoMemory;
+use ol_memory::NoMemory;
 use ol_net::Net;
 use ol_rules::Journal;
 use ol_wire::{BLOCK, Blocks, Parts, Words, index_in, kind_in, place_in, port_word};

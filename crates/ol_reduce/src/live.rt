@@ -9,7 +9,7 @@ ghost use Rattle.ol_wire.specs.Sizes.{IsSmall};
 ghost use Rattle.ol_reduce.specs.Left.{rank_of, AreMarked, births_at, IsSmallTable, IsWithinFuel, IsMarkedToo, IsPlaceOfSome, IsRankAt, IsRankOf, IsPlaceLeft};
 ghost use Rattle.ol_reduce.specs.Linked.{AreAllLeft, AreLeftTo, AddsPlace, AddsNumber};
 
-use ol_io::NoMemory;
+use ol_memory::NoMemory;
 use ol_rules::{Journal, NodeName, is_meeting};
 use ol_wire::{BLOCK, Parts, Words, kind_in};
 use std::alloc::Global;

@@ -10,7 +10,7 @@ ghost use Rattle.ol_rules.specs.Steps.{StepsAt};
 
 use crate::journal::{Entry, Journal, NodeName};
 use crate::steps::step;
-use ol_io::NoMemory;
+use ol_memory::NoMemory;
 use ol_net::{Facing, Net, NodeId, Port, Rule};
 use std::alloc::Global;
 use std::collections::BTreeSet;

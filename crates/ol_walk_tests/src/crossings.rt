@@ -6,7 +6,7 @@ ghost use Rattle.ol_context.specs.Shapes.{IsHeld, Extends};
 use crate::level_texts::crossed;
 use crate::small_nets::net_of_text;
 use ol_context::{Val, Values};
-use ol_io::NoMemory;
+use ol_memory::NoMemory;
 use std::test::Fail;
 
 /// So many times `o.` before a value.

@@ -4,7 +4,7 @@ ghost use Rattle.std.specs.Prelude.{◌≡◌, IfOk};
 ghost use Rattle.ol_context.specs.Shapes.{IsHeld, AreHeld, Extends};
 
 use ol_context::{Context, Cross, Shape, Val, Values, Walk, cross, walk};
-use ol_io::NoMemory;
+use ol_memory::NoMemory;
 use ol_net::{Kind, Net, NodeId, Port};
 use std::alloc::{AllocError, Global};
 use std::test::Fail;

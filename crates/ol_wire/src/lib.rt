@@ -1,5 +1,4 @@
-//! The shared words: a net laid out in words that any number of threads rewrite by single atomic
-//! steps.
+//! The shared words: a net laid out in words that up to 64 threads rewrite by single atomic steps.
 //!
 //! What the words are:
 //! - `layout`: which word is which, by number.

@@ -28,13 +28,13 @@ use crate::plan::Plan;
 use crate::seat::Seat;
 use crate::view::View;
 use atomic_table::Table;
-use ol_io::NoMemory;
+use ol_memory::NoMemory;
 use ol_net::Net;
 use std::alloc::Global;
 use std::marker::Model;
 use std::snapshot::Snapshot;
 
-/// The words of a net, which any number of threads rewrite.
+/// The words of a net, which up to 64 threads rewrite.
 #[derive(Drop)]
 pub struct Shared {
     pub(crate) table: Table<(), View, Plan, Law, Global>,

@@ -3,7 +3,7 @@
 ghost use Rattle.std.specs.Prelude.{◌≡◌, false, true, if◌then◌else◌, IfOk, IfErr};
 ghost use Rattle.clap.specs.Words.{app_of, kind_of, rule_of, subcommand_of, subcommand_rows_of, takes};
 ghost use Rattle.clap.specs.declared.builder.command.Command.TheViews.{out-Command};
-ghost use Rattle.ol_words.specs.Command.{app, flag_rule, name_rule, option_rule, sub_app};
+ghost use Rattle.ol_words.specs.Command.{app, flag_rule, name_rule, option_rule, quiet_app, sub_app};
 ghost use Rattle.ol_words.specs.Texts.{texts_of};
 ghost use Rattle.ol_words.specs.Views.{verb_of};
 ghost use Rattle.ol_words.specs.Lines.{is_option};
@@ -82,22 +82,24 @@ fn subcommand<'a>(alloc: Global, verb: Verb) -> Result<Command<'a>, AllocError>
     Ok(command)
 }
 
+// The command line: a subcommand for each verb.
 fn command<'a>(alloc: Global) -> Result<Command<'a>, AllocError>
     ensures app { IfOk result (λ c. app_of c ≡ app) }
 {
-    let command = Command::new(alloc, "ol")
+    let mut command = quiet_command(alloc);
+    for verb in Verb::all() {
+        let subcommand = subcommand(alloc, *verb)?;
+        command = command.subcommand(subcommand)?;
+    }
+    Ok(command)
+}
+
+// The command above, without help and version.
+fn quiet_command<'a>(alloc: Global) -> Command<'a>
+    ensures app { app_of result ≡ quiet_app }
+{
+    Command::new(alloc, "ol")
         .disable_help_flag(true)
         .disable_version_flag(true)
         .disable_help_subcommand(true)
-        .subcommand(subcommand(alloc, Verb::Run)?)?
-        .subcommand(subcommand(alloc, Verb::Walk)?)?
-        .subcommand(subcommand(alloc, Verb::View)?)?
-        .subcommand(subcommand(alloc, Verb::Trace)?)?
-        .subcommand(subcommand(alloc, Verb::Check)?)?
-        .subcommand(subcommand(alloc, Verb::Gen)?)?
-        .subcommand(subcommand(alloc, Verb::Demand)?)?
-        .subcommand(subcommand(alloc, Verb::Certify)?)?
-        .subcommand(subcommand(alloc, Verb::Net)?)?
-        .subcommand(subcommand(alloc, Verb::Equal)?)?;
-    Ok(command)
 }

@@ -1,19 +1,21 @@
 //! The job of a list of words.
 
-ghost use Rattle.std.specs.Prelude.{◌≡◌, ◌==◌, ◌&&◌, IfOk, Err, Some, None, option_map, option_and_then};
+ghost use Rattle.std.specs.Prelude.{◌≡◌, ◌==◌, ◌&&◌, ◌∷◌, [], IfOk, Err, Some, None, codes, option_map, option_and_then};
+ghost use Rattle.clap.specs.Words.{first_value, found_of};
 ghost use Rattle.ol_words.specs.Texts.{texts_of};
 ghost use Rattle.ol_words.specs.Asked.{certify_verb, check_verb, demand_verb, equal_verb, gen_verb};
 ghost use Rattle.ol_words.specs.Asked.{is_input, net_verb, run_verb, trace_verb, view_verb, walk_verb};
-ghost use Rattle.ol_words.specs.Jobs.{job_of};
-ghost use Rattle.ol_words.specs.Views.{verb_of};
+ghost use Rattle.ol_words.specs.Jobs.{fuel, heads, job_of, numbers, workers};
+ghost use Rattle.ol_words.specs.Views.{limits_of, verb_of};
 ghost use Rattle.ol_words.specs.Once.{agreed_verb};
-ghost use Rattle.ol_words.specs.Found.{flag_by, job_found, translation_given};
+ghost use Rattle.ol_words.specs.Found.{flag_by, job_found, number_by, setting_by, translation_given};
 
 use crate::command::matches_of;
 use crate::jobs::{Job, UsageFault, Word};
 use crate::lines::line_of;
 use crate::numbers::{
-    AFTER, DOUBLINGS, EDGES, FUEL, HEADS, STEPS, TRANSLATION, WORKERS, number_within, setting_by,
+    AFTER, DOUBLINGS, EDGES, FUEL, HEADS, Limits, STEPS, TRANSLATION, WORKERS, number_within,
+    setting_by,
 };
 use crate::verbs::Verb;
 use clap::ArgMatches;
@@ -102,16 +104,10 @@ fn run_by(alloc: Global, found: &ArgMatches) -> Result<Job, UsageFault>
     ensures job { IfOk result (λ job. job_found run_verb found.now ≡ Some job) }
     ensures refused { result ≡ Err UsageFault.Refused → job_found run_verb found.now ≡ None }
 {
-    let Some(translation) = translation_by(found.get_str("translation")) else {
+    let Some(translation) = translation_of(found) else {
         return Err(UsageFault::Refused);
     };
-    let Some(workers) = setting_by(found.get_str("workers"), WORKERS) else {
-        return Err(UsageFault::Refused);
-    };
-    let Some(fuel) = setting_by(found.get_str("fuel"), FUEL) else {
-        return Err(UsageFault::Refused);
-    };
-    let Some(heads) = setting_by(found.get_str("heads"), HEADS) else {
+    let Some(numbers) = run_numbers(found) else {
         return Err(UsageFault::Refused);
     };
     let Some(name) = found.get_str("name") else {
@@ -120,9 +116,9 @@ fn run_by(alloc: Global, found: &ArgMatches) -> Result<Job, UsageFault>
     let name = Word::of(alloc, name)?;
     Ok(Job::Run {
         translation,
-        workers,
-        fuel,
-        heads,
+        workers: numbers.workers,
+        fuel: numbers.fuel,
+        heads: numbers.heads,
         name,
     })
 }
@@ -132,13 +128,13 @@ fn walk_by(alloc: Global, found: &ArgMatches) -> Result<Job, UsageFault>
     ensures job { IfOk result (λ job. job_found walk_verb found.now ≡ Some job) }
     ensures refused { result ≡ Err UsageFault.Refused → job_found walk_verb found.now ≡ None }
 {
-    let Some(translation) = translation_by(found.get_str("translation")) else {
+    let Some(translation) = translation_of(found) else {
         return Err(UsageFault::Refused);
     };
-    let Some(edges) = setting_by(found.get_str("edges"), EDGES) else {
+    let Some(edges) = number_of(found, "edges", EDGES) else {
         return Err(UsageFault::Refused);
     };
-    let Some(heads) = setting_by(found.get_str("heads"), HEADS) else {
+    let Some(heads) = number_of(found, "heads", HEADS) else {
         return Err(UsageFault::Refused);
     };
     let Some(name) = found.get_str("name") else {
@@ -158,10 +154,10 @@ fn view_by(alloc: Global, found: &ArgMatches) -> Result<Job, UsageFault>
     ensures job { IfOk result (λ job. job_found view_verb found.now ≡ Some job) }
     ensures refused { result ≡ Err UsageFault.Refused → job_found view_verb found.now ≡ None }
 {
-    let Some(translation) = translation_by(found.get_str("translation")) else {
+    let Some(translation) = translation_of(found) else {
         return Err(UsageFault::Refused);
     };
-    let Some(after) = setting_by(found.get_str("after"), AFTER) else {
+    let Some(after) = number_of(found, "after", AFTER) else {
         return Err(UsageFault::Refused);
     };
     let Some(name) = found.get_str("name") else {
@@ -180,13 +176,13 @@ fn trace_by(alloc: Global, found: &ArgMatches) -> Result<Job, UsageFault>
     ensures job { IfOk result (λ job. job_found trace_verb found.now ≡ Some job) }
     ensures refused { result ≡ Err UsageFault.Refused → job_found trace_verb found.now ≡ None }
 {
-    let Some(translation) = translation_by(found.get_str("translation")) else {
+    let Some(translation) = translation_of(found) else {
         return Err(UsageFault::Refused);
     };
-    let Some(workers) = setting_by(found.get_str("workers"), WORKERS) else {
+    let Some(workers) = number_of(found, "workers", WORKERS) else {
         return Err(UsageFault::Refused);
     };
-    let Some(fuel) = setting_by(found.get_str("fuel"), FUEL) else {
+    let Some(fuel) = number_of(found, "fuel", FUEL) else {
         return Err(UsageFault::Refused);
     };
     let Some(name) = found.get_str("name") else {
@@ -206,7 +202,7 @@ fn check_by(alloc: Global, found: &ArgMatches) -> Result<Job, UsageFault>
     ensures job { IfOk result (λ job. job_found check_verb found.now ≡ Some job) }
     ensures refused { result ≡ Err UsageFault.Refused → job_found check_verb found.now ≡ None }
 {
-    let Some(translation) = translation_by(found.get_str("translation")) else {
+    let Some(translation) = translation_of(found) else {
         return Err(UsageFault::Refused);
     };
     let Some(term) = found.get_str("term") else {
@@ -232,7 +228,7 @@ fn gen_by(found: &ArgMatches) -> Result<Job, UsageFault>
     ensures job { IfOk result (λ job. job_found gen_verb found.now ≡ Some job) }
     ensures refused { result ≡ Err UsageFault.Refused → job_found gen_verb found.now ≡ None }
 {
-    let Some(translation) = translation_by(found.get_str("translation")) else {
+    let Some(translation) = translation_of(found) else {
         return Err(UsageFault::Refused);
     };
     let Some(number) = found.get_str("number") else {
@@ -254,13 +250,13 @@ fn demand_by(alloc: Global, found: &ArgMatches) -> Result<Job, UsageFault>
     ensures job { IfOk result (λ job. job_found demand_verb found.now ≡ Some job) }
     ensures refused { result ≡ Err UsageFault.Refused → job_found demand_verb found.now ≡ None }
 {
-    let Some(translation) = translation_by(found.get_str("translation")) else {
+    let Some(translation) = translation_of(found) else {
         return Err(UsageFault::Refused);
     };
-    let Some(fuel) = setting_by(found.get_str("fuel"), FUEL) else {
+    let Some(fuel) = number_of(found, "fuel", FUEL) else {
         return Err(UsageFault::Refused);
     };
-    let Some(heads) = setting_by(found.get_str("heads"), HEADS) else {
+    let Some(heads) = number_of(found, "heads", HEADS) else {
         return Err(UsageFault::Refused);
     };
     let Some(name) = found.get_str("name") else {
@@ -280,19 +276,13 @@ fn certify_by(alloc: Global, found: &ArgMatches) -> Result<Job, UsageFault>
     ensures job { IfOk result (λ job. job_found certify_verb found.now ≡ Some job) }
     ensures refused { result ≡ Err UsageFault.Refused → job_found certify_verb found.now ≡ None }
 {
-    let Some(translation) = translation_by(found.get_str("translation")) else {
+    let Some(translation) = translation_of(found) else {
         return Err(UsageFault::Refused);
     };
-    let Some(steps) = setting_by(found.get_str("steps"), STEPS) else {
+    let Some(steps) = number_of(found, "steps", STEPS) else {
         return Err(UsageFault::Refused);
     };
-    let Some(workers) = setting_by(found.get_str("workers"), WORKERS) else {
-        return Err(UsageFault::Refused);
-    };
-    let Some(fuel) = setting_by(found.get_str("fuel"), FUEL) else {
-        return Err(UsageFault::Refused);
-    };
-    let Some(heads) = setting_by(found.get_str("heads"), HEADS) else {
+    let Some(numbers) = run_numbers(found) else {
         return Err(UsageFault::Refused);
     };
     let Some(name) = found.get_str("name") else {
@@ -302,9 +292,9 @@ fn certify_by(alloc: Global, found: &ArgMatches) -> Result<Job, UsageFault>
     Ok(Job::Certify {
         translation,
         steps,
-        workers,
-        fuel,
-        heads,
+        workers: numbers.workers,
+        fuel: numbers.fuel,
+        heads: numbers.heads,
         name,
     })
 }
@@ -314,14 +304,14 @@ fn net_by(alloc: Global, found: &ArgMatches) -> Result<Job, UsageFault>
     ensures job { IfOk result (λ job. job_found net_verb found.now ≡ Some job) }
     ensures refused { result ≡ Err UsageFault.Refused → job_found net_verb found.now ≡ None }
 {
-    let Some(translation) = translation_by(found.get_str("translation")) else {
+    let Some(translation) = translation_of(found) else {
         return Err(UsageFault::Refused);
     };
     let from_term = is_true(found.get_str("from-term"));
-    let Some(workers) = setting_by(found.get_str("workers"), WORKERS) else {
+    let Some(workers) = number_of(found, "workers", WORKERS) else {
         return Err(UsageFault::Refused);
     };
-    let Some(fuel) = setting_by(found.get_str("fuel"), FUEL) else {
+    let Some(fuel) = number_of(found, "fuel", FUEL) else {
         return Err(UsageFault::Refused);
     };
     let Some(name) = found.get_str("name") else {
@@ -342,16 +332,10 @@ fn equal_by(alloc: Global, found: &ArgMatches) -> Result<Job, UsageFault>
     ensures job { IfOk result (λ job. job_found equal_verb found.now ≡ Some job) }
     ensures refused { result ≡ Err UsageFault.Refused → job_found equal_verb found.now ≡ None }
 {
-    let Some(translation) = translation_by(found.get_str("translation")) else {
+    let Some(translation) = translation_of(found) else {
         return Err(UsageFault::Refused);
     };
-    let Some(workers) = setting_by(found.get_str("workers"), WORKERS) else {
-        return Err(UsageFault::Refused);
-    };
-    let Some(fuel) = setting_by(found.get_str("fuel"), FUEL) else {
-        return Err(UsageFault::Refused);
-    };
-    let Some(heads) = setting_by(found.get_str("heads"), HEADS) else {
+    let Some(numbers) = run_numbers(found) else {
         return Err(UsageFault::Refused);
     };
     let Some(first) = found.get_str("first") else {
@@ -367,24 +351,53 @@ fn equal_by(alloc: Global, found: &ArgMatches) -> Result<Job, UsageFault>
     let second = Word::of(alloc, second)?;
     Ok(Job::Equal {
         translation,
-        workers,
-        fuel,
-        heads,
+        workers: numbers.workers,
+        fuel: numbers.fuel,
+        heads: numbers.heads,
         first,
         second,
     })
 }
 
 // The translation by the number that was given, which is 2 by itself.
-fn translation_by(value: Option<&str>) -> Option<Translation>
-    ensures { result ≡ translation_given (option_map (λ v. v.now) value.entry) }
+fn translation_of(found: &ArgMatches) -> Option<Translation>
+    ensures { result ≡ translation_given (first_value (found_of found.now) (codes "translation")) }
 {
-    let number = setting_by(value, TRANSLATION)?;
+    let number = number_of(found, "translation", TRANSLATION)?;
     if number == 1 {
         Some(Translation::One)
     } else {
         Some(Translation::Two)
     }
+}
+
+// The numbers that end the settings of `run`, `certify` and `equal`.
+#[derive(Clone, Copy)]
+struct RunNumbers {
+    workers: u32,
+    fuel: u32,
+    heads: u32,
+}
+
+fn run_numbers(found: &ArgMatches) -> Option<RunNumbers>
+    ensures { option_map (λ n. n.workers ∷ n.fuel ∷ n.heads ∷ []) result
+        ≡ numbers (number_by [] (first_value (found_of found.now))) (workers ∷ fuel ∷ heads ∷ []) }
+{
+    let workers = number_of(found, "workers", WORKERS)?;
+    let fuel = number_of(found, "fuel", FUEL)?;
+    let heads = number_of(found, "heads", HEADS)?;
+    Some(RunNumbers {
+        workers,
+        fuel,
+        heads,
+    })
+}
+
+// The number of a setting by what was given to its option.
+fn number_of(found: &ArgMatches, option: &str, limits: Limits) -> Option<u32>
+    ensures { result ≡ setting_by (limits_of limits) (first_value (found_of found.now) option.now) }
+{
+    setting_by(found.get_str(option), limits)
 }
 
 // Both names are that of standard input.

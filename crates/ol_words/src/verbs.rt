@@ -1,7 +1,7 @@
 //! The verbs of a command line, and what each has: options, flags and names.
 
-ghost use Rattle.std.specs.Prelude.{◌≡◌, option_map};
-ghost use Rattle.ol_words.specs.Jobs.{flags_of, options_of, verb_named, verb_row};
+ghost use Rattle.std.specs.Prelude.{◌≡◌, map, option_map};
+ghost use Rattle.ol_words.specs.Jobs.{flags_of, options_of, verb_named, verb_row, verbs};
 ghost use Rattle.ol_words.specs.Command.{ids_of};
 ghost use Rattle.ol_words.specs.Views.{verb_of};
 ghost use Rattle.ol_words.specs.Views.{texts};
@@ -53,7 +53,27 @@ pub(crate) enum Verb {
     Equal,
 }
 
+static VERBS: [Verb; 10] = [
+    Verb::Run,
+    Verb::Walk,
+    Verb::View,
+    Verb::Trace,
+    Verb::Check,
+    Verb::Gen,
+    Verb::Demand,
+    Verb::Certify,
+    Verb::Net,
+    Verb::Equal,
+];
+
 impl Verb {
+    /// All verbs, in their order.
+    pub(crate) fn all() -> &'static [Verb]
+        ensures { map verb_of result.now ≡ verbs }
+    {
+        VERBS.as_slice()
+    }
+
     /// The verb that is written so, if there is one.
     pub(crate) fn named(word: &str) -> Option<Verb>
         ensures { option_map verb_of result ≡ verb_named word.now }

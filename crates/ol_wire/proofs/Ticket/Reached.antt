@@ -20,6 +20,21 @@ use Rattle.ol_wire.proofs.Ticket.Journal.{got_last, got_before, got_one_more}
 use Rattle.std.proofs.lemmas.Bool.{and_parts, and_from}
 use Rattle.std.proofs.lemmas.Option.{slice_get_within}
 
+clash : false ≡ true → ⊥
+clash e = cc
+
+-- where the wires of the start lie, and those of a ticket
+wire_of_start : (z : Parts) (w j n : ℕ) → j < z.wires → w ≡ start_wire z j →
+    (start_wire z 0 ≤ w) × (w < block z n)
+wire_of_start z w j n a e = (omega arith, omega arith)
+
+wire_of_block : (z : Parts) (w t q p n : ℕ) → t < n → q < 2 → p < 2 → w ≡ born_wire z t q p →
+    (start_wire z 0 ≤ w) × (w < block z n)
+wire_of_block z w t q p n a b d e = (omega arith, omega arith)
+
+at_most_none : (d b : ℕ) → d ≤ b → b ≡ 0 → d ≡ 0
+at_most_none d b h e = omega arith
+
 -- a crossing that makes a wire, by the copies
 crossed : (e : Event) (q p : ℕ) → crosses_at (Some e) q p ≡ true → (q < copies_of_f e) × (p < copies_of_g e)
 crossed e q p h = go (is_meeting e.rule) h
@@ -27,7 +42,7 @@ crossed e q p h = go (is_meeting e.rule) h
     go : (m : Bool) → (not m && (nat_lt q (arity (kind_in e.g)) && nat_lt p
         (arity (kind_in e.f)))) ≡ true → (q < (if m then 0 else arity (kind_in e.g)))
         × (p < (if m then 0 else arity (kind_in e.f)))
-    go true h = absurd (cc)
+    go true h = absurd (clash h)
     go false h = let t = and_parts (nat_lt q (arity (kind_in e.g)))
         (nat_lt p (arity (kind_in e.f))) h in
         (ltb-true q (arity (kind_in e.g)) t.0, ltb-true p (arity (kind_in e.f)) t.1)
@@ -49,7 +64,7 @@ got_none (x ∷ xs) = got_none xs
 -- the wire of a ticket is one of an entry
 made_by : (o : Option Event) (q p : ℕ) → crosses_at o q p ≡ true →
     (e : Event) × (o ≡ Some e) × (crosses_at (Some e) q p ≡ true)
-made_by None q p h = absurd (cc)
+made_by None q p h = absurd (clash h)
 made_by (Some e) q p h = (e, refl, h)
 
 module _ (z : Parts) (log : List Event) (e : Event) (drawn : length log < z.fuel)
@@ -68,14 +83,14 @@ module _ (z : Parts) (log : List Event) (e : Event) (drawn : length log < z.fuel
       go (between t q p) h =
           let m = made_by (slice_get log t) q p h in
           ap (λ o. crosses_at o q p) (got_before log (e ∷ []) t (slice_get_within log t m.0 m.1)) ∙ h
-      go ticket h = absurd (cc)
-      go live_word h = absurd (cc)
-      go (port n) h = absurd (cc)
-      go (field x s) h = absurd (cc)
-      go left h = absurd (cc)
-      go right h = absurd (cc)
-      go entry h = absurd (cc)
-      go past h = absurd (cc)
+      go ticket h = absurd (clash h)
+      go live_word h = absurd (clash h)
+      go (port n) h = absurd (clash h)
+      go (field x s) h = absurd (clash h)
+      go left h = absurd (clash h)
+      go right h = absurd (clash h)
+      go entry h = absurd (clash h)
+      go past h = absurd (clash h)
 
   alive : (w : ℕ) → nat_eq (deaths w views) 0 ≡ true → nat_eq (deaths w views') 0 ≡ true
   alive w h = ap (λ n. nat_eq n 0) (same_deaths w) ∙ h
@@ -92,20 +107,19 @@ module _ (z : Parts) (log : List Event) (e : Event) (drawn : length log < z.fuel
     where
       go : (q : WordPart) → part_of_word z w ≡ q → is_wire_made log q ≡ true →
           (start_wire z 0 ≤ w) × (w < block z (length log))
-      go (wire j) at m = let t = is_wire z w j at in (omega (arith, t.1), omega (arith, t.0, t.1))
+      go (wire j) at m = let t = is_wire z w j at in wire_of_start z w j (length log) t.0 t.1
       go (between t q p) at m =
           let u = is_between z w t q p at in
           let b = made_by (slice_get log t) q p m in
-          let lt = slice_get_within log t b.0 b.1 in
-          (omega (arith, u.3), omega (arith, u.1, u.2, u.3, lt))
-      go ticket at m = absurd (cc)
-      go live_word at m = absurd (cc)
-      go (port n) at m = absurd (cc)
-      go (field x s) at m = absurd (cc)
-      go left at m = absurd (cc)
-      go right at m = absurd (cc)
-      go entry at m = absurd (cc)
-      go past at m = absurd (cc)
+          wire_of_block z w t q p (length log) (slice_get_within log t b.0 b.1) u.1 u.2 u.3
+      go ticket at m = absurd (clash m)
+      go live_word at m = absurd (clash m)
+      go (port n) at m = absurd (clash m)
+      go (field x s) at m = absurd (clash m)
+      go left at m = absurd (clash m)
+      go right at m = absurd (clash m)
+      go entry at m = absurd (clash m)
+      go past at m = absurd (clash m)
 
   pub only : (w : ℕ) → reached' w ≡ true →
       (reached w ≡ true) ⊎ ((q : ℕ) × (p : ℕ) × (q < copies_of_f e) × (p < copies_of_g e)
@@ -138,14 +152,14 @@ module _ (z : Parts) (log : List Event) (e : Event) (drawn : length log < z.fuel
               by (inr g) =
                   let c = crossed e q p (ap (λ e. crosses_at (Some e) q p) (sym g.1) ∙ d.2) in
                   inr (q, p, c.0, c.1, (is_between z w t q p at).3 ∙ ap (λ t. born_wire z t q p) g.0)
-          of ticket at a b = absurd (cc)
-          of live_word at a b = absurd (cc)
-          of (port n) at a b = absurd (cc)
-          of (field x s) at a b = absurd (cc)
-          of left at a b = absurd (cc)
-          of right at a b = absurd (cc)
-          of entry at a b = absurd (cc)
-          of past at a b = absurd (cc)
+          of ticket at a b = absurd (clash a)
+          of live_word at a b = absurd (clash a)
+          of (port n) at a b = absurd (clash a)
+          of (field x s) at a b = absurd (clash a)
+          of left at a b = absurd (clash a)
+          of right at a b = absurd (clash a)
+          of entry at a b = absurd (clash a)
+          of past at a b = absurd (clash a)
 
   pub come : ((w : ℕ) → deaths w views ≤ bit (is_made z log w)) → (q p : ℕ) → q < copies_of_f e →
       p < copies_of_g e → q < 2 → p < 2 → reached' (born_wire z (length log) q p) ≡ true
@@ -156,7 +170,7 @@ module _ (z : Parts) (log : List Event) (e : Event) (drawn : length log < z.fuel
       ∙ ap (λ o. crosses_at o q p) (got_last log e) ∙ crosses e q p hq hp in
       let none : is_made z log w ≡ false = ap (is_wire_made log) at ∙ unmade in
       let few : bit (is_made z log w) ≡ 0 = ap bit none in
-      let zero : deaths w views ≡ 0 = omega (arith, dead w, few) in
+      let zero : deaths w views ≡ 0 = at_most_none (deaths w views) (bit (is_made z log w)) (dead w) few in
       and_from (is_made z (log ++ e ∷ []) w) (nat_eq (deaths w views') 0) made
       (eq-eqb (deaths w views') 0 (same_deaths w ∙ zero))
     where

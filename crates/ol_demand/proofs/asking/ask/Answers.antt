@@ -1,5 +1,6 @@
-use Rattle.std.proofs.Common.{◌≡◌, ◌≢◌, ◌+◌, ◌-◌, ◌^◌, ◌<◌, List, ◌∷◌, length, refl, sym, ap, ◌∙◌}
+use Rattle.std.proofs.Common.{◌≡◌, ◌≢◌, ℕ, ◌+◌, ◌-◌, ◌*◌, ◌^◌, ◌<◌, ◌≤◌, List, ◌∷◌, length, refl, sym, ap, ◌∙◌}
 use Rattle.std.proofs.Common.{subst, arith, add-one}
+use Rattle.std.proofs.lemmas.Result.{err_from_is_err_and}
 use Rattle.ol_context.specs.Contexts.{Level, empty, o}
 use Rattle.ol_context.specs.Asked.{os}
 use Rattle.ol_context.specs.Shapes.{value, IsNumberOf, context_of}
@@ -8,13 +9,243 @@ use Rattle.ol_rules.proofs.OneThread.{on_err}
 use Rattle.ol_readback.specs.Frames.{Frame, frames_of, ParentsFirst}
 use Rattle.ol_readback.specs.Heads.{answer_of, IsMatched}
 use Rattle.ol_readback.proofs.FrameLists.{frames_more, held_frames_more, held_this, port_this, count_frames}
-use Rattle.ol_demand.specs.Chaining.{IsEndOf, IsUnchangedUnlessLeft}
+use Rattle.ol_demand.specs.Chaining.{IsEndOf, IsHeldEnd, IsUnchangedUnlessLeft}
 use Rattle.ol_demand.specs.Demands.{asks}
 use Rattle.ol_demand.specs.declared.answers.End.TheVariants as answer
 use Rattle.ol_demand.proofs.UnderWays.{left_off, found_left, found_lost, found_spent, asked_more, under_stops}
 use Rattle.ol_demand.proofs.Questions.{end_is, matched_last, known_head, running_on, free_on}
 use Rattle.ol_demand.proofs.Questions.{journal_on, met_on, met_stopped}
 use Rattle.ol_demand.proofs.asking.ask.Goals as goal
+
+last_below : (i n : ℕ) → i + 1 ≡ n → i < n
+last_below i n e = omega arith
+
+room_left : (n j f : ℕ) → n + 4 * f ≤ 2000000000 + 4 * j → j ≤ f → n ≤ 2000000000
+room_left n j f h b = omega arith
+
+pub index-frame-requires : goal.index-frame-requires
+index-frame-requires c = subst (λ (n : ℕ). c.args.asked.now.at < n) (sym c.args.asked.now.frames.now.ok.0)
+    (last_below c.args.asked.now.at (length c.args.asked.now.frames.now.items) c.requires.last)
+
+pub ask_once-requires-clause-mark : goal.ask_once-requires-clause-mark
+ask_once-requires-clause-mark c = c.loop-end.invariant.mark.held
+
+pub rewrite_pair-requires-clause-few : goal.rewrite_pair-requires-clause-few
+rewrite_pair-requires-clause-few c = room_left (length c.loop-end.net.nodes)
+    (length c.loop-end.run.journal) c.args.fuel c.loop-end.invariant.running.few
+    c.loop-end.invariant.running.within
+
+pub rewrite_pair-requires-clause-names : goal.rewrite_pair-requires-clause-names
+rewrite_pair-requires-clause-names c = c.loop-end.invariant.running.names
+
+pub leave_by-requires-clause-at : goal.leave_by-requires-clause-at
+leave_by-requires-clause-at c = last_below c.args.asked.now.at (length c.args.asked.now.frames.now.items)
+    c.requires.last
+
+pub leave_by-requires-clause-skips : goal.leave_by-requires-clause-skips
+leave_by-requires-clause-skips c = c.requires.skips
+
+pub leave_by-requires-clause-context : goal.leave_by-requires-clause-context
+leave_by-requires-clause-context c = subst (λ end. IsHeldEnd c.ask_once.new.values end) c.in-Left.is
+    c.in_ok-end.ensures.held
+
+pub returns-in_err-end-clause-answered : goal.returns-in_err-end-clause-answered
+returns-in_err-end-clause-answered c =
+    let p = err_from_is_err_and c.from_residual.result c.from_residual.ensures.1 in rw p.1 tt
+
+pub returns-in_err-end-clause-spent : goal.returns-in_err-end-clause-spent
+returns-in_err-end-clause-spent c =
+    let p = err_from_is_err_and c.from_residual.result c.from_residual.ensures.1 in rw p.1 tt
+
+pub returns-in_err-end-clause-running : goal.returns-in_err-end-clause-running
+returns-in_err-end-clause-running c =
+    let p = err_from_is_err_and c.from_residual.result c.from_residual.ensures.1 in rw p.1 tt
+
+pub returns-in_err-end-clause-free : goal.returns-in_err-end-clause-free
+returns-in_err-end-clause-free c =
+    let p = err_from_is_err_and c.from_residual.result c.from_residual.ensures.1 in rw p.1 tt
+
+pub returns-in_err-end-clause-held : goal.returns-in_err-end-clause-held
+returns-in_err-end-clause-held c =
+    let p = err_from_is_err_and c.from_residual.result c.from_residual.ensures.1 in rw p.1 tt
+
+pub returns-in_err-end-clause-known : goal.returns-in_err-end-clause-known
+returns-in_err-end-clause-known c =
+    let p = err_from_is_err_and c.from_residual.result c.from_residual.ensures.1 in rw p.1 tt
+
+pub returns-in_err-end-clause-extends : goal.returns-in_err-end-clause-extends
+returns-in_err-end-clause-extends c = extends_trans c.args.values.now c.loop-end.values c.ask_once.new.values
+    c.loop-end.invariant.extends c.ask_once.ensures.extends
+
+pub returns-in_err-rewrite_pair-in-Met-clause-answered : goal.returns-in_err-rewrite_pair-in-Met-clause-answered
+returns-in_err-rewrite_pair-in-Met-clause-answered c =
+    let p = err_from_is_err_and c.from_residual-in_err-rewrite_pair-in-Met.result c.from_residual-in_err-rewrite_pair-in-Met.ensures.1 in rw p.1 tt
+
+pub returns-in_err-rewrite_pair-in-Met-clause-spent : goal.returns-in_err-rewrite_pair-in-Met-clause-spent
+returns-in_err-rewrite_pair-in-Met-clause-spent c =
+    let p = err_from_is_err_and c.from_residual-in_err-rewrite_pair-in-Met.result c.from_residual-in_err-rewrite_pair-in-Met.ensures.1 in rw p.1 tt
+
+pub returns-in_err-rewrite_pair-in-Met-clause-running : goal.returns-in_err-rewrite_pair-in-Met-clause-running
+returns-in_err-rewrite_pair-in-Met-clause-running c =
+    let p = err_from_is_err_and c.from_residual-in_err-rewrite_pair-in-Met.result c.from_residual-in_err-rewrite_pair-in-Met.ensures.1 in rw p.1 tt
+
+pub returns-in_err-rewrite_pair-in-Met-clause-free : goal.returns-in_err-rewrite_pair-in-Met-clause-free
+returns-in_err-rewrite_pair-in-Met-clause-free c =
+    let p = err_from_is_err_and c.from_residual-in_err-rewrite_pair-in-Met.result c.from_residual-in_err-rewrite_pair-in-Met.ensures.1 in rw p.1 tt
+
+pub returns-in_err-rewrite_pair-in-Met-clause-held : goal.returns-in_err-rewrite_pair-in-Met-clause-held
+returns-in_err-rewrite_pair-in-Met-clause-held c =
+    let p = err_from_is_err_and c.from_residual-in_err-rewrite_pair-in-Met.result c.from_residual-in_err-rewrite_pair-in-Met.ensures.1 in rw p.1 tt
+
+pub returns-in_err-rewrite_pair-in-Met-clause-known : goal.returns-in_err-rewrite_pair-in-Met-clause-known
+returns-in_err-rewrite_pair-in-Met-clause-known c =
+    let p = err_from_is_err_and c.from_residual-in_err-rewrite_pair-in-Met.result c.from_residual-in_err-rewrite_pair-in-Met.ensures.1 in rw p.1 tt
+
+pub returns-in_err-rewrite_pair-in-Met-clause-extends : goal.returns-in_err-rewrite_pair-in-Met-clause-extends
+returns-in_err-rewrite_pair-in-Met-clause-extends c = extends_trans c.args.values.now c.loop-end.values c.ask_once.new.values
+    c.loop-end.invariant.extends c.ask_once.ensures.extends
+
+pub returns-in_err-left-in-Left-clause-answered : goal.returns-in_err-left-in-Left-clause-answered
+returns-in_err-left-in-Left-clause-answered c =
+    let p = err_from_is_err_and c.from_residual-in_err-left-in-Left.result c.from_residual-in_err-left-in-Left.ensures.1 in rw p.1 tt
+
+pub returns-in_err-left-in-Left-clause-spent : goal.returns-in_err-left-in-Left-clause-spent
+returns-in_err-left-in-Left-clause-spent c =
+    let p = err_from_is_err_and c.from_residual-in_err-left-in-Left.result c.from_residual-in_err-left-in-Left.ensures.1 in rw p.1 tt
+
+pub returns-in_err-left-in-Left-clause-running : goal.returns-in_err-left-in-Left-clause-running
+returns-in_err-left-in-Left-clause-running c =
+    let p = err_from_is_err_and c.from_residual-in_err-left-in-Left.result c.from_residual-in_err-left-in-Left.ensures.1 in rw p.1 tt
+
+pub returns-in_err-left-in-Left-clause-free : goal.returns-in_err-left-in-Left-clause-free
+returns-in_err-left-in-Left-clause-free c =
+    let p = err_from_is_err_and c.from_residual-in_err-left-in-Left.result c.from_residual-in_err-left-in-Left.ensures.1 in rw p.1 tt
+
+pub returns-in_err-left-in-Left-clause-held : goal.returns-in_err-left-in-Left-clause-held
+returns-in_err-left-in-Left-clause-held c =
+    let p = err_from_is_err_and c.from_residual-in_err-left-in-Left.result c.from_residual-in_err-left-in-Left.ensures.1 in rw p.1 tt
+
+pub returns-in_err-left-in-Left-clause-known : goal.returns-in_err-left-in-Left-clause-known
+returns-in_err-left-in-Left-clause-known c =
+    let p = err_from_is_err_and c.from_residual-in_err-left-in-Left.result c.from_residual-in_err-left-in-Left.ensures.1 in rw p.1 tt
+
+pub returns-in_err-left-in-Left-clause-extends : goal.returns-in_err-left-in-Left-clause-extends
+returns-in_err-left-in-Left-clause-extends c = extends_trans c.args.values.now c.loop-end.values c.ask_once.new.values
+    c.loop-end.invariant.extends c.ask_once.ensures.extends
+
+pub returns-in_err-mark-in-Undefined-clause-answered : goal.returns-in_err-mark-in-Undefined-clause-answered
+returns-in_err-mark-in-Undefined-clause-answered c =
+    let p = err_from_is_err_and c.from_residual-in_err-mark-in-Undefined.result c.from_residual-in_err-mark-in-Undefined.ensures.1 in rw p.1 tt
+
+pub returns-in_err-mark-in-Undefined-clause-spent : goal.returns-in_err-mark-in-Undefined-clause-spent
+returns-in_err-mark-in-Undefined-clause-spent c =
+    let p = err_from_is_err_and c.from_residual-in_err-mark-in-Undefined.result c.from_residual-in_err-mark-in-Undefined.ensures.1 in rw p.1 tt
+
+pub returns-in_err-mark-in-Undefined-clause-running : goal.returns-in_err-mark-in-Undefined-clause-running
+returns-in_err-mark-in-Undefined-clause-running c =
+    let p = err_from_is_err_and c.from_residual-in_err-mark-in-Undefined.result c.from_residual-in_err-mark-in-Undefined.ensures.1 in rw p.1 tt
+
+pub returns-in_err-mark-in-Undefined-clause-free : goal.returns-in_err-mark-in-Undefined-clause-free
+returns-in_err-mark-in-Undefined-clause-free c =
+    let p = err_from_is_err_and c.from_residual-in_err-mark-in-Undefined.result c.from_residual-in_err-mark-in-Undefined.ensures.1 in rw p.1 tt
+
+pub returns-in_err-mark-in-Undefined-clause-held : goal.returns-in_err-mark-in-Undefined-clause-held
+returns-in_err-mark-in-Undefined-clause-held c =
+    let p = err_from_is_err_and c.from_residual-in_err-mark-in-Undefined.result c.from_residual-in_err-mark-in-Undefined.ensures.1 in rw p.1 tt
+
+pub returns-in_err-mark-in-Undefined-clause-known : goal.returns-in_err-mark-in-Undefined-clause-known
+returns-in_err-mark-in-Undefined-clause-known c =
+    let p = err_from_is_err_and c.from_residual-in_err-mark-in-Undefined.result c.from_residual-in_err-mark-in-Undefined.ensures.1 in rw p.1 tt
+
+pub returns-in_err-mark-in-Undefined-clause-extends : goal.returns-in_err-mark-in-Undefined-clause-extends
+returns-in_err-mark-in-Undefined-clause-extends c = extends_trans c.args.values.now c.ask_once.new.values c.put_o.new.self
+    (extends_trans c.args.values.now c.loop-end.values c.ask_once.new.values
+    c.loop-end.invariant.extends c.ask_once.ensures.extends) c.put_o.ensures.extends
+
+pub returns-then-len-fuel-clause-spent : goal.returns-then-len-fuel-clause-spent
+returns-then-len-fuel-clause-spent c = sym c.len.ensures ∙ c.if-len-fuel.true
+
+pub returns-then-len-fuel-clause-running : goal.returns-then-len-fuel-clause-running
+returns-then-len-fuel-clause-running c = c.loop-end.invariant.running
+
+pub returns-then-len-fuel-clause-free : goal.returns-then-len-fuel-clause-free
+returns-then-len-fuel-clause-free c = c.loop-end.invariant.free
+
+pub returns-then-len-fuel-clause-stopped : goal.returns-then-len-fuel-clause-stopped
+returns-then-len-fuel-clause-stopped c = tt
+
+pub returns-then-len-fuel-clause-held : goal.returns-then-len-fuel-clause-held
+returns-then-len-fuel-clause-held c = tt
+
+pub returns-then-len-fuel-clause-known : goal.returns-then-len-fuel-clause-known
+returns-then-len-fuel-clause-known c = tt
+
+pub returns-then-len-fuel-clause-extends : goal.returns-then-len-fuel-clause-extends
+returns-then-len-fuel-clause-extends c = extends_trans c.args.values.now c.loop-end.values c.ask_once.new.values
+    c.loop-end.invariant.extends c.ask_once.ensures.extends
+
+pub returns-in-Left-clause-spent : goal.returns-in-Left-clause-spent
+returns-in-Left-clause-spent c = tt
+
+pub returns-in-Left-clause-running : goal.returns-in-Left-clause-running
+returns-in-Left-clause-running c = c.loop-end.invariant.running
+
+pub returns-in-Left-clause-free : goal.returns-in-Left-clause-free
+returns-in-Left-clause-free c = c.loop-end.invariant.free
+
+pub returns-in-Left-clause-stopped : goal.returns-in-Left-clause-stopped
+returns-in-Left-clause-stopped c = tt
+
+pub returns-in-Left-clause-held : goal.returns-in-Left-clause-held
+returns-in-Left-clause-held c = c.in_ok-left-in-Left.ensures.held
+
+pub returns-in-Left-clause-extends : goal.returns-in-Left-clause-extends
+returns-in-Left-clause-extends c = extends_trans c.args.values.now c.loop-end.values c.ask_once.new.values
+    c.loop-end.invariant.extends c.ask_once.ensures.extends
+
+pub returns-then-lams-nodes-clause-spent : goal.returns-then-lams-nodes-clause-spent
+returns-then-lams-nodes-clause-spent c = tt
+
+pub returns-then-lams-nodes-clause-running : goal.returns-then-lams-nodes-clause-running
+returns-then-lams-nodes-clause-running c = c.loop-end.invariant.running
+
+pub returns-then-lams-nodes-clause-free : goal.returns-then-lams-nodes-clause-free
+returns-then-lams-nodes-clause-free c = c.loop-end.invariant.free
+
+pub returns-then-lams-nodes-clause-stopped : goal.returns-then-lams-nodes-clause-stopped
+returns-then-lams-nodes-clause-stopped c = tt
+
+pub returns-then-lams-nodes-clause-held : goal.returns-then-lams-nodes-clause-held
+returns-then-lams-nodes-clause-held c = tt
+
+pub returns-then-lams-nodes-clause-known : goal.returns-then-lams-nodes-clause-known
+returns-then-lams-nodes-clause-known c = tt
+
+pub returns-then-lams-nodes-clause-extends : goal.returns-then-lams-nodes-clause-extends
+returns-then-lams-nodes-clause-extends c = extends_trans c.args.values.now c.loop-end.values c.ask_once.new.values
+    c.loop-end.invariant.extends c.ask_once.ensures.extends
+
+pub returns-in-Budget-clause-spent : goal.returns-in-Budget-clause-spent
+returns-in-Budget-clause-spent c = tt
+
+pub returns-in-Budget-clause-running : goal.returns-in-Budget-clause-running
+returns-in-Budget-clause-running c = c.loop-end.invariant.running
+
+pub returns-in-Budget-clause-free : goal.returns-in-Budget-clause-free
+returns-in-Budget-clause-free c = c.loop-end.invariant.free
+
+pub returns-in-Budget-clause-stopped : goal.returns-in-Budget-clause-stopped
+returns-in-Budget-clause-stopped c = tt
+
+pub returns-in-Budget-clause-held : goal.returns-in-Budget-clause-held
+returns-in-Budget-clause-held c = tt
+
+pub returns-in-Budget-clause-known : goal.returns-in-Budget-clause-known
+returns-in-Budget-clause-known c = tt
+
+pub returns-in-Budget-clause-extends : goal.returns-in-Budget-clause-extends
+returns-in-Budget-clause-extends c = extends_trans c.args.values.now c.loop-end.values c.ask_once.new.values
+    c.loop-end.invariant.extends c.ask_once.ensures.extends
 
 pub loop-end-init : goal.loop-end-init
 loop-end-init c = record {

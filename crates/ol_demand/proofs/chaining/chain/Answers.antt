@@ -1,6 +1,8 @@
 use Rattle.std.proofs.Common.{◌*◌, ap, refl, subst}
 use Rattle.ol_net.specs.Numbered.{net_of, numbered_port}
 use Rattle.ol_context.specs.Paths.{Through}
+use Rattle.std.proofs.lemmas.Result.{err_from_is_err_and}
+use Rattle.ol_context.proofs.Shapes.{extends_trans}
 use Rattle.ol_context.specs.Shapes.{context_of}
 use Rattle.ol_context.specs.Crossed.{IfOut}
 use Rattle.ol_context.specs.declared.answers.Cross.{Cross}
@@ -10,6 +12,47 @@ use Rattle.std.proofs.Common.{Option}
 use Rattle.ol_demand.specs.Chaining.{FindsPair}
 use Rattle.ol_demand.proofs.OnChains.{begins, meets, leaves, goes_on, stops, spends}
 use Rattle.ol_demand.proofs.chaining.chain.Goals as goal
+
+pub cross-requires-clause-held : goal.cross-requires-clause-held
+cross-requires-clause-held c = c.loop-next.invariant.held
+
+pub returns-in_err-crossed-clause-held : goal.returns-in_err-crossed-clause-held
+returns-in_err-crossed-clause-held c =
+    let p = err_from_is_err_and c.from_residual.result c.from_residual.ensures.1 in rw p.1 tt
+
+pub returns-in_err-crossed-clause-ends : goal.returns-in_err-crossed-clause-ends
+returns-in_err-crossed-clause-ends c =
+    let p = err_from_is_err_and c.from_residual.result c.from_residual.ensures.1 in rw p.1 tt
+
+pub returns-in_err-crossed-clause-extends : goal.returns-in_err-crossed-clause-extends
+returns-in_err-crossed-clause-extends c = extends_trans c.args.values.now c.loop-next.values
+    c.cross.new.values c.loop-next.invariant.extends c.cross.ensures.extends
+
+pub returns-in-Some-pair_at-clause-extends : goal.returns-in-Some-pair_at-clause-extends
+returns-in-Some-pair_at-clause-extends c = c.loop-next.invariant.extends
+
+pub returns-in-Some-pair_at-clause-held : goal.returns-in-Some-pair_at-clause-held
+returns-in-Some-pair_at-clause-held c = tt
+
+pub returns-in-Free-clause-extends : goal.returns-in-Free-clause-extends
+returns-in-Free-clause-extends c = c.loop-next.invariant.extends
+
+pub returns-in-Free-clause-held : goal.returns-in-Free-clause-held
+returns-in-Free-clause-held c = c.loop-next.invariant.held
+
+pub returns-in-Undefined-clause-extends : goal.returns-in-Undefined-clause-extends
+returns-in-Undefined-clause-extends c = extends_trans c.args.values.now c.loop-next.values
+    c.cross.new.values c.loop-next.invariant.extends c.cross.ensures.extends
+
+pub returns-in-Undefined-clause-held : goal.returns-in-Undefined-clause-held
+returns-in-Undefined-clause-held c = tt
+
+pub returns-then-made-most-clause-extends : goal.returns-then-made-most-clause-extends
+returns-then-made-most-clause-extends c = extends_trans c.args.values.now c.loop-next.values
+    c.cross.new.values c.loop-next.invariant.extends c.cross.ensures.extends
+
+pub returns-then-made-most-clause-held : goal.returns-then-made-most-clause-held
+returns-then-made-most-clause-held c = tt
 
 pub loop-next-init : goal.loop-next-init
 loop-next-init c = begins c.args.net.now c.args.from

@@ -1,4 +1,5 @@
 use Rattle.std.proofs.Common.{ap, sym, ◌∙◌, reverse, subst}
+use Rattle.std.proofs.lemmas.Result.{err_from_is_err_and}
 use Rattle.ol_term.specs.Trees as tree
 use Rattle.ol_term.specs.Trees.{tree_of}
 use Rattle.ol_parse.specs.Steps.{term_at, shown}
@@ -6,6 +7,134 @@ use Rattle.ol_parse.specs.Numbered.{position_of}
 use Rattle.ol_parse.specs.Resolving.{texts, names_from, IsNumbered}
 use Rattle.ol_parse.proofs.Places.{free_named, free_numbered, both_numbered}
 use Rattle.ol_parse.proofs.numbers.+resolve.Goals as goal
+
+pub returns-in_err-add-in-None-clause-kept : goal.returns-in_err-add-in-None-clause-kept
+returns-in_err-add-in-None-clause-kept t c =
+    let p = err_from_is_err_and c.from_residual.result c.from_residual.ensures.1 in rw p.1 tt
+
+pub returns-in_err-add-in-None-clause-few : goal.returns-in_err-add-in-None-clause-few
+returns-in_err-add-in-None-clause-few t c =
+    let p = err_from_is_err_and c.from_residual.result c.from_residual.ensures.1 in rw p.1 tt
+
+pub returns-in_err-add-in-None-clause-names : goal.returns-in_err-add-in-None-clause-names
+returns-in_err-add-in-None-clause-names t c =
+    let p = err_from_is_err_and c.from_residual.result c.from_residual.ensures.1 in rw p.1 tt
+
+pub returns-in_err-add-in-None-clause-numbered : goal.returns-in_err-add-in-None-clause-numbered
+returns-in_err-add-in-None-clause-numbered t c =
+    let p = err_from_is_err_and c.from_residual.result c.from_residual.ensures.1 in rw p.1 tt
+
+pub returns-in_err-map_err-in-Abstraction-clause-kept : goal.returns-in_err-map_err-in-Abstraction-clause-kept
+returns-in_err-map_err-in-Abstraction-clause-kept t c =
+    let p = err_from_is_err_and c.from_residual-in_err-map_err-in-Abstraction.result c.from_residual-in_err-map_err-in-Abstraction.ensures.1 in rw p.1 tt
+
+pub returns-in_err-map_err-in-Abstraction-clause-few : goal.returns-in_err-map_err-in-Abstraction-clause-few
+returns-in_err-map_err-in-Abstraction-clause-few t c =
+    let p = err_from_is_err_and c.from_residual-in_err-map_err-in-Abstraction.result c.from_residual-in_err-map_err-in-Abstraction.ensures.1 in rw p.1 tt
+
+pub returns-in_err-map_err-in-Abstraction-clause-names : goal.returns-in_err-map_err-in-Abstraction-clause-names
+returns-in_err-map_err-in-Abstraction-clause-names t c =
+    let p = err_from_is_err_and c.from_residual-in_err-map_err-in-Abstraction.result c.from_residual-in_err-map_err-in-Abstraction.ensures.1 in rw p.1 tt
+
+pub returns-in_err-map_err-in-Abstraction-clause-numbered : goal.returns-in_err-map_err-in-Abstraction-clause-numbered
+returns-in_err-map_err-in-Abstraction-clause-numbered t c =
+    let p = err_from_is_err_and c.from_residual-in_err-map_err-in-Abstraction.result c.from_residual-in_err-map_err-in-Abstraction.ensures.1 in rw p.1 tt
+
+pub returns-in_err-inside-in-Abstraction-clause-kept : goal.returns-in_err-inside-in-Abstraction-clause-kept
+returns-in_err-inside-in-Abstraction-clause-kept t c =
+    let p = err_from_is_err_and c.from_residual-in_err-inside-in-Abstraction.result c.from_residual-in_err-inside-in-Abstraction.ensures.1 in rw p.1 tt
+
+pub returns-in_err-inside-in-Abstraction-clause-few : goal.returns-in_err-inside-in-Abstraction-clause-few
+returns-in_err-inside-in-Abstraction-clause-few t c =
+    let p = err_from_is_err_and c.from_residual-in_err-inside-in-Abstraction.result c.from_residual-in_err-inside-in-Abstraction.ensures.1 in rw p.1 tt
+
+pub returns-in_err-inside-in-Abstraction-clause-names : goal.returns-in_err-inside-in-Abstraction-clause-names
+returns-in_err-inside-in-Abstraction-clause-names t c =
+    let p = err_from_is_err_and c.from_residual-in_err-inside-in-Abstraction.result c.from_residual-in_err-inside-in-Abstraction.ensures.1 in rw p.1 tt
+
+pub returns-in_err-inside-in-Abstraction-clause-numbered : goal.returns-in_err-inside-in-Abstraction-clause-numbered
+returns-in_err-inside-in-Abstraction-clause-numbered t c =
+    let p = err_from_is_err_and c.from_residual-in_err-inside-in-Abstraction.result c.from_residual-in_err-inside-in-Abstraction.ensures.1 in rw p.1 tt
+
+pub returns-in_err-boxed-in-Abstraction-clause-kept : goal.returns-in_err-boxed-in-Abstraction-clause-kept
+returns-in_err-boxed-in-Abstraction-clause-kept t c =
+    let p = err_from_is_err_and c.from_residual-in_err-boxed-in-Abstraction.result c.from_residual-in_err-boxed-in-Abstraction.ensures.1 in rw p.1 tt
+
+pub returns-in_err-boxed-in-Abstraction-clause-few : goal.returns-in_err-boxed-in-Abstraction-clause-few
+returns-in_err-boxed-in-Abstraction-clause-few t c =
+    let p = err_from_is_err_and c.from_residual-in_err-boxed-in-Abstraction.result c.from_residual-in_err-boxed-in-Abstraction.ensures.1 in rw p.1 tt
+
+pub returns-in_err-boxed-in-Abstraction-clause-names : goal.returns-in_err-boxed-in-Abstraction-clause-names
+returns-in_err-boxed-in-Abstraction-clause-names t c =
+    let p = err_from_is_err_and c.from_residual-in_err-boxed-in-Abstraction.result c.from_residual-in_err-boxed-in-Abstraction.ensures.1 in rw p.1 tt
+
+pub returns-in_err-boxed-in-Abstraction-clause-numbered : goal.returns-in_err-boxed-in-Abstraction-clause-numbered
+returns-in_err-boxed-in-Abstraction-clause-numbered t c =
+    let p = err_from_is_err_and c.from_residual-in_err-boxed-in-Abstraction.result c.from_residual-in_err-boxed-in-Abstraction.ensures.1 in rw p.1 tt
+
+pub returns-in_err-function-in-Application-clause-kept : goal.returns-in_err-function-in-Application-clause-kept
+returns-in_err-function-in-Application-clause-kept t c =
+    let p = err_from_is_err_and c.from_residual-in_err-function-in-Application.result c.from_residual-in_err-function-in-Application.ensures.1 in rw p.1 tt
+
+pub returns-in_err-function-in-Application-clause-few : goal.returns-in_err-function-in-Application-clause-few
+returns-in_err-function-in-Application-clause-few t c =
+    let p = err_from_is_err_and c.from_residual-in_err-function-in-Application.result c.from_residual-in_err-function-in-Application.ensures.1 in rw p.1 tt
+
+pub returns-in_err-function-in-Application-clause-names : goal.returns-in_err-function-in-Application-clause-names
+returns-in_err-function-in-Application-clause-names t c =
+    let p = err_from_is_err_and c.from_residual-in_err-function-in-Application.result c.from_residual-in_err-function-in-Application.ensures.1 in rw p.1 tt
+
+pub returns-in_err-function-in-Application-clause-numbered : goal.returns-in_err-function-in-Application-clause-numbered
+returns-in_err-function-in-Application-clause-numbered t c =
+    let p = err_from_is_err_and c.from_residual-in_err-function-in-Application.result c.from_residual-in_err-function-in-Application.ensures.1 in rw p.1 tt
+
+pub returns-in_err-argument-in-Application-clause-kept : goal.returns-in_err-argument-in-Application-clause-kept
+returns-in_err-argument-in-Application-clause-kept t c =
+    let p = err_from_is_err_and c.from_residual-in_err-argument-in-Application.result c.from_residual-in_err-argument-in-Application.ensures.1 in rw p.1 tt
+
+pub returns-in_err-argument-in-Application-clause-few : goal.returns-in_err-argument-in-Application-clause-few
+returns-in_err-argument-in-Application-clause-few t c =
+    let p = err_from_is_err_and c.from_residual-in_err-argument-in-Application.result c.from_residual-in_err-argument-in-Application.ensures.1 in rw p.1 tt
+
+pub returns-in_err-argument-in-Application-clause-names : goal.returns-in_err-argument-in-Application-clause-names
+returns-in_err-argument-in-Application-clause-names t c =
+    let p = err_from_is_err_and c.from_residual-in_err-argument-in-Application.result c.from_residual-in_err-argument-in-Application.ensures.1 in rw p.1 tt
+
+pub returns-in_err-argument-in-Application-clause-numbered : goal.returns-in_err-argument-in-Application-clause-numbered
+returns-in_err-argument-in-Application-clause-numbered t c =
+    let p = err_from_is_err_and c.from_residual-in_err-argument-in-Application.result c.from_residual-in_err-argument-in-Application.ensures.1 in rw p.1 tt
+
+pub returns-in_err-boxed-in-Application-clause-kept : goal.returns-in_err-boxed-in-Application-clause-kept
+returns-in_err-boxed-in-Application-clause-kept t c =
+    let p = err_from_is_err_and c.from_residual-in_err-boxed-in-Application.result c.from_residual-in_err-boxed-in-Application.ensures.1 in rw p.1 tt
+
+pub returns-in_err-boxed-in-Application-clause-few : goal.returns-in_err-boxed-in-Application-clause-few
+returns-in_err-boxed-in-Application-clause-few t c =
+    let p = err_from_is_err_and c.from_residual-in_err-boxed-in-Application.result c.from_residual-in_err-boxed-in-Application.ensures.1 in rw p.1 tt
+
+pub returns-in_err-boxed-in-Application-clause-names : goal.returns-in_err-boxed-in-Application-clause-names
+returns-in_err-boxed-in-Application-clause-names t c =
+    let p = err_from_is_err_and c.from_residual-in_err-boxed-in-Application.result c.from_residual-in_err-boxed-in-Application.ensures.1 in rw p.1 tt
+
+pub returns-in_err-boxed-in-Application-clause-numbered : goal.returns-in_err-boxed-in-Application-clause-numbered
+returns-in_err-boxed-in-Application-clause-numbered t c =
+    let p = err_from_is_err_and c.from_residual-in_err-boxed-in-Application.result c.from_residual-in_err-boxed-in-Application.ensures.1 in rw p.1 tt
+
+pub returns-in_err-boxed-in-Application-2-clause-kept : goal.returns-in_err-boxed-in-Application-2-clause-kept
+returns-in_err-boxed-in-Application-2-clause-kept t c =
+    let p = err_from_is_err_and c.from_residual-in_err-boxed-in-Application-2.result c.from_residual-in_err-boxed-in-Application-2.ensures.1 in rw p.1 tt
+
+pub returns-in_err-boxed-in-Application-2-clause-few : goal.returns-in_err-boxed-in-Application-2-clause-few
+returns-in_err-boxed-in-Application-2-clause-few t c =
+    let p = err_from_is_err_and c.from_residual-in_err-boxed-in-Application-2.result c.from_residual-in_err-boxed-in-Application-2.ensures.1 in rw p.1 tt
+
+pub returns-in_err-boxed-in-Application-2-clause-names : goal.returns-in_err-boxed-in-Application-2-clause-names
+returns-in_err-boxed-in-Application-2-clause-names t c =
+    let p = err_from_is_err_and c.from_residual-in_err-boxed-in-Application-2.result c.from_residual-in_err-boxed-in-Application-2.ensures.1 in rw p.1 tt
+
+pub returns-in_err-boxed-in-Application-2-clause-numbered : goal.returns-in_err-boxed-in-Application-2-clause-numbered
+returns-in_err-boxed-in-Application-2-clause-numbered t c =
+    let p = err_from_is_err_and c.from_residual-in_err-boxed-in-Application-2.result c.from_residual-in_err-boxed-in-Application-2.ensures.1 in rw p.1 tt
 
 pub returns-in_ok-add-in-None-clause-names : goal.returns-in_ok-add-in-None-clause-names
 returns-in_ok-add-in-None-clause-names t c =

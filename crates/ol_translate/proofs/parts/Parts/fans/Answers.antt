@@ -4,6 +4,17 @@ use Rattle.ol_net.specs.declared.parts.Port.TheVariants.{Free}
 use Rattle.ol_translate.proofs.Walks.{fan_left}
 use Rattle.ol_translate.proofs.parts.Parts.fans.Goals as goal
 
+pub returns-in_err-fill-clause-adds : goal.returns-in_err-fill-clause-adds
+returns-in_err-fill-clause-adds c =
+    let p = err_from_is_err_and c.from_residual.result c.from_residual.ensures.1 in rw p.1 tt
+
+pub returns-in_err-fan-clause-adds : goal.returns-in_err-fan-clause-adds
+returns-in_err-fan-clause-adds c =
+    let p = err_from_is_err_and c.from_residual-in_err-fan.result c.from_residual-in_err-fan.ensures.1 in rw p.1 tt
+
+pub returns-clause-too_many : goal.returns-clause-too_many
+returns-clause-too_many c = tt
+
 pub returns-in_err-fan-clause-too_many : goal.returns-in_err-fan-clause-too_many
 returns-in_err-fan-clause-too_many c =
     let left = fan_left c.loop-wire.self.nodes.items c.args.self.now.nodes.items c.args.level

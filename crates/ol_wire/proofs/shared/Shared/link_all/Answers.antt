@@ -1,15 +1,133 @@
-use Rattle.std.proofs.Common.{◌≡◌, ◌+◌, ◌<◌, ℕ, refl, sym, ap, ◌∙◌, subst, arith}
+use Rattle.std.proofs.Common.{◌≡◌, ◌+◌, ◌^◌, ◌<◌, ◌≤◌, ℕ, zero, suc, refl, sym, ap, ◌∙◌, subst}
+use Rattle.std.proofs.Common.{arith, Fits, w8, w32}
 use Rattle.ol_wire.specs.declared.layout.Parts.{Parts}
 use Rattle.ol_wire.specs.declared.view.View.{View}
-use Rattle.ol_wire.specs.Layout.{born_cell}
+use Rattle.ol_wire.specs.Layout.{born_cell, table_size}
 use Rattle.ol_wire.specs.LinkLists.{joins_in}
 use Rattle.ol_wire.specs.Rewrites.{event_for}
 use Rattle.ol_wire.specs.Links.{link_between}
-use Rattle.ol_wire.specs.Stand.{TableState}
+use Rattle.ol_wire.specs.References.{index_in}
+use Rattle.ol_wire.specs.StepPlays.{IsNodeOf}
+use Rattle.ol_wire.specs.Stand.{TableState, IsUnder}
+use Rattle.ol_wire.proofs.Ticket.Refs.{joins_few}
 use Rattle.ol_wire.proofs.LinkSteps.All.{link_in, AreLinking, all_begin, link_is_next, both_ends}
 use Rattle.ol_wire.proofs.LinkSteps.All.{more_published, more_made, none_left, all_linked}
 use Rattle.ol_wire.proofs.shared.Shared.link_all.Goals as goal
 use Rattle.ol_wire.proofs.shared.Shared.link_all.Goals.{in-Some, in_default}
+
+few : (t f g : ℕ) → t < f → f ≡ g → g ≤ 8000000 → t ≤ 8000000
+few t f g a b c = omega arith
+
+one_more : (n : ℕ) → n ≤ 4 → Fits w32 (n + 1)
+one_more n h = omega arith
+
+join_few : (j n m : ℕ) → j < n → n ≡ m → m ≤ 4 → j < 4
+join_few j n m a b c = omega arith
+
+index_few : (z : Parts) (n f : ℕ) → IsNodeOf z n → z.fuel ≡ f → f ≤ 8000000 → index_in n < 16777215
+index_few z n f o e h = let i = o.2 in omega (arith, i, e, h)
+
+cell_within : (z : Parts) (t j : ℕ) → t < z.fuel → j < 4 → suc (born_cell z t j) < table_size z
+cell_within z t j a b = omega arith
+
+mask_fits : (m b j : ℕ) → m < 2 ^ j → b ≡ 2 ^ j → j < 4 → Fits w8 (m + b)
+mask_fits m b zero h e few = omega arith
+mask_fits m b (suc zero) h e few = omega arith
+mask_fits m b (suc (suc zero)) h e few = omega arith
+mask_fits m b (suc (suc (suc zero))) h e few = omega arith
+mask_fits m b (suc (suc (suc (suc j)))) h e few = absurd (omega arith)
+
+one_is_owed : (n o j a : ℕ) → suc n ≤ o + j → j < n → a ≤ 1 → a ≤ o
+one_is_owed n o j a h b d = omega arith
+
+pub overflow_add-owed : goal.overflow_add-owed
+overflow_add-owed c =
+    let joins = joins_few (event_for c.args.begun.rewrite) in
+    one_more c.joins-joins.result (subst (λ (n : ℕ). n ≤ 4) (sym c.joins-joins.ensures) joins)
+
+pub ends-one-requires-clause-small : goal.ends-one-requires-clause-small
+ends-one-requires-clause-small c =
+    let parts : c.args.self.now.plan.parts ≡ c.self.inside.parts = sym
+    (ap (λ (b : TableState). b.plan.parts) c.self.view_is) ∙ c.self.invariant.0 in (
+      c.self.invariant.4,
+      few c.args.begun.ticket c.args.self.now.plan.parts.fuel c.self.inside.parts.fuel
+          c.requires.begun.ticket (ap (λ (z : Parts). z.fuel) parts) c.self.invariant.4.fuel,
+    )
+
+pub ends-one-requires-clause-join : goal.ends-one-requires-clause-join
+ends-one-requires-clause-join c =
+    subst (λ (n : ℕ). c.loop-j.j < n) c.joins-joins.ensures c.loop-j-test.true
+
+pub ends-one-requires-clause-rule : goal.ends-one-requires-clause-rule
+ends-one-requires-clause-rule c = c.requires.begun.rule
+
+pub ends-one-requires-clause-index : goal.ends-one-requires-clause-index
+ends-one-requires-clause-index c =
+    let parts : c.args.self.now.plan.parts ≡ c.self.inside.parts = sym
+    (ap (λ (b : TableState). b.plan.parts) c.self.view_is) ∙ c.self.invariant.0 in
+    index_few c.args.self.now.plan.parts c.args.begun.rewrite.g c.self.inside.parts.fuel
+    c.requires.begun.nodes.1 (ap (λ (z : Parts). z.fuel) parts) c.self.invariant.4.fuel
+
+pub born_cell-cell-requires : goal.born_cell-cell-requires
+born_cell-cell-requires c =
+    let parts : c.args.self.now.plan.parts ≡ c.self.inside.parts = sym
+    (ap (λ (b : TableState). b.plan.parts) c.self.view_is) ∙ c.self.invariant.0 in (
+      c.self.invariant.4,
+      few c.args.begun.ticket c.args.self.now.plan.parts.fuel c.self.inside.parts.fuel
+          c.requires.begun.ticket (ap (λ (z : Parts). z.fuel) parts) c.self.invariant.4.fuel,
+      join_few c.loop-j.j c.joins-joins.result (joins_in (event_for c.args.begun.rewrite))
+          c.loop-j-test.true c.joins-joins.ensures (joins_few (event_for c.args.begun.rewrite)),
+    )
+
+pub link-requires-clause-token : goal.link-requires-clause-token
+link-requires-clause-token c = (
+  c.loop-j.invariant.0 ∙ c.requires.token.0,
+  subst (λ (u : View). IsUnder c.args.self.now.plan u) (sym c.loop-j.invariant.2.view) c.requires.token.1,
+)
+
+pub link-requires-clause-cell : goal.link-requires-clause-cell
+link-requires-clause-cell c =
+    let z : Parts = c.args.self.now.plan.parts in
+    let b = c.args.begun in
+    let parts : c.self.inside.parts ≡ z = sym c.self.invariant.0
+    ∙ ap (λ (x : TableState). x.plan.parts) c.self.view_is in
+    let cell : c.born_cell-cell.result ≡ born_cell z b.ticket c.loop-j.j = c.born_cell-cell.ensures
+    ∙ ap (λ (y : Parts). born_cell y b.ticket c.loop-j.j) parts in
+    subst (λ (w : ℕ). suc w < table_size z) (sym cell)
+    (cell_within z b.ticket c.loop-j.j c.requires.begun.ticket
+    (join_few c.loop-j.j c.joins-joins.result (joins_in (event_for b.rewrite)) c.loop-j-test.true
+    c.joins-joins.ensures (joins_few (event_for b.rewrite))))
+
+pub bit-mask-requires : goal.bit-mask-requires
+bit-mask-requires c = join_few c.loop-j.j c.joins-joins.result
+    (joins_in (event_for c.args.begun.rewrite)) c.loop-j-test.true c.joins-joins.ensures
+    (joins_few (event_for c.args.begun.rewrite))
+
+pub overflow_add-mask : goal.overflow_add-mask
+overflow_add-mask c = mask_fits c.loop-j.mask c.bit-mask.result c.loop-j.j c.loop-j.invariant.2.mask
+    c.bit-mask.ensures (join_few c.loop-j.j c.joins-joins.result
+    (joins_in (event_for c.args.begun.rewrite)) c.loop-j-test.true c.joins-joins.ensures
+    (joins_few (event_for c.args.begun.rewrite)))
+
+pub overflow_sub-owed : goal.overflow_sub-owed
+overflow_sub-owed c = one_is_owed (joins_in (event_for c.args.begun.rewrite)) c.loop-j.owed c.loop-j.j
+    c.in-Some.active c.loop-j.invariant.2.most
+    (subst (λ (n : ℕ). c.loop-j.j < n) c.joins-joins.ensures c.loop-j-test.true) c.in-Some.ensures.small
+
+pub repay-requires-clause-token : goal.repay-requires-clause-token
+repay-requires-clause-token c = (
+  c.loop-j.invariant.0 ∙ c.requires.token.0,
+  subst (λ (u : View). IsUnder c.args.self.now.plan u) (sym c.loop-j.invariant.2.view) c.requires.token.1,
+)
+
+pub repay-requires-clause-owed : goal.repay-requires-clause-owed
+repay-requires-clause-owed c = c.loop-j.invariant.2.owed
+
+pub returns-clause-token : goal.returns-clause-token
+returns-clause-token c = (
+  c.repay.ensures.token.0 ∙ c.loop-j.invariant.0,
+  c.repay.ensures.token.1 ∙ c.loop-j.invariant.1,
+)
 
 pub loop-j-init : goal.loop-j-init
 loop-j-init c = (

@@ -1,21 +1,167 @@
-use Rattle.std.proofs.Common.{◌≡◌, ◌+◌, ℕ, Some, List, get_or, refl, sym, ap, ◌∙◌, subst, arith}
+use Rattle.std.proofs.Common.{◌≡◌, ◌+◌, ◌<◌, ◌≤◌, ℕ, Option, Some, None, IfSome, List, get_or, refl, sym, ap}
+use Rattle.std.proofs.Common.{◌∙◌, subst, arith}
 use Rattle.ol_wire.specs.declared.layout.Parts.{Parts}
 use Rattle.ol_wire.specs.declared.view.View.{View}
-use Rattle.ol_wire.specs.References.{place_in}
-use Rattle.ol_wire.specs.StepPlays.{IsNodeOf, IsLookedUp, late}
-use Rattle.ol_wire.specs.Stand.{TableState}
-use Rattle.ol_wire.specs.InHand.{IsInHand, IsOfPair, AreFields}
+use Rattle.ol_wire.specs.declared.begun.Begun.{Begun}
+use Rattle.ol_wire.specs.declared.rewrite.Rewrite.{Rewrite}
+use Rattle.ol_wire.specs.Layout.{block}
+use Rattle.ol_net.specs.Parts.{arity}
+use Rattle.ol_wire.specs.References.{kind_in, place_in}
+use Rattle.ol_wire.specs.Blocks.{block_words}
+use Rattle.ol_wire.specs.StepPlays.{IsNodeOf, IsLookedUp, late, ticketed}
+use Rattle.ol_wire.specs.Stand.{TableState, IsUnder}
+use Rattle.ol_wire.specs.InHand.{IsInHand, IsOfPair, AreFields, fields_known, looked_at}
 use Rattle.ol_wire.specs.Hands.{IsActiveLast}
-use Rattle.ol_wire.specs.LinkLists.{joins_in}
+use Rattle.ol_wire.specs.LinkLists.{joins_in, to_write}
 use Rattle.ol_wire.specs.Events.{Event, rule_between}
 use Rattle.ol_wire.specs.Plays.{event_in}
 use Rattle.ol_wire.specs.Rewrites.{event_for}
-use Rattle.ol_wire.specs.TurnParts.{HasBegunOrLate}
+use Rattle.ol_wire.specs.Moments.{WasPending}
+use Rattle.ol_wire.specs.TurnParts.{HasBegunOrLate, HasFieldsOf}
 use Rattle.ol_wire.proofs.Ticket.Refs.{joins_few}
 use Rattle.ol_wire.proofs.Steps.Hold.{of_pair, node_in_hand, place_small, seen, still_in_hand}
 use Rattle.ol_wire.proofs.Steps.Hold.{owing_in_hand, owed_after, late_told, looked_up, looked_twice}
-use Rattle.ol_wire.proofs.Steps.Hold.{rewritten}
+use Rattle.ol_wire.proofs.Steps.Hold.{rewritten, due_of_ticket}
+use Rattle.ol_edges.proofs.Lists.{in_right}
 use Rattle.ol_wire.proofs.shared.Shared.rewrite.Goals as goal
+
+few : (t f g : ℕ) → t < f → f ≡ g → g ≤ 8000000 → t ≤ 8000000
+few t f g a b c = omega arith
+
+never : (b : Begun) → ◌≡◌ {A = Option Begun} (Some b) None → ⊥
+never b e = cc
+
+looked_in_hand : (v : View) (w n : ℕ) (a : List ℕ) → IsInHand v w → IsInHand (looked_at v n a) w
+looked_in_hand v w n a hand = record {
+  taken = hand.taken;
+  right = in_right _ (fields_known (arity (kind_in n)) (place_in n) a) v.known hand.right;
+  nodes = hand.nodes;
+}
+
+-- the words that are due once the ticket is drawn
+drawn_due : (z : Parts) (v u w : View) (r : Rewrite) (ks : List (ℕ × ℕ)) (n t : ℕ)
+    (words : List ℕ) → w ≡ record v { known = ks; owed = n } → u ≡ ticketed w t →
+    event_for r ≡ event_in v → v.parts ≡ z → words ≡ block_words z (event_for r) t →
+    u.due ≡ to_write (block z t) words
+drawn_due z v u w r ks n t words e f is at b =
+    ap (λ (x : View). x.due) (f ∙ ap (λ (x : View). ticketed x t) e) ∙ due_of_ticket v r ks t is
+    ∙ ap (λ (y : Parts). to_write (block y t) (block_words y (event_for r) t)) at
+    ∙ ap (to_write (block z t)) (sym b)
+
+pub look_at-of_f-requires-clause-token : goal.look_at-of_f-requires-clause-token
+look_at-of_f-requires-clause-token c = c.requires.token
+
+pub look_at-of_f-requires-clause-pair : goal.look_at-of_f-requires-clause-pair
+look_at-of_f-requires-clause-pair c = c.requires.pair
+
+pub look_at-of_g-requires-clause-token : goal.look_at-of_g-requires-clause-token
+look_at-of_g-requires-clause-token c = (
+  c.look_at-of_f.ensures.token.0 ∙ c.requires.token.0,
+  subst (λ (u : View). IsUnder c.args.self.now.plan u) (sym c.look_at-of_f.ensures.view) c.requires.token.1,
+)
+
+pub look_at-of_g-requires-clause-pair : goal.look_at-of_g-requires-clause-pair
+look_at-of_g-requires-clause-pair c = (
+  c.requires.pair.0,
+  subst (λ (u : View). IsInHand u c.requires.pair.0) (sym c.look_at-of_f.ensures.view)
+      (looked_in_hand c.args.token.now.me.0 c.requires.pair.0 c.args.rewrite.f c.look_at-of_f.result c.requires.pair.1),
+)
+
+pub owe-requires-clause-token : goal.owe-requires-clause-token
+owe-requires-clause-token c =
+    let p = c.args.self.now.plan in
+    let u = subst (λ (u : View). IsUnder p u) (sym c.look_at-of_f.ensures.view) c.requires.token.1 in (
+      c.look_at-of_g.ensures.token.0 ∙ c.look_at-of_f.ensures.token.0 ∙ c.requires.token.0,
+      subst (λ (u : View). IsUnder p u) (sym c.look_at-of_g.ensures.view) u,
+    )
+
+pub draw-requires-clause-token : goal.draw-requires-clause-token
+draw-requires-clause-token c =
+    let p = c.args.self.now.plan in
+    let u = subst (λ (u : View). IsUnder p u) (sym c.look_at-of_f.ensures.view) c.requires.token.1 in
+    let w = subst (λ (u : View). IsUnder p u) (sym c.look_at-of_g.ensures.view) u in (
+      c.owe.ensures.token.0 ∙ c.look_at-of_g.ensures.token.0 ∙ c.look_at-of_f.ensures.token.0
+          ∙ c.requires.token.0,
+      subst (λ (u : View). IsUnder p u) (sym c.owe.ensures.view) w,
+    )
+
+pub write_block-requires-clause-token : goal.write_block-requires-clause-token
+write_block-requires-clause-token c =
+    let p = c.args.self.now.plan in
+    let u = subst (λ (u : View). IsUnder p u) (sym c.look_at-of_f.ensures.view) c.requires.token.1 in
+    let w = subst (λ (u : View). IsUnder p u) (sym c.look_at-of_g.ensures.view) u in
+    let x = subst (λ (u : View). IsUnder p u) (sym c.owe.ensures.view) w in (
+      c.draw.ensures.token.0 ∙ c.owe.ensures.token.0 ∙ c.look_at-of_g.ensures.token.0
+          ∙ c.look_at-of_f.ensures.token.0 ∙ c.requires.token.0,
+      subst (λ (u : View). IsUnder p u) (sym c.in_ok-ticket.ensures.view.1) x,
+    )
+
+pub write_block-requires-clause-ticket : goal.write_block-requires-clause-ticket
+write_block-requires-clause-ticket c = c.in_ok-ticket.ensures.view.0
+
+pub block_words-words-requires-clause-small : goal.block_words-words-requires-clause-small
+block_words-words-requires-clause-small c =
+    let parts : c.args.self.now.plan.parts ≡ c.self.inside.parts = sym
+    (ap (λ (b : TableState). b.plan.parts) c.self.view_is) ∙ c.self.invariant.0 in (
+      c.self.invariant.4,
+      few c.in_ok-ticket.ticket c.args.self.now.plan.parts.fuel c.self.inside.parts.fuel
+          c.in_ok-ticket.ensures.view.0 (ap (λ (z : Parts). z.fuel) parts) c.self.invariant.4.fuel,
+    )
+
+pub write_block-requires-clause-due : goal.write_block-requires-clause-due
+write_block-requires-clause-due c =
+    let v : View = c.args.token.now.me.0 in
+    let r = c.args.rewrite in
+    let t : ℕ = c.in_ok-ticket.ticket in
+    let z : Parts = c.args.self.now.plan.parts in
+    let ks = seen v r c.look_at-of_f.result c.look_at-of_g.result in
+    let e = looked_twice v c.look_at-of_f.new.token.me.0 c.look_at-of_g.new.token.me.0 r
+    c.look_at-of_f.result c.look_at-of_g.result c.look_at-of_f.ensures.view c.look_at-of_g.ensures.view in
+    let owed = owed_after v c.look_at-of_g.new.token.me.0 c.owe.new.token.me.0 ks c.joins.result
+    c.requires.free.3 e c.owe.ensures.view in
+    let parts : c.self.inside.parts ≡ z = sym c.self.invariant.0
+    ∙ ap (λ (b : TableState). b.plan.parts) c.self.view_is in
+    drawn_due z v c.draw.new.token.me.0 c.owe.new.token.me.0 r ks c.joins.result t
+    c.block_words-words.result owed c.in_ok-ticket.ensures.view.1 c.requires.rule.0
+    c.requires.token.1.0
+    (c.block_words-words.ensures ∙ ap (λ (y : Parts). block_words y (event_for r) t) parts)
+
+pub returns-in_err-ticket-clause-token : goal.returns-in_err-ticket-clause-token
+returns-in_err-ticket-clause-token c = (
+  c.draw.ensures.token.0 ∙ c.owe.ensures.token.0 ∙ c.look_at-of_g.ensures.token.0 ∙ c.look_at-of_f.ensures.token.0,
+  c.draw.ensures.token.1 ∙ c.owe.ensures.token.1 ∙ c.look_at-of_g.ensures.token.1 ∙ c.look_at-of_f.ensures.token.1,
+)
+
+pub returns-in_err-ticket-clause-refs : goal.returns-in_err-ticket-clause-refs
+returns-in_err-ticket-clause-refs c =
+    subst (λ (o : Option Begun). IfSome o (HasFieldsOf c.args.self.now.plan.parts c.args.rewrite))
+    (sym c.from_residual.ensures) tt
+
+pub returns-in_err-ticket-clause-drawn : goal.returns-in_err-ticket-clause-drawn
+returns-in_err-ticket-clause-drawn c =
+    subst (λ (o : Option Begun). IfSome o (λ _. WasPending c.args.self.now.plan c.draw.new.token.me.0))
+    (sym c.from_residual.ensures) tt
+
+pub returns-clause-token : goal.returns-clause-token
+returns-clause-token c = (
+  c.write_block.ensures.token.0 ∙ c.draw.ensures.token.0 ∙ c.owe.ensures.token.0
+      ∙ c.look_at-of_g.ensures.token.0 ∙ c.look_at-of_f.ensures.token.0,
+  c.write_block.ensures.token.1 ∙ c.draw.ensures.token.1 ∙ c.owe.ensures.token.1
+      ∙ c.look_at-of_g.ensures.token.1 ∙ c.look_at-of_f.ensures.token.1,
+)
+
+pub returns-clause-refs : goal.returns-clause-refs
+returns-clause-refs c = (c.look_at-of_f.ensures.refs, c.look_at-of_g.ensures.refs)
+
+pub returns-clause-drawn : goal.returns-clause-drawn
+returns-clause-drawn c = (
+  c.draw.new.token.me.0,
+  c.in_ok-ticket.ensures.moment,
+  sym (ap (λ (u : View). u.pending) c.write_block.ensures.view),
+)
+
+pub returns-clause-hand : goal.returns-clause-hand
+returns-clause-hand c = λ e. absurd (never _ e)
 
 pub look_at-of_f-requires-clause-node : goal.look_at-of_f-requires-clause-node
 look_at-of_f-requires-clause-node c = (of_pair c.args.token.now.me.0 c.args.rewrite c.requires.rule.0).0
