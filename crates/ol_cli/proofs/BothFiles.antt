@@ -7,7 +7,8 @@ use Rattle.ol_words.specs.declared.jobs.Job.TheVariants as jobs
 use Rattle.ol_cli.specs.declared.numbers.RunNumbers.{RunNumbers}
 use Rattle.ol_cli.specs.declared.status.Status.{Status}
 use Rattle.ol_cli.specs.Jobs.{Files}
-use Rattle.ol_cli.specs.Answers.{Seen, seen, on_second, JobCause, by_second, by_both}
+use Rattle.ol_cli.specs.Answers.{Seen}
+use Rattle.ol_cli.specs.Cases.{seen, on_second, JobCause, by_second, by_both}
 use Rattle.ol_cli.specs.Equal.{HasTree}
 use Rattle.ol_cli.specs.Sides.{IsReadOf, EndsSecond, refused, compared}
 

@@ -1,13 +1,14 @@
 -- What a call comes to, by what its answer comes to and by what is written of it.
 use Rattle.std.proofs.Common.{◌≡◌, ◌∙◌, ap, ℕ, List, Option, None, String, Global, Result, Ok, Err}
 use Rattle.std.proofs.Common.{IfOk, inl, inr, refl, sym, subst}
-use Rattle.ol_io.specs.declared.outside.NoMemory as no_memory
+use Rattle.ol_memory.specs.declared.NoMemory as no_memory
 use Rattle.ol_words.specs.declared.jobs.Job.{Job as Asked}
 use Rattle.ol_cli.specs.declared.answer.Answer.{Answer}
 use Rattle.ol_cli.specs.declared.top.Outcome.{Outcome}
 use Rattle.ol_cli.specs.declared.status.Status.TheVariants.{Done, WriteFault, NoMemory}
 use Rattle.ol_cli.specs.Jobs.{AskFor, TellsTerm}
 use Rattle.ol_cli.specs.Answers.{Seen, Ends}
+use Rattle.ol_cli.specs.Cases.{Cause}
 use Rattle.ol_cli.specs.Handed.{Hands}
 use Rattle.ol_cli.specs.Inside.{ComesOf, ComesOfWords, Writes}
 use Rattle.ol_cli.specs.ReadAgain.{WritesReadable}
@@ -17,12 +18,12 @@ use Rattle.ol_cli.proofs.Handing.{text_hands, words_hand}
 
 module _ (words : List (String Global)) (s : Seen) (g g' : ℕ) (old new : Option (List ℕ)) where
   pub call_ends : (made : Result Answer no_memory.NoMemory) (o : Outcome) →
-      Writes made o g g' old new → IfOk made (ComesOfWords words s) → Ends words s o.status g g' old new
-  call_ends (Err e) o w h = subst (λ (o : Outcome). Ends words s o.status g g' old new) (sym w.0) (w.2, w.1)
+      Writes made o g g' old new → IfOk made (ComesOfWords words s) → Ends (Cause words s) o.status g g' old new
+  call_ends (Err e) o w h = subst (λ (o : Outcome). Ends (Cause words s) o.status g g' old new) (sym w.0) (w.2, w.1)
   call_ends (Ok a) o w h = elim w [
-    | inl k ↦ subst (λ (o : Outcome). Ends words s o.status g g' old new) (sym k.0)
+    | inl k ↦ subst (λ (o : Outcome). Ends (Cause words s) o.status g g' old new) (sym k.0)
         (written_ends words s a.status a.text.items g g' old new h.caused k.1 k.2)
-    | inr k ↦ subst (λ (o : Outcome). Ends words s o.status g g' old new) (sym k.0)
+    | inr k ↦ subst (λ (o : Outcome). Ends (Cause words s) o.status g g' old new) (sym k.0)
         (a.status, a.text.items, h.caused, (k.1, k.2))
   ]
 

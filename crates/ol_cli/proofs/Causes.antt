@@ -4,7 +4,8 @@ use Rattle.ol_io.specs.Outside.{Rose, IsAllOf, IsLonger}
 use Rattle.ol_words.specs.Texts.{Text}
 use Rattle.ol_cli.specs.declared.status.Status.{Status}
 use Rattle.ol_cli.specs.declared.status.Status.TheVariants.{Done, Usage, ReadFault, WriteFault, NoMemory, Limit}
-use Rattle.ol_cli.specs.Answers.{Seen, CauseOf, failed, past, given}
+use Rattle.ol_cli.specs.Answers.{Seen}
+use Rattle.ol_cli.specs.Cases.{CauseOf, failed, past, given}
 
 -- the statuses that an answer has
 abbrev pub IsTold : Status → Type 0

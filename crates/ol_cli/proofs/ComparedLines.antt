@@ -7,7 +7,8 @@ use Rattle.ol_parse.specs.Grammar.{Named}
 use Rattle.ol_parse.specs.Numbered.{names_of, number}
 use Rattle.ol_equal.specs.declared.answers.Compared.{Compared}
 use Rattle.ol_equal.specs.declared.answers.Compared.TheVariants as answer
-use Rattle.ol_equal.specs.Texts.{dotted, path_text, compared_text}
+use Rattle.ol_equal.specs.Texts.{path_text, compared_text}
+use Rattle.ol_equal.specs.Walking.{dotted}
 use Rattle.ol_confluence.specs.Reductions.{Convertible, turned, joined}
 use Rattle.ol_confluence.specs.Compared.{TellsTerms, ShareNormalForm}
 use Rattle.ol_confluence.proofs.Meetings.{convertible}

@@ -21,11 +21,14 @@ use Rattle.ol_cli.specs.declared.status.Status.{Status}
 use Rattle.ol_cli.specs.declared.status.Status.TheVariants.{Done, Usage, Syntax, Spent, ReadFault}
 use Rattle.ol_cli.specs.declared.status.Status.TheVariants.{WriteFault, NoMemory, Limit, BadNet}
 use Rattle.ol_cli.specs.Jobs.{Files, AreTold, TellsFiles, term_bytes, translation_in}
-use Rattle.ol_cli.specs.TermFiles.{IsTermFile, FileAnswer}
+use Rattle.ol_cli.specs.TermFiles.{IsTermFile}
+use Rattle.ol_cli.specs.Cases.{FileAnswer}
 use Rattle.ol_cli.specs.Check.{JournalAnswer}
-use Rattle.ol_cli.specs.Answers.{JobAnswer, IsAnswer, Ends, seen}
+use Rattle.ol_cli.specs.Cases.{Cause}
+use Rattle.ol_cli.specs.Answers.{IsAnswer, Ends}
+use Rattle.ol_cli.specs.Cases.{JobAnswer, seen}
 use Rattle.ol_cli.specs.Generate.{Makes, plain_run}
-use Rattle.ol_cli.specs.Answers as answers
+use Rattle.ol_cli.specs.Cases as answers
 use Rattle.ol_cli.specs.Completeness.{EndsWithinFuel, HasTermWithin, HasJournalWithin, CanDo}
 use Rattle.ol_cli.specs.Completeness.{AskForWhatCanBeDone, IsDoneOrNothing}
 use Rattle.ol_cli.proofs.Exact.{ends_exact}
@@ -34,6 +37,7 @@ use Rattle.ol_cli.proofs.OnePrint.{ends_or_runs_out}
 use Rattle.ol_cli.proofs.OneAnswer.{file_net, OfTerm, of_term, OfTree, OfFile, of_file_answer}
 use Rattle.ol_cli.proofs.OneAnswer.{OfJournal, of_journal_answer, one_bytes, one_job, own_job}
 use Rattle.ol_cli.proofs.OneAnswer as by
+use Rattle.ol_cli.proofs.OneAnswer.{trace_runs_out}
 use Rattle.ol_cli.specs.Net.{IsNetFile}
 use Rattle.ol_cli.proofs.NetFiles.{done_net_file}
 
@@ -56,7 +60,7 @@ done_term t names _ n ends s x (by.netted w) = refl
 done_term t names _ n ends s x (by.uncertified {tr = tr} {fuel = fuel} r e) = absurd
     (ends_or_runs_out tr t names n fuel r ends)
 done_term t names _ n ends s x (by.stopped {tr = tr} {fuel = fuel} r) = absurd
-    (ends_or_runs_out tr t names n fuel r ends)
+    (ends_or_runs_out tr t names n fuel (trace_runs_out tr t names fuel n x r) ends)
 
 -- ---- a file within the limits
 
@@ -191,7 +195,7 @@ module _ (words : List (String Global)) (f f' given : ℕ) (contents : Files) (e
       inl (e, (text, subst (λ s. IsAnswer words contents s text) e a, w))
 
   pub done_or_nothing : (r : Status) (g g' : ℕ) (old new : Option (List ℕ)) → (Rose g g' → ⊥) →
-      Ends words (seen f f' contents given ended) r g g' old new → IsDoneOrNothing words contents r old new
+      Ends (Cause words (seen f f' contents given ended)) r g g' old new → IsDoneOrNothing words contents r old new
   done_or_nothing NoMemory g g' old new calm e = inr (refl, e.0)
   done_or_nothing Done g g' old new calm e = is_done Done old new
       (ends_exact words f f' given contents ended quiet tells Done g g' old new calm (λ e. cc) e)

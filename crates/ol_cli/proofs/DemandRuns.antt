@@ -34,7 +34,8 @@ use Rattle.ol_cli.specs.Texts.{answer_text}
 use Rattle.ol_cli.specs.Listing.{AreNamedOnce}
 use Rattle.ol_cli.specs.Laws.{OneTreeIsDemanded}
 use Rattle.ol_cli.specs.Run.{start_net_of_term}
-use Rattle.ol_cli.specs.Demand.{DemandEnds, Demands, DemandRunsOut}
+use Rattle.ol_cli.specs.Demand.{DemandEnds, Demands}
+use Rattle.ol_cli.specs.Cases.{DemandRunsOut}
 use Rattle.ol_cli.proofs.Evaluated.{rising_apart}
 use Rattle.ol_cli.proofs.ListedOnce.{net_of_parts_once}
 use Rattle.ol_cli.proofs.OnePrint.{one_text, start_is_net, start_is_named}

@@ -27,7 +27,8 @@ use Rattle.ol_words.specs.declared.jobs.Job.TheVariants.{Demand as demand, Certi
 use Rattle.ol_words.specs.declared.jobs.Job.TheVariants as jobs
 use Rattle.ol_lines.specs.NormalForms.{IsNormalFormOf}
 use Rattle.ol_lines.proofs.Read.{read_line, line_is_normal_form}
-use Rattle.ol_cli.specs.Demand.{DemandEnds, DemandRunsOut}
+use Rattle.ol_cli.specs.Demand.{DemandEnds}
+use Rattle.ol_cli.specs.Cases.{DemandRunsOut}
 use Rattle.ol_cli.specs.Sources.{DemandsTree, TellsTree, WritesTree}
 use Rattle.ol_cli.specs.NormalForms.{PrintsTerm, FirstLine, LineSays, IsFoundOnDemand}
 use Rattle.ol_cli.specs.NormalForms.{count_of_variables}

@@ -19,19 +19,28 @@ use Rattle.ol_words.specs.declared.jobs.Job.TheVariants as jobs
 use Rattle.ol_cli.specs.declared.status.Status.{Status}
 use Rattle.ol_cli.specs.declared.status.Status.TheVariants.{Done, Usage, Syntax, Spent, ReadFault}
 use Rattle.ol_cli.specs.declared.status.Status.TheVariants.{WriteFault, NoMemory, Limit, BadNet}
-use Rattle.ol_cli.specs.Jobs.{AskFor, AskForNothing, Files, AreTold, HasTermFile, TellsFiles}
+use Rattle.ol_cli.specs.Run.{EndsBy}
+use Rattle.ol_net.specs.Nets.{NamedNet}
+use Rattle.ol_rules.specs.declared.journal.Entry.{Entry}
+use Rattle.ol_rules.specs.declared.journal.NodeName.{NodeName}
+use Rattle.ol_cli.specs.Jobs.{AskFor, AskForNothing, Files, AreTold, TellsFiles}
+use Rattle.ol_cli.specs.Cases.{HasTermFile}
 use Rattle.ol_cli.specs.Jobs.{count_of_files, files_of, file_name}
-use Rattle.ol_cli.specs.TermFiles.{IsTermFile, TermAnswer, FileAnswer, long}
+use Rattle.ol_cli.specs.TermFiles.{IsTermFile}
+use Rattle.ol_cli.specs.Cases.{TermAnswer, FileAnswer}
 use Rattle.ol_cli.specs.Check.{JournalAnswer}
-use Rattle.ol_cli.specs.Answers.{JobAnswer, of_file, of_journal, made, IsAnswer, Seen, seen}
-use Rattle.ol_cli.specs.Answers.{on_second, FileCause, JobCause, by_file, by_journal, by_making}
-use Rattle.ol_cli.specs.Answers.{by_net_file, by_first, by_second, by_both, of_net_file, of_first}
-use Rattle.ol_cli.specs.Answers.{of_second, of_both, Cause, Ends, CauseOf}
+use Rattle.ol_cli.specs.Answers.{IsAnswer, Seen}
+use Rattle.ol_cli.specs.Cases.{JobAnswer, of_file, of_journal, made, seen}
+use Rattle.ol_cli.specs.Cases.{on_second, FileCause, JobCause, by_file, by_journal, by_making}
+use Rattle.ol_cli.specs.Cases.{by_net_file, by_first, by_second, by_both, of_net_file, of_first}
+use Rattle.ol_cli.specs.Answers.{Ends, AnswerTo}
+use Rattle.ol_cli.specs.Cases.{of_second, of_both, Cause, CauseOf}
 use Rattle.ol_cli.specs.Equal.{HasTree}
 use Rattle.ol_cli.specs.Generate.{plain_run}
 use Rattle.ol_cli.specs.Net.{NetFileAnswer}
 use Rattle.ol_cli.specs.Net as net_answers
 use Rattle.ol_cli.proofs.NetFiles.{IsOfNet, net_file_status}
+use Rattle.ol_cli.proofs.Views.{answer_of}
 use Rattle.ol_cli.proofs.Causes.{IsTold, cause_ended, cause_risen, cause_rose, cause_told, same_read, told_answer}
 use Rattle.ol_cli.specs.Shapes.{OnlyDone, DoneOrSpent}
 
@@ -74,12 +83,24 @@ spent_status P R NoMemory text h = h
 spent_status P R Limit text h = h
 spent_status P R BadNet text h = h
 
+ended_status : (fuel : ℕ) (journal : List Entry) (net : NamedNet NodeName) (st : Status) →
+    EndsBy fuel journal net st → IsOfTerm st
+ended_status fuel journal net Done h = tt
+ended_status fuel journal net Spent h = tt
+ended_status fuel journal net Usage h = h
+ended_status fuel journal net Syntax h = h
+ended_status fuel journal net ReadFault h = h
+ended_status fuel journal net WriteFault h = h
+ended_status fuel journal net NoMemory h = h
+ended_status fuel journal net Limit h = h
+ended_status fuel journal net BadNet h = h
+
 pub term_status : (asked : Asked) (t : Tree) (names : List (List ℕ)) (st : Status) (text : List ℕ) →
     TermAnswer asked t names st text → IsOfTerm st
 term_status (run tr w f q name) t names st text h = spent_status _ _ st text h
 term_status (walk tr e q name) t names st text h = done_status _ st text h
 term_status (view tr k name) t names st text h = done_status _ st text h
-term_status (trace tr w f name) t names st text h = spent_status _ _ st text h
+term_status (trace tr w f name) t names st text h = ended_status f h.journal h.net st h.ends
 term_status (demand tr f q name) t names st text h = spent_status _ _ st text h
 term_status (certify tr b w f q name) t names st text h = spent_status _ _ st text h
 term_status (jobs.Net tr true w f name) t names st text h = done_status _ st text h
@@ -97,7 +118,7 @@ file_told asked bytes Usage text h = absurd (term_status asked h.0 h.1 Usage tex
 file_told asked bytes WriteFault text h = absurd (term_status asked h.0 h.1 WriteFault text h.3)
 file_told asked bytes NoMemory text h = absurd (term_status asked h.0 h.1 NoMemory text h.3)
 
-file_no_fault : (asked : Asked) (text : List ℕ) (bytes : List ℕ) → FileAnswer asked bytes ReadFault text → ⊥
+pub file_no_fault : (asked : Asked) (text : List ℕ) (bytes : List ℕ) → FileAnswer asked bytes ReadFault text → ⊥
 file_no_fault asked text bytes h = term_status asked h.0 h.1 ReadFault text h.3
 
 journal_told : (tr : Translation) (t : Tree) (names : List (List ℕ)) (bytes : List ℕ) (st : Status)
@@ -187,7 +208,7 @@ file_answer : (s : Seen) → (Rose s.faults s.faults' → ⊥) → (asked : Aske
     FileCause asked s st text → FileAnswer asked bytes st text
 file_answer s quiet asked bytes told st text c =
     told_answer s _ _ _ (FileAnswer asked) text quiet bytes told st
-    (λ l is e. subst (λ st. FileAnswer asked bytes st text) (sym is) (long l e)) c
+    (λ l is e. subst (λ st. FileAnswer asked bytes st text) (sym is) (inl (l, e))) c
 
 module _ (words : List (String Global)) (f f' given : ℕ) (contents : Files) (ended : Bool) (quiet : Rose f f' → ⊥) where
   abbrev pub at_hand : Seen
@@ -225,16 +246,20 @@ module _ (words : List (String Global)) (f f' given : ℕ) (contents : Files) (e
       (moved tr n g.0 f q (same_read (contents 1 b) n g.0 g.1 gave.whole) u) is h
 
   module _ (tells : TellsFiles contents words) where
+    job : (st : Status) (text : List ℕ) → (asked : Asked) × AskFor words asked × JobCause at_hand st text asked →
+        (asked : Asked) × AskFor words asked × AnswerTo contents asked st text
+    job st text c = (c.0, c.1, answer_of contents st text c.0 (job_answer c.0 (tells c.0 c.1) st text c.2))
+
     pub cause_answer : (st : Status) (text : List ℕ) → Cause words at_hand st text → IsAnswer words contents st text
     cause_answer Usage text c = (c.0, c.2)
-    cause_answer ReadFault text c = (c.0, c.1, job_answer c.0 (tells c.0 c.1) ReadFault text c.2)
-    cause_answer Limit text c = (c.0, c.1, job_answer c.0 (tells c.0 c.1) Limit text c.2)
-    cause_answer BadNet text c = (c.0, c.1, job_answer c.0 (tells c.0 c.1) BadNet text c.2)
-    cause_answer Syntax text c = (c.0, c.1, job_answer c.0 (tells c.0 c.1) Syntax text c.2)
-    cause_answer Spent text c = (c.0, c.1, job_answer c.0 (tells c.0 c.1) Spent text c.2)
-    cause_answer Done text c = (c.0, c.1, job_answer c.0 (tells c.0 c.1) Done text c.2)
-    cause_answer WriteFault text c = (c.0, c.1, job_answer c.0 (tells c.0 c.1) WriteFault text c.2)
-    cause_answer NoMemory text c = (c.0, c.1, job_answer c.0 (tells c.0 c.1) NoMemory text c.2)
+    cause_answer ReadFault text c = job ReadFault text c
+    cause_answer Limit text c = job Limit text c
+    cause_answer BadNet text c = job BadNet text c
+    cause_answer Syntax text c = job Syntax text c
+    cause_answer Spent text c = job Spent text c
+    cause_answer Done text c = job Done text c
+    cause_answer WriteFault text c = job WriteFault text c
+    cause_answer NoMemory text c = job NoMemory text c
 
     told : (r st : Status) (text : List ℕ) (g g' : ℕ) (old new : Option (List ℕ)) → Cause words at_hand st text
         → (r ≡ st) × (g' ≡ g) × Appended old text new →
@@ -246,7 +271,7 @@ module _ (words : List (String Global)) (f f' given : ℕ) (contents : Files) (e
     )
 
     pub ends_exact : (r : Status) (g g' : ℕ) (old new : Option (List ℕ)) → (Rose g g' → ⊥) →
-        r ≢ NoMemory → Ends words at_hand r g g' old new
+        r ≢ NoMemory → Ends (Cause words at_hand) r g g' old new
         → (text : List ℕ) × IsAnswer words contents r text × Appended old text new
     ends_exact NoMemory g g' old new calm has e = absurd (has refl)
     ends_exact WriteFault g g' old new calm has e = absurd (calm e.3.0)
@@ -288,7 +313,7 @@ words_risen words s text NoMemory h p = job_risen p.0 s text NoMemory h p.2
 -- a fault of the source that has risen is told
 pub ends_risen : (words : List (String Global)) (s : Seen) (r : Status) (g g' : ℕ)
     (old new : Option (List ℕ)) → s.faults < s.faults' → (Rose g g' → ⊥)
-    → Ends words s r g g' old new → (r ≡ ReadFault) ⊎ (r ≡ NoMemory)
+    → Ends (Cause words s) r g g' old new → (r ≡ ReadFault) ⊎ (r ≡ NoMemory)
 ends_risen words s NoMemory g g' old new h calm e = inr refl
 ends_risen words s WriteFault g g' old new h calm e = absurd (calm e.3.0)
 ends_risen words s ReadFault g g' old new h calm e = inl refl
@@ -320,7 +345,7 @@ planned_usage words s text NoMemory lacks c = absurd (not_both words c.0 lacks c
 -- words that ask for no job are told so
 pub ends_usage : (words : List (String Global)) (s : Seen) (r : Status) (g g' : ℕ)
     (old new : Option (List ℕ)) → AskForNothing words
-    → Ends words s r g g' old new → (r ≡ Usage) ⊎ ((r ≡ WriteFault) ⊎ (r ≡ NoMemory))
+    → Ends (Cause words s) r g g' old new → (r ≡ Usage) ⊎ ((r ≡ WriteFault) ⊎ (r ≡ NoMemory))
 ends_usage words s NoMemory g g' old new lacks e = inr (inr refl)
 ends_usage words s WriteFault g g' old new lacks e = inr (inl refl)
 ends_usage words s ReadFault g g' old new lacks e = inl (e.3.0 ∙ planned_usage words s e.1 e.0 lacks e.2)
@@ -333,7 +358,7 @@ ends_usage words s BadNet g g' old new lacks e = inl (e.3.0 ∙ planned_usage wo
 
 -- ---- a read fault has risen
 
-job_fault : (asked : Asked) (s : Seen) (text : List ℕ) → JobCause s ReadFault text asked → Rose s.faults s.faults'
+pub job_fault : (asked : Asked) (s : Seen) (text : List ℕ) → JobCause s ReadFault text asked → Rose s.faults s.faults'
 job_fault asked s text (by_file has c) = cause_rose s _ _ _ (FileAnswer asked) text (file_no_fault asked text) c
 job_fault _ s text (by_journal {translation = tr} {t = t} {names = names} whole i c) = cause_rose
     (on_second s) _ _ _ (JournalAnswer tr t names) text (λ bytes h. h) c
@@ -350,7 +375,7 @@ job_fault _ s text (by_second {translation = tr} {workers = w} {fuel = f} {heads
 job_fault _ s text (by_both same whole t gave u is k) = absurd (cc)
 
 pub ends_fault : (words : List (String Global)) (s : Seen) (r : Status) (g g' : ℕ)
-    (old new : Option (List ℕ)) → Ends words s r g g' old new → r ≡ ReadFault → Rose s.faults s.faults'
+    (old new : Option (List ℕ)) → Ends (Cause words s) r g g' old new → r ≡ ReadFault → Rose s.faults s.faults'
 ends_fault words s ReadFault g g' old new e is = let c = subst (λ st. Cause words s st e.1)
     (sym e.3.0) e.2 in job_fault c.0 s e.1 c.2
 ends_fault words s NoMemory g g' old new e is = absurd (cc)
@@ -381,7 +406,7 @@ job_ended words _ s text some j (by_second whole t isnt c) = absurd (isnt refl)
 job_ended words _ s text some j (by_both same whole t gave u is k) = gave.to_end
 
 pub ends_done : (words : List (String Global)) (s : Seen) (r : Status) (g g' : ℕ)
-    (old new : Option (List ℕ)) → Ends words s r g g' old new → 0 < files_of words → r ≡ Done → s.ended ≡ true
+    (old new : Option (List ℕ)) → Ends (Cause words s) r g g' old new → 0 < files_of words → r ≡ Done → s.ended ≡ true
 ends_done words s Done g g' old new e some is = let c = subst (λ st. Cause words s st e.1)
     (sym e.3.0) e.2 in job_ended words c.0 s e.1 some c.1 c.2
 ends_done words s ReadFault g g' old new e some is = absurd (cc)
@@ -397,7 +422,7 @@ ends_done words s BadNet g g' old new e some is = absurd (cc)
 
 pub written_ends : (words : List (String Global)) (s : Seen) (st : Status) (text : List ℕ)
     (g g' : ℕ) (old new : Option (List ℕ)) → Cause words s st text → g' ≡ g →
-    Appended old text new → Ends words s st g g' old new
+    Appended old text new → Ends (Cause words s) st g g' old new
 written_ends words s NoMemory text g g' old new c same w = absurd (job_told s NoMemory text c.0 c.2)
 written_ends words s WriteFault text g g' old new c same w = absurd (job_told s WriteFault text c.0 c.2)
 written_ends words s ReadFault text g g' old new c same w = (ReadFault, text, c, (refl, same, w))
@@ -423,7 +448,7 @@ after_term faults mid faults' given contents ended most limit name A st text e h
 
 -- it has risen
 pub ends_write : (words : List (String Global)) (s : Seen) (r : Status) (g g' : ℕ)
-    (old new : Option (List ℕ)) → Ends words s r g g' old new → r ≡ WriteFault → Rose g g'
+    (old new : Option (List ℕ)) → Ends (Cause words s) r g g' old new → r ≡ WriteFault → Rose g g'
 ends_write words s WriteFault g g' old new e is = e.3.0
 ends_write words s NoMemory g g' old new e is = absurd (cc)
 ends_write words s ReadFault g g' old new e is = absurd (cc)
@@ -436,7 +461,7 @@ ends_write words s BadNet g g' old new e is = absurd (cc)
 
 -- one that has risen is told
 pub ends_write_told : (words : List (String Global)) (s : Seen) (r : Status) (g g' : ℕ)
-    (old new : Option (List ℕ)) → g < g' → Ends words s r g g' old new → r ≡ WriteFault
+    (old new : Option (List ℕ)) → g < g' → Ends (Cause words s) r g g' old new → r ≡ WriteFault
 ends_write_told words s WriteFault g g' old new h e = refl
 ends_write_told words s NoMemory g g' old new h e = let same = e.1 in absurd (omega (arith, same))
 ends_write_told words s ReadFault g g' old new h e = let same = e.3.1 in absurd (omega (arith, same))
@@ -449,7 +474,7 @@ ends_write_told words s BadNet g g' old new h e = let same = e.3.1 in absurd (om
 
 -- words to which the usage is told ask for nothing
 pub ends_asked : (words : List (String Global)) (s : Seen) (r : Status) (g g' : ℕ)
-    (old new : Option (List ℕ)) → Ends words s r g g' old new → r ≡ Usage → AskForNothing words
+    (old new : Option (List ℕ)) → Ends (Cause words s) r g g' old new → r ≡ Usage → AskForNothing words
 ends_asked words s Usage g g' old new e is = let c = subst (λ st. Cause words s st e.1) (sym e.3.0) e.2 in c.0
 ends_asked words s WriteFault g g' old new e is = absurd (cc)
 ends_asked words s NoMemory g g' old new e is = absurd (cc)

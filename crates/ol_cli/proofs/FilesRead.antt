@@ -7,7 +7,8 @@ use Rattle.ol_cli.specs.declared.files.FileKind.{FileKind}
 use Rattle.ol_cli.specs.declared.ready.Ready.{Ready}
 use Rattle.ol_cli.specs.declared.ready.Ready.TheVariants as ready
 use Rattle.ol_cli.specs.declared.status.Status.{Status}
-use Rattle.ol_cli.specs.Answers.{Seen, GaveAll, CauseOf, given}
+use Rattle.ol_cli.specs.Answers.{Seen}
+use Rattle.ol_cli.specs.Cases.{GaveAll, CauseOf, given}
 use Rattle.ol_cli.specs.Files.{RefusesFile, limit_text, most_bytes}
 use Rattle.ol_cli.specs.Ready.{ComesOfTerm, IsMadeReady, IsNetReady}
 use Rattle.ol_cli.proofs.Causes.{cause_map}

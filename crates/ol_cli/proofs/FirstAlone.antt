@@ -11,7 +11,8 @@ use Rattle.ol_words.specs.declared.jobs.Job.{Job as Asked}
 use Rattle.ol_words.specs.declared.jobs.Job.TheVariants.{Check as check, Equal as equal, Run as run}
 use Rattle.ol_cli.specs.declared.numbers.RunNumbers.{RunNumbers}
 use Rattle.ol_cli.specs.Jobs.{AskFor}
-use Rattle.ol_cli.specs.TermFiles.{IsTermFile, FileAnswer}
+use Rattle.ol_cli.specs.TermFiles.{IsTermFile}
+use Rattle.ol_cli.specs.Cases.{FileAnswer}
 use Rattle.ol_cli.specs.Answers.{RefusesFirst}
 use Rattle.ol_cli.specs.Sides.{IsReadOf}
 use Rattle.ol_cli.proofs.BothFiles.{has_tree}

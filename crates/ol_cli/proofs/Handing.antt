@@ -1,5 +1,6 @@
 -- What is handed back of a term is handed back of its file, of the source's bytes, and of the words.
 use Rattle.std.proofs.Common.{◌≡◌, ℕ, List, length, Option, None, String, Global, count_by, is_some, sym, ap, ◌∙◌}
+use Rattle.std.proofs.Common.{inl}
 use Rattle.ol_io.specs.Outside.{Appended}
 use Rattle.ol_term.specs.Trees.{Tree}
 use Rattle.ol_net.specs.declared.parts.Kind.{Kind}
@@ -13,7 +14,8 @@ use Rattle.ol_cli.specs.declared.status.Status.{Status}
 use Rattle.ol_cli.specs.declared.status.Status.TheVariants as status
 use Rattle.ol_cli.specs.Jobs.{AskFor, file_name, translation_in}
 use Rattle.ol_cli.specs.TermFiles.{IsTermFile}
-use Rattle.ol_cli.specs.Answers.{Seen, GaveAll}
+use Rattle.ol_cli.specs.Answers.{Seen}
+use Rattle.ol_cli.specs.Cases.{GaveAll}
 use Rattle.ol_cli.specs.TermFiles.{TermHands, FileHands}
 use Rattle.ol_cli.specs.Handed.{ReadHands, JobHands, WordsHand, WhereEnded}
 
@@ -106,7 +108,8 @@ pub read_hands : (asked : Asked) (s : Seen) (bytes : List ℕ) (st : Status) (te
     WhereEnded st closed (FileHands asked bytes st text closed) →
     WhereEnded st closed (ReadHands asked s st text closed)
 read_hands asked s bytes st text closed gave h = where_ended st closed
-    (FileHands asked bytes st text closed) (ReadHands asked s st text closed) (λ h. (bytes, gave, h)) h
+    (FileHands asked bytes st text closed) (ReadHands asked s st text closed)
+    (λ h. (bytes, (gave.whole, inl (gave.counted, gave.within, gave.to_end)), h)) h
 
 pub words_hand : (words : List (String Global)) (asked : Asked) (s : Seen) (st : Status)
     (text : List ℕ) (closed : Option ClosedTable) → AskFor words asked →

@@ -16,8 +16,8 @@ use Rattle.ol_translate.specs.Translation.{translation_of}
 use Rattle.ol_view.specs.declared.answers.Check.{Check}
 use Rattle.ol_view.specs.declared.forms.Form.{Form}
 use Rattle.ol_view.specs.declared.forms.Form.TheVariants.{One, Two}
-use Rattle.ol_view.specs.Checks.{BeginsWithRun, IsRunTold, AreIdle, IsOtherwise, IsFound, complete}
-use Rattle.ol_view.specs.Checks.{run, no_header, bad_text, not_a_run, OnlyIsFound}
+use Rattle.ol_view.specs.Checks.{BeginsWithRun, IsRunTold, AreIdle, IsOtherwise, IsFound, OnlyIsFound}
+use Rattle.ol_view.proofs.FoundCases.{FoundCase, found_of, case_of, complete, run, no_header, bad_text, not_a_run}
 use Rattle.ol_view.specs.Checks as view
 use Rattle.ol_cli.specs.Run.{start_net_of_term}
 use Rattle.ol_cli.proofs.WavesKept.{waves_kept}
@@ -52,23 +52,27 @@ otherwise_to Two N N' M M' same last journal waves entry wave h = λ next r.
     let b = told_to Two N' N (same_sym N N' same) (journal ++ entry ∷ []) (waves ++ wave ∷ []) next r in
     h b.0 b.1
 
-found_to : (N N' : NamedNet NodeName) → SameNet N N' → (text : List ℕ) (v : Check) →
-    IsFound N text v → IsFound N' text v
-found_to N N' same text _ (complete {form = form} {journal = journal} {waves = waves} {last = last} b c) =
+case_to : (N N' : NamedNet NodeName) → SameNet N N' → (text : List ℕ) (v : Check) →
+    FoundCase N text v → FoundCase N' text v
+case_to N N' same text _ (complete {form = form} {journal = journal} {waves = waves} {last = last} b c) =
     let t = begins_to form N N' same text journal waves last [] b in
     complete {form = form} t.1 (complete_same last t.0 t.2 c)
-found_to N N' same text _ (run {form = form} {journal = journal} {waves = waves} {last = last} b a) =
+case_to N N' same text _ (run {form = form} {journal = journal} {waves = waves} {last = last} b a) =
     let t = begins_to form N N' same text journal waves last [] b in
     run {form = form} t.1 (a.0, a.1, a.2, active_same last t.0 t.2 a.0 a.1 a.2 a.3)
-found_to N N' same text _ (no_header n) = no_header n
-found_to N N' same text _ (bad_text {form = form} {journal = journal} {waves = waves} {last = last}
+case_to N N' same text _ (no_header n) = no_header n
+case_to N N' same text _ (bad_text {form = form} {journal = journal} {waves = waves} {last = last}
     {rest = rest} b n h) =
     let t = begins_to form N N' same text journal waves last rest b in bad_text {form = form} t.1 n h
-found_to N N' same text _ (not_a_run {form = form} {journal = journal} {waves = waves} {last = last}
+case_to N N' same text _ (not_a_run {form = form} {journal = journal} {waves = waves} {last = last}
     {rest = rest} entry wave more b l h i) =
     let t = begins_to form N N' same text journal waves last rest b in
     not_a_run {form = form} entry wave more t.1 l h
     (otherwise_to form N N' last t.0 same t.2 journal waves entry wave i)
+
+found_to : (N N' : NamedNet NodeName) → SameNet N N' → (text : List ℕ) (v : Check) →
+    IsFound N text v → IsFound N' text v
+found_to N N' same text v h = found_of (case_to N N' same text v (case_of h))
 
 pub own_found : (tr : Translation) (t : Tree) (names : List (List ℕ)) (net : Graph) →
     SameNet (net_of net) (translation_of tr t (length names)) → (text : List ℕ) (v : Check) →

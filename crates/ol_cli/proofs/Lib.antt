@@ -1,7 +1,9 @@
 mod Causes
+mod Views
 mod Exact
 mod Evaluated
 mod OneAnswer
+mod Causing
 mod Complete
 mod NamedNets
 mod ListedOnce

@@ -5,8 +5,9 @@ use Rattle.ol_term.specs.Generated.{doubled_text}
 use Rattle.ol_words.specs.declared.jobs.Job.TheVariants.{Gen as gen}
 use Rattle.ol_cli.specs.declared.answer.Answer.{Answer}
 use Rattle.ol_cli.specs.declared.status.Status.TheVariants.{Done}
-use Rattle.ol_cli.specs.Answers.{Seen, by_making}
-use Rattle.ol_cli.specs.TermFiles.{FileAnswer}
+use Rattle.ol_cli.specs.Answers.{Seen}
+use Rattle.ol_cli.specs.Cases.{by_making}
+use Rattle.ol_cli.specs.Cases.{FileAnswer}
 use Rattle.ol_cli.specs.Generate.{plain_run}
 use Rattle.ol_cli.specs.TermFiles.{FileHands}
 use Rattle.ol_cli.specs.Handed.{WhereEnded}

@@ -29,9 +29,11 @@ use Rattle.ol_cli.specs.declared.status.Status.{Status}
 use Rattle.ol_cli.specs.declared.status.Status.TheVariants.{Done, Usage, Syntax, Spent, ReadFault}
 use Rattle.ol_cli.specs.declared.status.Status.TheVariants.{WriteFault, NoMemory, Limit, BadNet}
 use Rattle.ol_cli.specs.Laws.{HaveOneText}
-use Rattle.ol_cli.specs.Texts.{line, nodes_text, spent_text, counts_text}
+use Rattle.ol_cli.specs.Texts.{line, counts_text}
+use Rattle.ol_cli.specs.RefusalTexts.{nodes_text, spent_text}
 use Rattle.ol_cli.specs.Run.{RunsOut}
-use Rattle.ol_cli.specs.Net.{long, start_net, NetRunEnds, IsPastNodes, PrintsNet, NetAnswer}
+use Rattle.ol_cli.specs.Net.{long, start_net, NetRunEnds, PrintsNet, NetAnswer}
+use Rattle.ol_cli.specs.Cases.{IsPastNodes}
 use Rattle.ol_cli.specs.Net.{IsNetFile, NetFileAnswer, bad, of_net}
 use Rattle.ol_cli.proofs.Handing.{whole_net}
 use Rattle.ol_cli.proofs.NetRuns.{one_left, left_or_runs_out}
@@ -123,7 +125,7 @@ data OfNet (net : Graph) (fuel : ℕ) : Status → List ℕ → Type 0 where
 of_net_answer : (net : Graph) (fuel : ℕ) (st : Status) (text : List ℕ) →
     NetAnswer net fuel st text → OfNet net fuel st text
 of_net_answer net fuel Spent text h = runs_out h.0 h.1
-of_net_answer net fuel Limit text h = large h.0 h.1
+of_net_answer net fuel Limit text h = large (h.0, h.1.0) h.1.1
 of_net_answer net fuel Done text h = printed h
 of_net_answer net fuel BadNet text h = absurd h
 of_net_answer net fuel Usage text h = absurd h

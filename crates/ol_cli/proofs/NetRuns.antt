@@ -30,7 +30,8 @@ use Rattle.ol_view.specs.Laws.{IsTable}
 use Rattle.ol_cli.specs.Run.{RunsOut, RunEnds, journal_of}
 use Rattle.ol_cli.specs.Laws.{OneNetIsLeft}
 use Rattle.ol_cli.specs.Listing.{ListsOnce}
-use Rattle.ol_cli.specs.Net.{start_net, NetRunEnds, TellsLast, PrintsNet, IsPastNodes}
+use Rattle.ol_cli.specs.Net.{start_net, NetRunEnds, TellsLast, PrintsNet}
+use Rattle.ol_cli.specs.Cases.{IsPastNodes}
 use Rattle.ol_cli.specs.NetLines.{AreLinesOf}
 use Rattle.ol_cli.specs.Texts.{counts_text}
 use Rattle.ol_cli.proofs.AnyRun.{ends_once}

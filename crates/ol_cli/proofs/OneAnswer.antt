@@ -1,7 +1,10 @@
 -- Words that ask for one job, but for the number of its workers, have with the same files one status, and one text as
 -- far as the job tells one.
 use Rattle.std.proofs.Common.{◌≡◌, ◌≢◌, ℕ, ◌<◌, ◌≤◌, Bool, true, false, List, length, Option, Some}
-use Rattle.std.proofs.Common.{refl, sym, ap, ◌∙◌, subst, arith, String, Global}
+use Rattle.ol_cli.proofs.AnyRun.{any_run_ends, any_run_runs_out}
+use Rattle.ol_cli.proofs.Views.{answer_cases}
+use Rattle.ol_cli.specs.Trace.{Traces}
+use Rattle.std.proofs.Common.{inl, inr, refl, sym, ap, ◌∙◌, subst, arith, String, Global}
 use Rattle.ol_term.specs.declared.translations.Translation.{Translation}
 use Rattle.ol_term.specs.Trees.{Tree, depth}
 use Rattle.ol_term.specs.Generated.{doubled_text}
@@ -38,19 +41,23 @@ use Rattle.ol_cli.specs.declared.status.Status.TheVariants.{Done, Usage, Syntax,
 use Rattle.ol_cli.specs.declared.status.Status.TheVariants.{WriteFault, NoMemory, Limit, BadNet}
 use Rattle.ol_cli.specs.Jobs.{Files, AskFor, AskForNothing, file_name, translation_in}
 use Rattle.ol_cli.specs.Laws.{HaveOneText}
-use Rattle.ol_cli.specs.Texts.{line, usage_text, bytes_text, depth_text, nodes_text, journal_text}
-use Rattle.ol_cli.specs.Texts.{syntax_text, spent_text}
+use Rattle.ol_cli.specs.Texts.{line, usage_text}
+use Rattle.ol_cli.specs.RefusalTexts.{bytes_text, depth_text, nodes_text, journal_text}
+use Rattle.ol_cli.specs.RefusalTexts.{syntax_text, spent_text}
 use Rattle.ol_cli.specs.Check.{found_text}
 use Rattle.ol_cli.specs.Run.{start_net_of_term, RunsOut, RunEnds, Prints, ReadsLast}
 use Rattle.ol_cli.specs.Walk.{Walks}
 use Rattle.ol_cli.specs.View.{Views}
 use Rattle.ol_cli.specs.Certify.{Certifies}
-use Rattle.ol_cli.specs.Demand.{Demands, DemandRunsOut}
+use Rattle.ol_cli.specs.Demand.{Demands}
+use Rattle.ol_cli.specs.Cases.{DemandRunsOut}
 use Rattle.ol_cli.specs.Net.{WritesNet, NetFileAnswer}
-use Rattle.ol_cli.specs.TermFiles.{long, deep, large, IsTermFile, TermAnswer, FileAnswer}
+use Rattle.ol_cli.specs.TermFiles.{IsTermFile}
+use Rattle.ol_cli.specs.Cases.{TermAnswer, FileAnswer}
 use Rattle.ol_cli.specs.Check.{JournalAnswer}
-use Rattle.ol_cli.specs.Answers.{JobAnswer, of_file, of_journal, made, of_net_file, of_first}
-use Rattle.ol_cli.specs.Answers.{of_second, of_both, IsAnswer}
+use Rattle.ol_cli.specs.Cases.{JobAnswer, of_file, of_journal, made, of_net_file, of_first}
+use Rattle.ol_cli.specs.Answers.{IsAnswer}
+use Rattle.ol_cli.specs.Cases.{of_second, of_both}
 use Rattle.ol_cli.specs.Equal.{HasTree, Compares}
 use Rattle.ol_cli.specs.Generate.{Makes, plain_run}
 use Rattle.ol_cli.proofs.OnePrint.{ends_or_not, ends_or_runs_out, reads_or_runs_out, one_last_tree}
@@ -99,6 +106,16 @@ pub file_net : (tr : Translation) (bytes : List ℕ) (t : Tree) (names : List (L
     IsFileOf bytes t names → IsNet (translation_of tr t (length names))
 file_net tr bytes t names f = translation_net tr t (length names) (file_names bytes t names f)
 
+-- a trace of a complete run within the fuel, or of one that is as long and goes on, tells how the
+-- one-thread run ends
+module _ (tr : Translation) (t : Tree) (names : List (List ℕ)) (fuel : ℕ)
+    (n : IsNet (translation_of tr t (length names))) (x : List ℕ) where
+  pub trace_ends : Traces tr t names fuel Done x → RunEnds (start_net_of_term tr t names) fuel
+  trace_ends h = any_run_ends tr t names fuel n h.journal h.net h.run h.ends.0 h.ends.1
+
+  pub trace_runs_out : Traces tr t names fuel Spent x → RunsOut (start_net_of_term tr t names) fuel
+  trace_runs_out h = any_run_runs_out tr t names fuel n h.journal h.net h.run (inr (h.ends.1, h.ends.0))
+
 -- what a job answers to a term, by cases
 pub data OfTerm (t : Tree) (names : List (List ℕ)) : Asked → Status → List ℕ → Type 0 where
   spent : {tr : Translation} {w fuel heads : ℕ} {name x : List ℕ} → RunsOut (start_net_of_term tr t names) fuel →
@@ -109,7 +126,7 @@ pub data OfTerm (t : Tree) (names : List (List ℕ)) : Asked → Status → List
       OfTerm t names (walk tr edges heads name) Done x
   viewed : {tr : Translation} {after : ℕ} {name x : List ℕ} → Views tr t names after x →
       OfTerm t names (view tr after name) Done x
-  traced : {tr : Translation} {w fuel : ℕ} {name x : List ℕ} → RunEnds (start_net_of_term tr t names) fuel →
+  traced : {tr : Translation} {w fuel : ℕ} {name x : List ℕ} → Traces tr t names fuel Done x →
       OfTerm t names (trace tr w fuel name) Done x
   demanded : {tr : Translation} {fuel heads : ℕ} {name x : List ℕ} →
       Demands tr t names fuel heads x → OfTerm t names (demand tr fuel heads name) Done x
@@ -120,7 +137,7 @@ pub data OfTerm (t : Tree) (names : List (List ℕ)) : Asked → Status → List
   uncertified : {tr : Translation} {b w fuel heads : ℕ} {name x : List ℕ} →
       RunsOut (start_net_of_term tr t names) fuel → x ≡ spent_text fuel →
       OfTerm t names (certify tr b w fuel heads name) Spent x
-  stopped : {tr : Translation} {w fuel : ℕ} {name x : List ℕ} → RunsOut (start_net_of_term tr t names) fuel →
+  stopped : {tr : Translation} {w fuel : ℕ} {name x : List ℕ} → Traces tr t names fuel Spent x →
       OfTerm t names (trace tr w fuel name) Spent x
   netted : {tr : Translation} {w fuel : ℕ} {name x : List ℕ} → WritesNet tr t names x →
       OfTerm t names (jobs.Net tr true w fuel name) Done x
@@ -154,15 +171,15 @@ of_term t names (view tr k name) WriteFault x h = absurd h
 of_term t names (view tr k name) NoMemory x h = absurd h
 of_term t names (view tr k name) Limit x h = absurd h
 of_term t names (view tr k name) BadNet x h = absurd h
-of_term t names (trace tr w f name) Done x h = traced h.0
-of_term t names (trace tr w f name) Spent x h = stopped h.0
-of_term t names (trace tr w f name) Usage x h = absurd h
-of_term t names (trace tr w f name) Syntax x h = absurd h
-of_term t names (trace tr w f name) ReadFault x h = absurd h
-of_term t names (trace tr w f name) WriteFault x h = absurd h
-of_term t names (trace tr w f name) NoMemory x h = absurd h
-of_term t names (trace tr w f name) Limit x h = absurd h
-of_term t names (trace tr w f name) BadNet x h = absurd h
+of_term t names (trace tr w f name) Done x h = traced h
+of_term t names (trace tr w f name) Spent x h = stopped h
+of_term t names (trace tr w f name) Usage x h = absurd h.ends
+of_term t names (trace tr w f name) Syntax x h = absurd h.ends
+of_term t names (trace tr w f name) ReadFault x h = absurd h.ends
+of_term t names (trace tr w f name) WriteFault x h = absurd h.ends
+of_term t names (trace tr w f name) NoMemory x h = absurd h.ends
+of_term t names (trace tr w f name) Limit x h = absurd h.ends
+of_term t names (trace tr w f name) BadNet x h = absurd h.ends
 of_term t names (check tr term journal) s x h = absurd h
 of_term t names (gen tr runs k) s x h = absurd h
 of_term t names (demand tr fuel heads name) Spent x h = undemanded h.0 h.1
@@ -218,9 +235,9 @@ one_of_term t names a n s s' x x' (walked {tr = tr} {edges = edges} {heads = hea
     (walked w') = (refl, one_walk tr t names n edges heads x x' w w')
 one_of_term t names a n s s' x x' (traced e) (traced e') = (refl, tt)
 one_of_term t names a n s s' x x' (traced {tr = tr} {fuel = fuel} e) (stopped r) = absurd
-    (ends_or_runs_out tr t names n fuel r e)
+    (ends_or_runs_out tr t names n fuel (trace_runs_out tr t names fuel n x' r) (trace_ends tr t names fuel n x e))
 one_of_term t names a n s s' x x' (stopped {tr = tr} {fuel = fuel} r) (traced e) = absurd
-    (ends_or_runs_out tr t names n fuel r e)
+    (ends_or_runs_out tr t names n fuel (trace_runs_out tr t names fuel n x r) (trace_ends tr t names fuel n x' e))
 one_of_term t names a n s s' x x' (stopped r) (stopped r') = (refl, tt)
 one_of_term t names a n s s' x x' (netted {tr = tr} w) (netted w') = (refl, one_net_text tr t names x x' w w')
 one_of_term t names a n s s' x x' (undemanded r e) (undemanded r' e') = (refl, e ∙ sym e')
@@ -275,9 +292,9 @@ pub data OfFile (asked : Asked) (bytes : List ℕ) (s : Status) (x : List ℕ) :
 
 pub of_file_answer : (asked : Asked) (bytes : List ℕ) (s : Status) (x : List ℕ) →
     FileAnswer asked bytes s x → OfFile asked bytes s x
-of_file_answer asked bytes Limit x (long l e) = too_long l (refl, e)
-of_file_answer asked bytes Limit x (deep l {t = t} {names = names} f d e) = has_term l t names f (too_deep d (refl, e))
-of_file_answer asked bytes Limit x (large l {t = t} {names = names} f d z e) = has_term l t names f
+of_file_answer asked bytes Limit x (inl (l, e)) = too_long l (refl, e)
+of_file_answer asked bytes Limit x (inr (l, t, names, f, inl (d, e))) = has_term l t names f (too_deep d (refl, e))
+of_file_answer asked bytes Limit x (inr (l, t, names, f, inr (d, (z, e)))) = has_term l t names f
     (too_large d z (refl, e))
 of_file_answer asked bytes Syntax x (at, l, r, e) = refused l at r (refl, e)
 of_file_answer asked bytes Done x (t, names, i, h) = has_term i.short t names i.file (done i.shallow i.small h)
@@ -572,14 +589,14 @@ pub data OfWords (words : List (String Global)) (files : Files) (s : Status) (x 
 pub of_words : (words : List (String Global)) (files : Files) (s : Status) (x : List ℕ) →
     IsAnswer words files s x → OfWords words files s x
 of_words words files Usage x a = no_job a.0 (refl, a.1)
-of_words words files Syntax x a = job a.0 a.1 a.2
-of_words words files Spent x a = job a.0 a.1 a.2
-of_words words files Done x a = job a.0 a.1 a.2
-of_words words files ReadFault x a = job a.0 a.1 a.2
-of_words words files WriteFault x a = job a.0 a.1 a.2
-of_words words files NoMemory x a = job a.0 a.1 a.2
-of_words words files Limit x a = job a.0 a.1 a.2
-of_words words files BadNet x a = job a.0 a.1 a.2
+of_words words files Syntax x a = job a.0 a.1 (answer_cases files Syntax x a.0 a.2)
+of_words words files Spent x a = job a.0 a.1 (answer_cases files Spent x a.0 a.2)
+of_words words files Done x a = job a.0 a.1 (answer_cases files Done x a.0 a.2)
+of_words words files ReadFault x a = job a.0 a.1 (answer_cases files ReadFault x a.0 a.2)
+of_words words files WriteFault x a = job a.0 a.1 (answer_cases files WriteFault x a.0 a.2)
+of_words words files NoMemory x a = job a.0 a.1 (answer_cases files NoMemory x a.0 a.2)
+of_words words files Limit x a = job a.0 a.1 (answer_cases files Limit x a.0 a.2)
+of_words words files BadNet x a = job a.0 a.1 (answer_cases files BadNet x a.0 a.2)
 
 -- words ask for one job
 pub one_job : (words : List (String Global)) (a b : Asked) → AskFor words a → AskFor words b → a ≡ b

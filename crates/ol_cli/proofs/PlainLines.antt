@@ -17,11 +17,12 @@ use Rattle.ol_words.specs.declared.jobs.Job.TheVariants.{Equal as equal}
 use Rattle.ol_words.specs.Asked.{run_verb, walk_verb, demand_verb, equal_verb, is_input}
 use Rattle.ol_words.specs.Jobs.{job_of, job_on}
 use Rattle.ol_lines.proofs.Read.{line_is_normal_form, lost_has_no_normal_form}
+use Rattle.ol_cli.specs.NormalForms.{PlainDemandSays, FirstLine, IsFoundWithin}
 use Rattle.ol_cli.specs.Jobs.{AskFor, AreTold, TellsFiles, TellsTerm, term_bytes, Files}
 use Rattle.ol_cli.specs.Sources.{WritesTree}
 use Rattle.ol_cli.specs.NormalForms.{ArePlain, LineIsOf, PlainLineSays}
-use Rattle.ol_cli.specs.NormalForms.{ArePlainTwo, PlainEqualSays, PlainDemandFinds, LineSaysOfTwo}
-use Rattle.ol_cli.specs.NormalForms.{PlainDemandIsFrugal, PlainDemandIsOptimal, CountsSay}
+use Rattle.ol_cli.specs.NormalForms.{ArePlainTwo, PlainEqualSays, LineSaysOfTwo}
+use Rattle.ol_cli.specs.NormalForms.{CountsSay}
 use Rattle.ol_cli.specs.NormalForms.{IsNoMoreThanLeftmost, AreFamilies}
 use Rattle.ol_cli.specs.Demand.{Demands}
 use Rattle.ol_families.proofs.AllFamilies.{runs_are_of_families}
@@ -187,7 +188,8 @@ plain_writes words files old new w verb name p (inr (inr e)) bytes has source is
 
 -- what is said of `demand` with any options, without options
 pub plain_demand : (words : List (String Global)) (files : Files) (old new : Option (List ℕ)) →
-    Writes words files old new → PlainDemandFinds words files old new
+    Writes words files old new →
+    PlainDemandSays (λ source. FirstLine (IsFoundWithin 4096 source)) words files old new
 plain_demand words files old new w name p bytes has source is =
     let j = asks_demand p refl in
     let told = tells_of words (files 0) (demand Two 200000 4096 name) bytes j has in
@@ -221,7 +223,8 @@ counts_say Says holds words files old new w name p bytes has source is =
     }
 
 pub plain_frugal : (words : List (String Global)) (files : Files) (old new : Option (List ℕ)) →
-    Writes words files old new → PlainDemandIsFrugal words files old new
+    Writes words files old new →
+    PlainDemandSays (λ source. CountsSay (λ line. IsNoMoreThanLeftmost source)) words files old new
 plain_frugal words files old new w = counts_say (λ source line. IsNoMoreThanLeftmost source) frugal words files old new w
   where
     frugal : HoldsOfRuns (λ source line. IsNoMoreThanLeftmost source)
@@ -239,7 +242,8 @@ all_or_not (node.NoHead ∷ ns) = inr (λ h. h)
 all_or_not (node.Cut ∷ ns) = inr (λ h. h)
 
 pub plain_optimal : (words : List (String Global)) (files : Files) (old new : Option (List ℕ)) →
-    Writes words files old new → PlainDemandIsOptimal words files old new
+    Writes words files old new →
+    PlainDemandSays (λ source. CountsSay (AreFamilies source)) words files old new
 plain_optimal words files old new w = counts_say AreFamilies optimal words files old new w
   where
     optimal : HoldsOfRuns AreFamilies

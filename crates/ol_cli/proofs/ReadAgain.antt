@@ -17,7 +17,8 @@ use Rattle.ol_words.specs.declared.jobs.Job.TheVariants as jobs
 use Rattle.ol_cli.specs.declared.status.Status.{Status}
 use Rattle.ol_cli.specs.declared.status.Status.TheVariants as status
 use Rattle.ol_cli.specs.Inside.{IsReadWhereTold}
-use Rattle.ol_cli.specs.Jobs.{AskFor, HasTermFile, TellsTerm, file_name, term_bytes}
+use Rattle.ol_cli.specs.Jobs.{AskFor, TellsTerm, file_name, term_bytes}
+use Rattle.ol_cli.specs.Cases.{HasTermFile}
 use Rattle.ol_cli.specs.Run.{Prints}
 use Rattle.ol_cli.specs.Walk.{Walks}
 use Rattle.ol_cli.specs.Demand.{Demands}

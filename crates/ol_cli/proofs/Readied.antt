@@ -15,7 +15,8 @@ use Rattle.ol_cli.specs.declared.status.Status.{Status}
 use Rattle.ol_cli.specs.declared.status.Status.TheVariants.{Done, Usage, Syntax, Spent, ReadFault}
 use Rattle.ol_cli.specs.declared.status.Status.TheVariants.{WriteFault, NoMemory, Limit, BadNet}
 use Rattle.ol_cli.specs.Jobs.{translation_in}
-use Rattle.ol_cli.specs.TermFiles.{IsTermFile, TermAnswer, FileAnswer}
+use Rattle.ol_cli.specs.TermFiles.{IsTermFile}
+use Rattle.ol_cli.specs.Cases.{TermAnswer, FileAnswer}
 use Rattle.ol_cli.specs.ReadAgain.{FileIsReadAgain}
 use Rattle.ol_cli.specs.Handed.{WhereEnded}
 use Rattle.ol_cli.specs.Ready.{Refuses, IsReady}

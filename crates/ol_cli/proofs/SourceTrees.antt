@@ -30,9 +30,9 @@ use Rattle.ol_cli.specs.Texts.{line}
 use Rattle.ol_cli.specs.declared.status.Status.{Status}
 use Rattle.ol_cli.specs.declared.status.Status.TheVariants.{Done}
 use Rattle.ol_cli.specs.Equal.{HasTree}
-use Rattle.ol_cli.specs.TermFiles.{FileAnswer}
-use Rattle.ol_cli.specs.Answers.{JobAnswer, of_file, of_first, of_second}
-use Rattle.ol_cli.specs.Answers.{of_both}
+use Rattle.ol_cli.specs.Cases.{FileAnswer}
+use Rattle.ol_cli.specs.Cases.{JobAnswer, of_file, of_first, of_second}
+use Rattle.ol_cli.specs.Cases.{of_both}
 use Rattle.ol_cli.specs.Answers.{IsAnswer}
 use Rattle.ol_cli.specs.Jobs.{Files}
 use Rattle.ol_cli.specs.Run.{start_net_of_term, ReadsLast}

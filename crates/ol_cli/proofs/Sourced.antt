@@ -38,12 +38,16 @@ use Rattle.ol_cli.specs.declared.status.Status.TheVariants as status
 use Rattle.ol_cli.specs.Jobs.{AskFor, Files, AreTold, TellsTerm, TellsFiles, term_bytes, translation_in}
 use Rattle.ol_cli.specs.Run.{start_net_of_term, Prints}
 use Rattle.ol_cli.specs.Walk.{Walks}
-use Rattle.ol_cli.specs.Demand.{Demands, DemandRunsOut}
-use Rattle.ol_cli.specs.Answers.{Ends, JobAnswer, of_file, made, IsAnswer}
-use Rattle.ol_cli.specs.TermFiles.{IsTermFile, TermAnswer, FileAnswer}
+use Rattle.ol_cli.specs.Demand.{Demands}
+use Rattle.ol_cli.specs.Cases.{DemandRunsOut}
+use Rattle.ol_cli.specs.Cases.{Cause}
+use Rattle.ol_cli.specs.Answers.{Ends, IsAnswer}
+use Rattle.ol_cli.specs.Cases.{JobAnswer, of_file, made}
+use Rattle.ol_cli.specs.TermFiles.{IsTermFile}
+use Rattle.ol_cli.specs.Cases.{TermAnswer, FileAnswer}
 use Rattle.ol_cli.specs.Generate.{plain_run}
 use Rattle.ol_cli.specs.Sources.{PrintsTree, WalksTree, DemandsTree, TellsTree, WritesTree}
-use Rattle.ol_cli.specs.Sources.{RunTells, DemandTells, JobTells, SpentTells, FuelTells, IsLast}
+use Rattle.ol_cli.specs.Sources.{RunTells, JobTells, FuelTells, IsLast}
 use Rattle.ol_cli.specs.Sources.{TermTells, EveryRunTells}
 use Rattle.ol_cli.specs.ReadAgain.{TextIsReadAgain, WritesReadable}
 use Rattle.ol_rules.proofs.LeadRuns.{as_run}
@@ -180,7 +184,7 @@ module _ (tr : Translation) (bytes : List ℕ) (fuel heads : ℕ) (name : Text) 
       (subst (λ names. TermAnswer (demand tr fuel heads name) h.0 names status.Spent text) same.1 h.3)).0
 
   spent_tells : (st : Status) (text : List ℕ) → FileAnswer (demand tr fuel heads name) bytes st text →
-      SpentTells tr t names fuel heads st
+      FuelTells (demand tr fuel heads name) t names st
   spent_tells status.Spent text h = λ most m ns told asked. is_less tr t names
       (file_names bytes t names f) most m ns told heads asked fuel (runs_out text h)
   spent_tells status.Done text h = tt
@@ -214,17 +218,17 @@ module _ (tr : Translation) (bytes : List ℕ) (fuel heads : ℕ) (name : Text) 
 
   demand_tells : (st : Status) (text : List ℕ) →
       FileAnswer (demand tr fuel heads name) bytes st text → IsComplete net ⊎ CanBeRead net heads →
-      DemandTells fuel journal st
-  demand_tells status.Spent text h last =
+      (old new : Option (List ℕ)) → JobTells (demand tr fuel heads name) names journal net st old new
+  demand_tells status.Spent text h last old new =
       last_is_longer (runs_out tr bytes fuel heads name t names f text h) last
-  demand_tells status.Done text h last = tt
-  demand_tells status.Usage text h last = tt
-  demand_tells status.Syntax text h last = tt
-  demand_tells status.ReadFault text h last = tt
-  demand_tells status.WriteFault text h last = tt
-  demand_tells status.NoMemory text h last = tt
-  demand_tells status.Limit text h last = tt
-  demand_tells status.BadNet text h last = tt
+  demand_tells status.Done text h last old new = tt
+  demand_tells status.Usage text h last old new = tt
+  demand_tells status.Syntax text h last old new = tt
+  demand_tells status.ReadFault text h last old new = tt
+  demand_tells status.WriteFault text h last old new = tt
+  demand_tells status.NoMemory text h last old new = tt
+  demand_tells status.Limit text h last old new = tt
+  demand_tells status.BadNet text h last old new = tt
 
 same_bytes : (a b : List ℕ) → Some a ≡ Some b → a ≡ b
 same_bytes a b e = cc
@@ -258,7 +262,7 @@ module _ (files : Files) (bytes : List ℕ) (st : Status) (text : List ℕ) (old
   answer_tells (demand tr fuel heads name) last ran told (of_file {bytes = other} has e h) =
       let own = subst (λ b. FileAnswer (demand tr fuel heads name) b st text)
       (same_bytes other bytes (sym e ∙ told)) h in
-      demand_tells tr bytes fuel heads name t names f journal net ran st text own last
+      demand_tells tr bytes fuel heads name t names f journal net ran st text own last old new
   answer_tells _ last ran told a = tt
 
 pub answer_runs : (words : List (String Global)) (files : Files) (bytes : List ℕ) →
@@ -284,13 +288,13 @@ one_name contents bytes name told (suc k) n is = absurd (cc)
 pub ends_run : (words : List (String Global)) (f f' given : ℕ) (contents : Files) (ended : Bool) →
     (Rose f f' → ⊥) → (bytes : List ℕ) → TellsTerm (contents 0) words bytes →
     (r : Status) (g g' : ℕ) (old new : Option (List ℕ)) → (Rose g g' → ⊥) → r ≢ status.NoMemory →
-    Ends words (record {
+    Ends (Cause words (record {
       faults = f;
       faults' = f';
       contents = contents;
       given = given;
       ended = ended;
-    }) r g g' old new → EveryRunTells words bytes r old new
+    })) r g g' old new → EveryRunTells words bytes r old new
 ends_run words f f' given contents ended quiet bytes tells r g g' old new calm has e asked t names j
     file = go asked j
   where

@@ -22,7 +22,8 @@ use Rattle.ol_completeness.proofs.Levelled.{stays_clear}
 use Rattle.ol_completeness.proofs.SameRows.{CostAlike, cost_alike}
 use Rattle.ol_completeness.proofs.Within.{read_within, read_all}
 use Rattle.ol_cli.specs.Run.{start_net_of_term}
-use Rattle.ol_cli.specs.Demand.{DemandEnds, DemandRunsOut}
+use Rattle.ol_cli.specs.Demand.{DemandEnds}
+use Rattle.ol_cli.specs.Cases.{DemandRunsOut}
 use Rattle.ol_cli.specs.StartNet.{StartNetIsFit}
 use Rattle.ol_cli.proofs.DemandRuns.{is_start}
 

@@ -1,6 +1,8 @@
 -- What a job on a term file comes to, by what comes of that file, and by what is answered to its
 -- term. Used by each command.
 use Rattle.std.proofs.Common.{sym, subst, ◌≡◌, ℕ, List, Option, None, false, ◌∙◌}
+use Rattle.std.specs.Prelude.{Result, Ok, Err, IfOk}
+use Rattle.ol_memory.specs.declared.NoMemory.{NoMemory}
 use Rattle.ol_term.specs.Trees.{tree_of}
 use Rattle.ol_term.specs.declared.term_file.TermFile.{TermFile}
 use Rattle.ol_term.specs.declared.translations.Translation.{Translation}
@@ -16,13 +18,15 @@ use Rattle.ol_cli.specs.declared.answer.Answer.{Answer}
 use Rattle.ol_cli.specs.declared.ready.Ready.TheVariants as ready
 use Rattle.ol_cli.specs.declared.status.Status.{Status}
 use Rattle.ol_cli.specs.declared.status.Status.TheVariants.{Done, ReadFault, Limit}
-use Rattle.ol_cli.specs.Jobs.{HasTermFile, file_name, translation_in}
-use Rattle.ol_cli.specs.Answers.{Seen, FileCause, by_file, by_net_file, CauseOf, failed, past, given}
-use Rattle.ol_cli.specs.TermFiles.{FileAnswer}
+use Rattle.ol_cli.specs.Jobs.{file_name, translation_in}
+use Rattle.ol_cli.specs.Cases.{HasTermFile}
+use Rattle.ol_cli.specs.Answers.{Seen}
+use Rattle.ol_cli.specs.Cases.{FileCause, by_file, by_net_file, CauseOf, failed, past, given}
+use Rattle.ol_cli.specs.Cases.{FileAnswer}
 use Rattle.ol_cli.specs.Net.{NetFileAnswer}
 use Rattle.ol_cli.specs.Limits.{most_net_bytes}
-use Rattle.ol_cli.specs.Texts.{net_bytes_text}
-use Rattle.ol_cli.specs.TermFiles.{TermAnswer}
+use Rattle.ol_cli.specs.RefusalTexts.{net_bytes_text}
+use Rattle.ol_cli.specs.Cases.{TermAnswer}
 use Rattle.ol_cli.specs.TermFiles.{TermHands}
 use Rattle.ol_cli.specs.Handed.{ReadHands, JobHands, WhereEnded}
 use Rattle.ol_cli.specs.Inside.{ComesOf}
@@ -105,6 +109,16 @@ term_comes asked has s net file (same, (bytes, gave, i)) a h read closed =
           (read_hands asked s bytes st text a.closed gave
           (file_hands asked bytes t names i.term st text a.closed closed));
     }
+
+-- the same of what a call has made, where it has
+pub term_comes_if : (asked : Asked) → HasTermFile asked → (s : Seen) (net : Graph) (file : TermFile) →
+    ComesOfTerm (translation_in asked) s (file_name asked) (ready.Net net file) → (made : Result Answer NoMemory) →
+    IfOk made (λ a. TermAnswer asked (tree_of file.term) file.names a.status a.text.items) →
+    IfOk made (λ a. AnswerIsReadAgain asked (tree_of file.term) file.names a.status a.text.items) →
+    IfOk made (λ a. TermHands asked (tree_of file.term) file.names a.status a.text.items a.closed) →
+    IfOk made (ComesOf asked s)
+term_comes_if asked has s net file comes (Ok a) h read closed = term_comes asked has s net file comes a h read closed
+term_comes_if asked has s net file comes (Err e) h read closed = tt
 
 -- ---- the file of a net
 

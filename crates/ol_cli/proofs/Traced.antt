@@ -9,7 +9,6 @@ use Rattle.ol_rules.specs.declared.journal.NodeName.{NodeName}
 use Rattle.ol_rules.specs.declared.journal.NodeName.TheVariants.{Init}
 use Rattle.ol_rules.specs.declared.journal.Entry.{Entry}
 use Rattle.ol_rules.specs.Runs.{IsRun}
-use Rattle.ol_rules.proofs.Recount.{net_same}
 use Rattle.ol_rules.proofs.Relation.{same_refl, same_trans}
 use Rattle.ol_rules.proofs.Same.{complete_same, active_same}
 use Rattle.ol_rules.proofs.StartNets.{start_net, start_named}
@@ -20,19 +19,19 @@ use Rattle.ol_wire.specs.Closed.{ClosedTable}
 use Rattle.ol_wire.specs.Standing.{NoNodeTwice}
 use Rattle.ol_rules.proofs.OneEnd.{one_end}
 use Rattle.ol_reduce.specs.Reduced.{IsDone, IsSpent}
-use Rattle.ol_view.specs.WaveTexts.{wave_trace_text}
+use Rattle.ol_view.specs.Forms.{text_of}
+use Rattle.ol_view.specs.declared.forms.Form.TheVariants as form
 use Rattle.ol_cli.specs.declared.status.Status.TheVariants as status
-use Rattle.ol_cli.specs.Run.{start_net_of_term, RunEnds}
+use Rattle.ol_cli.specs.Run.{start_net_of_term}
 use Rattle.ol_cli.specs.Trace.{Traces, IsTraceOf}
 use Rattle.ol_cli.specs.Run.{journal_of}
 use Rattle.ol_cli.specs.Trace.{TraceHands}
-use Rattle.ol_cli.proofs.AnyRun.{any_run_ends}
 use Rattle.ol_cli.proofs.Evaluated.{own_run, words_run}
 use Rattle.ol_cli.proofs.WavesKept.{waves_kept}
 
 -- the text tells these waves of the graph's journal
 abbrev pub IsTextOfWaves : Graph → List Entry → List ℕ → Type 0
-IsTextOfWaves g journal text = (waves : List ℕ) × IsWavesOf g journal waves × (text ≡ wave_trace_text journal waves)
+IsTextOfWaves g journal text = (waves : List ℕ) × IsWavesOf g journal waves × (text ≡ text_of form.Two journal waves)
 
 module _ (tr : Translation) (t : Tree) (names : List (List ℕ)) (start : Graph)
     (same : SameNet (net_of start) (translation_of tr t (length names))) (n : IsNet (net_of start))
@@ -91,13 +90,6 @@ module _ (tr : Translation) (t : Tree) (names : List (List ℕ)) (start : Graph)
         written = trace_of d.read d.last_net
             (words_run tr t names start same fuel seats w d.table d.last_net d.after) r.0 r.2;
       }
-
-  -- the one-thread run ends within the fuel
-  pub done_ends : (last : Graph) → IsDone start fuel seats last journal w → RunEnds (start_net_of_term tr t names) fuel
-  done_ends last d =
-      let T = translation_of tr t (length names) in
-      let c = done_traces last d in
-      any_run_ends tr t names fuel (net_same (net_of start) T same n) c.journal c.net c.run c.ends.0 c.ends.1
 
   pub done_trace_hands : (last : Graph) → IsDone start fuel seats last journal w →
       NoNodeTwice (journal_of w) → TraceHands tr t names seats fuel status.Done text (Some w)

@@ -5,7 +5,8 @@ use Rattle.ol_words.specs.Texts.{Text}
 use Rattle.ol_words.specs.declared.jobs.Job.TheVariants.{Check as check}
 use Rattle.ol_cli.specs.declared.answer.Answer.{Answer}
 use Rattle.ol_cli.specs.declared.numbers.RunNumbers.{RunNumbers}
-use Rattle.ol_cli.specs.Answers.{Seen, JobCause}
+use Rattle.ol_cli.specs.Answers.{Seen}
+use Rattle.ol_cli.specs.Cases.{JobCause}
 use Rattle.ol_cli.specs.Inside.{ComesOf, equal_on}
 use Rattle.ol_cli.proofs.Handing.{none_ended}
 

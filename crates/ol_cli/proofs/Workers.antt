@@ -12,9 +12,11 @@ use Rattle.ol_cli.specs.declared.status.Status.TheVariants as status
 use Rattle.ol_cli.specs.declared.status.Status.TheVariants.{Usage}
 use Rattle.ol_cli.specs.Texts.{usage_text}
 use Rattle.ol_cli.specs.Jobs.{Files, AskFor, AskForNothing}
-use Rattle.ol_cli.specs.Answers.{IsAnswer, JobAnswer, of_file, of_net_file, of_first, of_second, of_both}
-use Rattle.ol_cli.specs.TermFiles.{FileAnswer}
+use Rattle.ol_cli.specs.Answers.{IsAnswer}
+use Rattle.ol_cli.specs.Cases.{JobAnswer, of_file, of_net_file, of_first, of_second, of_both}
+use Rattle.ol_cli.specs.Cases.{FileAnswer}
 use Rattle.ol_cli.specs.Laws.{AskAlike, HaveOneText, WorkersAreNotSeen, with_workers}
+use Rattle.ol_cli.proofs.Views.{answer_cases, answer_of}
 use Rattle.ol_cli.proofs.Exact.{not_both}
 use Rattle.ol_cli.proofs.OneAnswer.{OfWords, no_job, job, of_words, one_of_job, one_job, same_as}
 
@@ -81,7 +83,8 @@ file_unseen n asked bytes st text h = go asked st h
     go (jobs.Equal tr w f q a b) status.BadNet h = absurd h.3
     go _ st h = h
 
-pub workers_unseen : WorkersAreNotSeen
+workers_unseen : (n : ℕ) (asked : Asked) (files : Files) (status : Status) (text : List ℕ) →
+    JobAnswer files status text asked → JobAnswer files status text (with_workers n asked)
 workers_unseen n (jobs.Run tr w f q name) files st text (of_file {bytes = m} has e h) =
     of_file has e (file_unseen n (jobs.Run tr w f q name) m st text h)
 workers_unseen n (jobs.Trace tr w f name) files st text (of_file {bytes = m} has e h) =
@@ -100,6 +103,10 @@ workers_unseen n (jobs.Equal tr w f q a b) files st text (of_second {bytes' = m}
 workers_unseen n (jobs.Equal tr w f q a b) files st text (of_both e t d u is h) =
     of_both e t d u is h
 workers_unseen n _ files st text h = h
+
+pub workers_are_unseen : WorkersAreNotSeen
+workers_are_unseen n asked files st text h = answer_of files st text (with_workers n asked)
+    (workers_unseen n asked files st text (answer_cases files st text asked h))
 
 -- ---- two lists of words
 

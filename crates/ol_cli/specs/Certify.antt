@@ -5,11 +5,9 @@ use Rattle.ol_beta.specs.declared.certifying.Verdict.{Verdict}
 use Rattle.ol_readback.specs.declared.answers.ReadNode.{ReadNode}
 use Rattle.ol_term.specs.Trees.{Tree}
 use Rattle.ol_term.specs.declared.translations.Translation.{Translation}
-use Rattle.ol_cli.specs.Run.{ReadsLast, RunsOut, start_net_of_term}
+use Rattle.ol_cli.specs.Run.{ReadsLast}
 use Rattle.ol_cli.specs.Texts.{count_line, line}
-use Rattle.ol_cli.specs.declared.status.Status.{Status}
 use Rattle.ol_beta.specs.declared.certifying.Verdict.TheVariants as verdict
-use Rattle.ol_cli.specs.Shapes.{DoneOrSpent, TellsFuel}
 use Rattle.ol_beta.specs.AddressTexts.{address_text}
 
 -- a line for each address
@@ -40,8 +38,3 @@ pub record Certifies (translation : Translation) (t : Tree) (names : List (List 
   pub last : ReadsLast translation t names fuel heads tree
   pub holds : IsVerdict t tree steps verdict
   pub written : text ≡ verdict_text steps verdict
-
--- What `certify` answers to a term: its one-thread run is longer than the fuel, or ends, and the verdict is told.
-abbrev pub CertifyAnswer : Translation → Tree → List (List ℕ) → (steps fuel heads : ℕ) → Status → List ℕ → Type 0
-CertifyAnswer translation t names steps fuel heads = DoneOrSpent (Certifies translation t names steps fuel heads)
-    (TellsFuel (RunsOut (start_net_of_term translation t names) fuel) fuel)

@@ -1,11 +1,11 @@
 -- `check`: what a journal file is found to be against a term.
-use Rattle.std.specs.Prelude.{List, codes, length, ℕ, ◌<◌, ◌≡◌, ◌≤◌}
+use Rattle.std.specs.Prelude.{List, codes, length, ℕ, ◌≡◌, ◌≤◌}
 use Rattle.ol_term.specs.Trees.{Tree}
 use Rattle.ol_term.specs.declared.translations.Translation.{Translation}
 use Rattle.ol_view.specs.Checks.{OnlyIsFound}
 use Rattle.ol_view.specs.declared.answers.Check.{Check}
 use Rattle.ol_cli.specs.Run.{start_net_of_term}
-use Rattle.ol_cli.specs.Texts.{count_line, journal_text, line}
+use Rattle.ol_cli.specs.Texts.{Exceeds, count_line, line}
 use Rattle.ol_cli.specs.declared.status.Status.{Status}
 use Rattle.ol_view.specs.declared.answers.Check.TheVariants as check
 use Rattle.ol_cli.specs.declared.status.Status.TheVariants as status
@@ -22,8 +22,8 @@ found_text (check.NotARun l) = count_line (codes "not a run at line") l
 -- the one thing that they are found
 -- to be.
 abbrev pub JournalAnswer : Translation → Tree → List (List ℕ) → List ℕ → Status → List ℕ → Type 0
-JournalAnswer translation t names journal status.Limit text = (most_journal_bytes < length journal)
-    × (text ≡ journal_text)
+JournalAnswer translation t names journal status.Limit text =
+    Exceeds (length journal) most_journal_bytes (codes "limit journal") text
 JournalAnswer translation t names journal status.Done text = (length journal ≤ most_journal_bytes)
     × ((found : Check) × OnlyIsFound (start_net_of_term translation t names) journal found
     × (text ≡ found_text found))

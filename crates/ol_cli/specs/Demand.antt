@@ -1,6 +1,6 @@
 -- `demand`: what demand order makes of a term.
 use Rattle.std.specs.Prelude.{List, length, ℕ, ◌≡◌, ◌≤◌}
-use Rattle.ol_demand.specs.Demands.{HasMoreSteps, IsDemandRun}
+use Rattle.ol_demand.specs.Demands.{IsDemandRun}
 use Rattle.ol_net.specs.Nets.{NamedNet}
 use Rattle.ol_net.specs.Pairs.{HasStuck}
 use Rattle.ol_readback.specs.Texts.{IsTextOf}
@@ -12,8 +12,6 @@ use Rattle.ol_term.specs.Trees.{Tree}
 use Rattle.ol_term.specs.declared.translations.Translation.{Translation}
 use Rattle.ol_cli.specs.Run.{start_net_of_term}
 use Rattle.ol_cli.specs.Texts.{answer_text}
-use Rattle.ol_cli.specs.declared.status.Status.{Status}
-use Rattle.ol_cli.specs.Shapes.{DoneOrSpent, TellsFuel}
 
 -- The demand run from the term's net, of which the first `heads` subterms are asked, ends within
 -- `fuel` steps: it rewrites the pairs
@@ -36,12 +34,3 @@ pub record Demands (translation : Translation) (t : Tree) (names : List (List �
   pub shown : IsTextOf names ends.tree term
   pub counted : HasStuck ends.net stuck
   pub written : text ≡ answer_text term (counts_of ends.journal) stuck
-
--- It has more than `fuel` steps.
-abbrev pub DemandRunsOut : Translation → Tree → List (List ℕ) → (fuel heads : ℕ) → Type 0
-DemandRunsOut translation t names fuel heads = HasMoreSteps (start_net_of_term translation t names) heads fuel
-
--- What `demand` answers to a term: its demand run is longer than the fuel, or ends and is printed.
-abbrev pub DemandAnswer : Translation → Tree → List (List ℕ) → (fuel heads : ℕ) → Status → List ℕ → Type 0
-DemandAnswer translation t names fuel heads =
-    DoneOrSpent (Demands translation t names fuel heads) (TellsFuel (DemandRunsOut translation t names fuel heads) fuel)

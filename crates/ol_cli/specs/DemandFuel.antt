@@ -12,14 +12,17 @@ use Rattle.ol_readback.specs.declared.answers.ReadNode.TheVariants as node
 use Rattle.ol_meaning.specs.Shows.{BetaReduces, HeadReduces, applied}
 use Rattle.ol_confluence.specs.Reductions.{HasHeadNormalForm}
 use Rattle.ol_completeness.specs.Complete.{HaveInversions}
-use Rattle.ol_cli.specs.Demand.{DemandEnds, DemandRunsOut}
+use Rattle.ol_demand.specs.Demands.{HasMoreSteps}
+use Rattle.ol_cli.specs.Run.{start_net_of_term}
+use Rattle.ol_cli.specs.Demand.{DemandEnds}
 
 -- With so much fuel, or more, the demand run for so many heads ends, and isn't longer. So `demand` on
 -- the term's file is never spent then (`exact`), and is done where no limit is passed
 -- (`completeness`).
 abbrev pub IsEnoughFuel : Translation → Tree → List (List ℕ) → (heads m : ℕ) → Type 0
 IsEnoughFuel translation t names heads m = (fuel : ℕ) → m ≤ fuel →
-    DemandEnds translation t names fuel heads × (DemandRunsOut translation t names fuel heads → ⊥)
+    DemandEnds translation t names fuel heads
+    × (HasMoreSteps (start_net_of_term translation t names) heads fuel → ⊥)
 
 -- A term reduces to the normal form v. Then there is a tree whose term is v, and at each of its
 -- places the term's own net, by this translation, has a head. The rows of the paths to these heads

@@ -8,7 +8,7 @@ use Rattle.ol_rules.specs.declared.journal.NodeName.{NodeName}
 use Rattle.ol_term.specs.Trees.{Tree}
 use Rattle.ol_term.specs.declared.translations.Translation.{Translation}
 use Rattle.ol_translate.specs.Translation.{translation_of}
-use Rattle.ol_cli.specs.Run.{Prints, RunsOut, Shows, start_net_of_term}
+use Rattle.ol_cli.specs.Run.{Prints, RunEnds, RunsOut, Shows, start_net_of_term}
 
 -- This complete run has no more than `fuel` steps, and what is printed of its journal and its net
 -- (up to the order in which the net is
@@ -56,3 +56,11 @@ AnyRunRunsOut = (translation : Translation) (t : Tree) (names : List (List ℕ))
     (journal : List Entry) (net : NamedNet NodeName) → IsRun (start_net_of_term translation t names) 0 journal net →
     (fuel < length journal) ⊎ ((length journal ≡ fuel) × HasActive net) →
     RunsOut (start_net_of_term translation t names) fuel
+
+-- Where a complete run is within the fuel, the one-thread run ends within it.
+abbrev pub AnyRunEnds : Type 0
+AnyRunEnds = (translation : Translation) (t : Tree) (names : List (List ℕ)) (fuel : ℕ) →
+    IsNet (translation_of translation t (length names)) →
+    (journal : List Entry) (net : NamedNet NodeName) →
+    IsRun (start_net_of_term translation t names) 0 journal net → IsComplete net →
+    length journal ≤ fuel → RunEnds (start_net_of_term translation t names) fuel

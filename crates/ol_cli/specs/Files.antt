@@ -6,8 +6,9 @@ use Rattle.ol_cli.specs.declared.files.FileKind.TheVariants as kind
 use Rattle.ol_cli.specs.declared.files.File.{File}
 use Rattle.ol_cli.specs.declared.files.File.TheVariants.{Bytes, Refused}
 use Rattle.ol_cli.specs.declared.status.Status.{Status}
-use Rattle.ol_cli.specs.Answers.{Seen, GaveWithin, CauseOf}
-use Rattle.ol_cli.specs.Texts.{bytes_text, journal_text, net_bytes_text}
+use Rattle.ol_cli.specs.Answers.{Seen}
+use Rattle.ol_cli.specs.Cases.{GaveWithin, CauseOf}
+use Rattle.ol_cli.specs.RefusalTexts.{bytes_text, journal_text, net_bytes_text}
 use Rattle.ol_cli.specs.Limits.{most_term_bytes, most_journal_bytes, most_net_bytes}
 
 -- how many bytes a file may have, and the line that refuses one with more

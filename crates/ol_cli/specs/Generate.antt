@@ -6,7 +6,8 @@ use Rattle.ol_wire.specs.Closed.{ClosedTable}
 use Rattle.ol_words.specs.declared.jobs.Job.{Job as Asked}
 use Rattle.ol_words.specs.declared.jobs.Job.TheVariants.{Run as run}
 use Rattle.ol_cli.specs.Limits.{plain_fuel, plain_heads, plain_workers}
-use Rattle.ol_cli.specs.TermFiles.{FileAnswer, FileHands}
+use Rattle.ol_cli.specs.Run.{RunAnswer}
+use Rattle.ol_cli.specs.TermFiles.{FileHands, TermFileAnswer}
 use Rattle.ol_cli.specs.declared.status.Status.{Status}
 use Rattle.ol_cli.specs.declared.status.Status.TheVariants as status
 
@@ -17,7 +18,8 @@ plain_run translation = run translation plain_workers plain_fuel plain_heads (co
 -- What `gen` answers: the text that it makes, or the answer of `run` to that.
 abbrev pub Makes : Translation → (runs : Bool) → (k : ℕ) → Status → List ℕ → Type 0
 Makes translation false k st text = (st ≡ status.Done) × (text ≡ doubled_text k)
-Makes translation true k st text = FileAnswer (plain_run translation) (doubled_text k) st text
+Makes translation true k st text = TermFileAnswer translation
+    (RunAnswer translation plain_fuel plain_heads) (doubled_text k) st text
 
 -- what `gen` hands back: what `run` does of the text that is made
 abbrev pub MakingHands : Translation → (runs : Bool) → (k : ℕ) → Status → List ℕ → Option ClosedTable → Type 0

@@ -5,7 +5,8 @@ use Rattle.ol_io.specs.Outside.{Appended}
 use Rattle.ol_wire.specs.Closed.{ClosedTable}
 use Rattle.ol_words.specs.declared.jobs.Job.{Job as Asked}
 use Rattle.ol_words.specs.declared.jobs.Job.TheVariants.{Check as check, Gen as gen}
-use Rattle.ol_cli.specs.Answers.{GaveAll, Seen}
+use Rattle.ol_cli.specs.Answers.{Gave, Seen}
+use Rattle.ol_cli.specs.Limits.{most_term_bytes}
 use Rattle.ol_cli.specs.Generate.{MakingHands}
 use Rattle.ol_cli.specs.Jobs.{AskFor, file_name}
 use Rattle.ol_cli.specs.TermFiles.{FileHands}
@@ -13,10 +14,10 @@ use Rattle.ol_cli.specs.declared.status.Status.{Status}
 use Rattle.ol_words.specs.declared.jobs.Job.TheVariants as jobs
 use Rattle.ol_cli.specs.declared.status.Status.TheVariants as status
 
--- the file's bytes are all that the source gave, to their end
+-- these are the file's bytes, no more than are read and all of which the source gave
 abbrev pub ReadHands : Asked → Seen → Status → List ℕ → Option ClosedTable → Type 0
-ReadHands asked s st text closed = (bytes : List ℕ) × GaveAll s (file_name asked) bytes
-    × FileHands asked bytes st text closed
+ReadHands asked s st text closed = (bytes : List ℕ)
+    × Gave s 0 (file_name asked) most_term_bytes bytes × FileHands asked bytes st text closed
 
 -- what a job hands back; `check` has no workers, and `net` and `equal` keep the words of theirs
 abbrev pub JobHands : Asked → Seen → Status → List ℕ → Option ClosedTable → Type 0

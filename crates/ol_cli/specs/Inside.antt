@@ -4,7 +4,7 @@
 use Rattle.std.specs.Prelude.{◌≡◌, ℕ, ◌≤◌, ◌⊎◌, List, [], length, take, Option, None, Some, Result, Ok, Err, String}
 use Rattle.std.specs.declared.alloc.Global.{Global}
 use Rattle.ol_io.specs.Outside.{Rose, Appended}
-use Rattle.ol_io.specs.declared.outside.NoMemory.{NoMemory}
+use Rattle.ol_memory.specs.declared.NoMemory.{NoMemory}
 use Rattle.ol_term.specs.declared.translations.Translation.{Translation}
 use Rattle.ol_term.specs.Trees.{Tree, tree_of}
 use Rattle.ol_term.specs.declared.term_file.TermFile.{TermFile}
@@ -23,8 +23,9 @@ use Rattle.ol_cli.specs.declared.status.Status.{Status}
 use Rattle.ol_cli.specs.declared.status.Status.TheVariants as status
 use Rattle.ol_cli.specs.Jobs.{term_bytes}
 use Rattle.ol_cli.specs.Run.{RunsOut, ReadsLast, start_net_of_term}
-use Rattle.ol_cli.specs.Answers.{Seen, JobCause, Cause}
-use Rattle.ol_cli.specs.TermFiles.{TermAnswer}
+use Rattle.ol_cli.specs.Answers.{Seen}
+use Rattle.ol_cli.specs.Cases.{JobCause, Cause}
+use Rattle.ol_cli.specs.Cases.{TermAnswer}
 use Rattle.ol_cli.specs.TermFiles.{TermHands}
 use Rattle.ol_cli.specs.Handed.{JobHands, WhereEnded, WordsHand}
 use Rattle.ol_cli.specs.ReadAgain.{AnswerIsReadAgain, FileIsReadAgain, WordsAreReadAgain}

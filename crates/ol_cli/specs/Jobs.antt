@@ -40,12 +40,10 @@ file_names (equal translation workers fuel heads first second) = first ∷ secon
 abbrev pub file_name : Asked → Text
 file_name asked = slice_index_or (file_names asked) 0 []
 
--- The job has one file with a term. `net` has one with its flag alone, and `equal` has two.
-abbrev pub HasTermFile : Asked → Type 0
-HasTermFile (gen translation runs k) = ⊥
-HasTermFile (net translation false workers fuel name) = ⊥
-HasTermFile (equal translation workers fuel heads first second) = ⊥
-HasTermFile _ = Unit {0}
+-- the job has a file; `gen` makes its term itself
+abbrev pub HasFile : Asked → Type 0
+HasFile (gen translation runs k) = ⊥
+HasFile _ = Unit {0}
 
 -- how many files a job has, and how many the words name, which is none where they ask for nothing
 abbrev pub count_of_files : Asked → ℕ

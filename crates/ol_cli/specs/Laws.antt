@@ -19,7 +19,7 @@ use Rattle.ol_words.specs.declared.jobs.Job.TheVariants as jobs
 use Rattle.ol_words.specs.Jobs.{job_of}
 use Rattle.ol_cli.specs.Jobs.{AskFor, AskForNothing, Files}
 use Rattle.ol_cli.specs.Texts.{counts_text}
-use Rattle.ol_cli.specs.Answers.{IsAnswer, JobAnswer}
+use Rattle.ol_cli.specs.Answers.{AnswerTo, IsAnswer}
 use Rattle.ol_cli.specs.Net.{NetRunEnds}
 use Rattle.ol_cli.specs.Run.{Prints}
 use Rattle.ol_cli.specs.Walk.{Walks}
@@ -69,7 +69,7 @@ OneAnswer = (words words' : List (String Global)) → AskAlike words words' →
 -- The number of workers isn't seen: an answer to a job is one with any other number of workers.
 abbrev pub WorkersAreNotSeen : Type 0
 WorkersAreNotSeen = (n : ℕ) (asked : Asked) (files : Files) (status : Status) (text : List ℕ) →
-    JobAnswer files status text asked → JobAnswer files status text (with_workers n asked)
+    AnswerTo files asked status text → AnswerTo files (with_workers n asked) status text
 
 -- However the answer to a term is come by, one tree is printed, one term and one number of stuck pairs.
 abbrev pub OneTreeIsPrinted : Type 0

@@ -26,6 +26,8 @@ pub mod Laws
 pub mod Handed
 pub mod Completeness
 -- What only contracts of private functions and proofs cite.
+pub mod RefusalTexts
+pub mod Cases
 pub mod ReadAgain
 pub mod Files
 pub mod Ready

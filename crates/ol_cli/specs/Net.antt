@@ -1,5 +1,5 @@
 -- `net`: what a file with a net is answered, and a term whose net is printed.
-use Rattle.std.specs.Prelude.{List, count_by, is_some, length, ℕ, ◌++◌, ◌<◌, ◌≡◌, ◌≢◌, ◌≤◌}
+use Rattle.std.specs.Prelude.{List, codes, count_by, is_some, length, ℕ, ◌++◌, ◌<◌, ◌≡◌, ◌≢◌, ◌≤◌}
 use Rattle.ol_net.specs.Graph.{Graph}
 use Rattle.ol_net.specs.Nets.{NamedNet, SameNet, net_under}
 use Rattle.ol_net.specs.Numbered.{net_of}
@@ -21,12 +21,12 @@ use Rattle.ol_term.specs.declared.translations.Translation.{Translation}
 use Rattle.ol_translate.specs.Translation.{translation_of}
 use Rattle.ol_view.specs.Laws.{IsTable}
 use Rattle.ol_cli.specs.Listing.{ListsOnce}
-use Rattle.ol_cli.specs.Texts.{counts_text, line, net_bytes_text, nodes_text}
+use Rattle.ol_cli.specs.Texts.{Exceeds, count_line, counts_text, line}
 use Rattle.ol_cli.specs.declared.status.Status.{Status}
 use Rattle.ol_cli.specs.declared.status.Status.TheVariants as status
 use Rattle.ol_netfile.specs.declared.faults.NetFault.TheVariants as fault
 use Rattle.ol_cli.specs.Run.{RunEnds, RunsOut}
-use Rattle.ol_cli.specs.Shapes.{DoneOrSpent, OnlyDone, TellsFuel}
+use Rattle.ol_cli.specs.Shapes.{DoneOrSpent, TellsFuel}
 use Rattle.ol_cli.specs.Limits.{most_net_bytes, most_nodes}
 
 -- The net of the term, with the numbers of its translation, has this text.
@@ -36,10 +36,6 @@ pub record WritesNet (translation : Translation) (t : Tree) (names : List (List 
   pub whole : count_by is_some net.nodes ≡ length net.nodes
   pub tabled : IsTable net
   pub written : text ≡ net_text net
-
--- What `net` with its flag answers to a term: the text of its net.
-abbrev pub WritesNetAnswer : Translation → Tree → List (List ℕ) → Status → List ℕ → Type 0
-WritesNetAnswer translation t names = OnlyDone (WritesNet translation t names)
 
 -- ---- a net that is rewritten
 
@@ -80,13 +76,11 @@ pub record PrintsNet (net : Graph) (fuel : ℕ) (text : List ℕ) : Type 0 where
   pub tells : TellsLast net rest
   pub written : text ≡ counts_text (counts_of ends.ends.journal) ends.stuck ++ rest
 
--- The one-thread run ends within the fuel, and its net is too large to be printed.
-abbrev pub IsPastNodes : Graph → (fuel : ℕ) → Type 0
-IsPastNodes net fuel = (e : NetRunEnds net fuel) × (most_nodes < live e.ends.net)
-
--- what a net is answered
+-- What a net is answered: that its one-thread run ends within the fuel with a net that is too large
+-- to be printed, or with one that is printed; or that it is longer.
 abbrev pub NetAnswer : Graph → (fuel : ℕ) → Status → List ℕ → Type 0
-NetAnswer net fuel status.Limit text = IsPastNodes net fuel × (text ≡ nodes_text)
+NetAnswer net fuel status.Limit text =
+    (e : NetRunEnds net fuel) × Exceeds (live e.ends.net) most_nodes (codes "limit nodes") text
 NetAnswer net fuel st text = DoneOrSpent (PrintsNet net fuel) (TellsFuel (RunsOut (start_net net) fuel) fuel) st text
 
 -- ---- a file with a net
@@ -100,7 +94,8 @@ pub record IsNetFile (bytes : List ℕ) (net : Graph) : Type 0 where
 -- What the bytes of a file with a net are answered: a limit that they pass, what is wrong with
 -- them, or the answer to their net.
 pub data NetFileAnswer (fuel : ℕ) (bytes : List ℕ) (st : Status) (text : List ℕ) : Type 0 where
-  long : most_net_bytes < length bytes → st ≡ status.Limit → text ≡ net_bytes_text → NetFileAnswer fuel bytes st text
+  long : most_net_bytes < length bytes → st ≡ status.Limit →
+      text ≡ count_line (codes "limit net") most_net_bytes → NetFileAnswer fuel bytes st text
   bad : length bytes ≤ most_net_bytes → (f : NetFault) → IsNetFault bytes f → f ≢ fault.NoMemory → st ≡ status.BadNet →
       text ≡ line (fault_text f) → NetFileAnswer fuel bytes st text
   of_net : {net : Graph} → IsNetFile bytes net → NetAnswer net fuel st text → NetFileAnswer fuel bytes st text

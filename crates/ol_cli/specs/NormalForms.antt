@@ -108,12 +108,12 @@ PlainLineSays words files old new = (verb name : Text) → ArePlain words verb n
     (bytes : List ℕ) → files 0 name ≡ Some bytes → (source : Named) → IsText bytes source →
     FirstLine (LineIsOf verb source) old new
 
--- after `demand` the line is a text of the source's normal form, where variables stand in at most
--- 4,096 places of it
-abbrev pub PlainDemandFinds : List (String Global) → Files → Option (List ℕ) → Option (List ℕ) → Type 0
-PlainDemandFinds words files old new = (name : Text) → ArePlain words (codes "demand") name →
+-- after `demand` this is said of the source and of what was appended
+abbrev pub PlainDemandSays : (Named → Option (List ℕ) → Option (List ℕ) → Type 0) →
+    List (String Global) → Files → Option (List ℕ) → Option (List ℕ) → Type 0
+PlainDemandSays Says words files old new = (name : Text) → ArePlain words (codes "demand") name →
     (bytes : List ℕ) → files 0 name ≡ Some bytes → (source : Named) → IsText bytes source →
-    FirstLine (IsFoundWithin 4096 source) old new
+    Says source old new
 
 -- Leftmost reduction of the source to a normal form, where there is one, contracts at least so many
 -- redexes.
@@ -131,12 +131,6 @@ pub record CountsSay (Says : List ℕ → ℕ → Type 0) (old new : Option (Lis
   pub written : Appended old (answer_text line counts stuck) new
   pub says : Says line counts.beta
 
--- the `beta` of `demand` is no more than the steps of leftmost reduction to a normal form, if there is one
-abbrev pub PlainDemandIsFrugal : List (String Global) → Files → Option (List ℕ) → Option (List ℕ) → Type 0
-PlainDemandIsFrugal words files old new = (name : Text) → ArePlain words (codes "demand") name →
-    (bytes : List ℕ) → files 0 name ≡ Some bytes → (source : Named) → IsText bytes source →
-    CountsSay (λ line. IsNoMoreThanLeftmost source) old new
-
 -- Let the subterms of the source have labels, each a letter of its own. Where leftmost reduction
 -- leads to a normal form, there are as many beta steps as some different degrees among those that it
 -- contracts, so at least so many families (Lévy). And where the line is a text of a term, these
@@ -148,14 +142,6 @@ AreFamilies source line beta = (T v : Labelled) (degrees : List Label) →
     (es : List Label) × AreDifferent es × ((e : Label) → IsIn e es → IsIn e degrees)
     × (beta ≡ length es)
     × ((result : Named) → IsText line result → (e : Label) → IsIn e degrees → IsIn e es)
-
--- The `beta` of `demand` is no more than the families of leftmost reduction to a normal form, where
--- there is one, and as many where the line is a text of a term.
-abbrev pub PlainDemandIsOptimal : List (String Global) → Files → Option (List ℕ) →
-    Option (List ℕ) → Type 0
-PlainDemandIsOptimal words files old new = (name : Text) → ArePlain words (codes "demand") name →
-    (bytes : List ℕ) → files 0 name ≡ Some bytes → (source : Named) → IsText bytes source →
-    CountsSay (AreFamilies source) old new
 
 -- the words are the program's name, `equal` and the names of two files: no options, and not
 -- standard input for both

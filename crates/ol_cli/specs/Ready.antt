@@ -15,9 +15,10 @@ use Rattle.ol_cli.specs.declared.status.Status.TheVariants as status
 use Rattle.ol_cli.specs.declared.ready.Ready.{Ready}
 use Rattle.ol_cli.specs.declared.ready.Ready.TheVariants as ready
 use Rattle.ol_words.specs.Texts.{Text}
-use Rattle.ol_cli.specs.Texts.{syntax_text, bytes_text}
+use Rattle.ol_cli.specs.RefusalTexts.{syntax_text, bytes_text}
 use Rattle.ol_cli.specs.TermFiles.{IsTermFile, IsPastLimit}
-use Rattle.ol_cli.specs.Answers.{Seen, GaveAll, CauseOf}
+use Rattle.ol_cli.specs.Answers.{Seen}
+use Rattle.ol_cli.specs.Cases.{GaveAll, CauseOf}
 use Rattle.ol_cli.specs.Limits.{most_term_bytes, most_depth, most_nodes}
 
 -- the bytes are refused so

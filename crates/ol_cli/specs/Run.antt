@@ -1,5 +1,5 @@
 -- `run`: a term's one-thread run and what is printed of it; the closed words of the workers that rewrote its net.
-use Rattle.std.specs.Prelude.{List, Option, Some, length, ℕ, ◌*◌, ◌≡◌, ◌≤◌}
+use Rattle.std.specs.Prelude.{List, Option, Some, codes, length, ℕ, ◌*◌, ◌≡◌, ◌≤◌}
 use Rattle.ol_net.specs.Graph.{Graph}
 use Rattle.ol_net.specs.Nets.{IsNet, NamedNet, SameNet, net_under}
 use Rattle.ol_net.specs.Numbered.{net_of}
@@ -21,7 +21,7 @@ use Rattle.ol_translate.specs.Translation.{translation_of}
 use Rattle.ol_wire.specs.Closed.{ClosedTable, journal_in}
 use Rattle.ol_wire.specs.Standing.{IsAfter, NoNodeTwice}
 use Rattle.ol_cli.specs.Listing.{ListsOnce}
-use Rattle.ol_cli.specs.Texts.{answer_text, spent_text}
+use Rattle.ol_cli.specs.Texts.{answer_text, count_line}
 use Rattle.ol_cli.specs.declared.status.Status.{Status}
 use Rattle.ol_cli.specs.declared.status.Status.TheVariants as status
 use Rattle.ol_cli.specs.Shapes.{DoneOrSpent, TellsFuel}
@@ -78,8 +78,9 @@ pub record ReadsLast (translation : Translation) (t : Tree) (names : List (List 
   pub read : IsTree ends.net heads (2 * live ends.net) tree
 
 -- What `run` answers to a term: its one-thread run is longer than the fuel, or ends and is printed.
-abbrev pub RunAnswer : Translation → Tree → List (List ℕ) → (fuel heads : ℕ) → Status → List ℕ → Type 0
-RunAnswer translation t names fuel heads = DoneOrSpent (Prints translation t names fuel heads)
+abbrev pub RunAnswer : Translation → (fuel heads : ℕ) → Tree → List (List ℕ) → Status →
+    List ℕ → Type 0
+RunAnswer translation fuel heads t names = DoneOrSpent (Prints translation t names fuel heads)
     (TellsFuel (RunsOut (start_net_of_term translation t names) fuel) fuel)
 
 -- ---- the closed words
@@ -124,4 +125,5 @@ pub record PrintsWork (names : List (List ℕ)) (heads : ℕ) (journal : List En
 abbrev pub RunHands : Translation → Tree → List (List ℕ) → (workers fuel heads : ℕ) → Status →
     List ℕ → Option ClosedTable → Type 0
 RunHands translation t names workers fuel heads st text = WorkHands translation t names workers fuel st
-    (λ journal net. DoneOrSpent (PrintsWork names heads journal net) (λ text. text ≡ spent_text fuel) st text)
+    (λ journal net. DoneOrSpent (PrintsWork names heads journal net)
+    (λ text. text ≡ count_line (codes "fuel") fuel) st text)

@@ -17,7 +17,8 @@ use Rattle.ol_cli.specs.Texts.{line}
 use Rattle.ol_cli.specs.Run.{ReadsLast}
 use Rattle.ol_cli.specs.Inside.{run_on}
 use Rattle.ol_cli.specs.TermFiles.{IsTermFile}
-use Rattle.ol_cli.specs.Answers.{Seen, GaveAll, FileCause}
+use Rattle.ol_cli.specs.Answers.{Seen}
+use Rattle.ol_cli.specs.Cases.{GaveAll, FileCause}
 
 -- the bytes are a text of a term with these free names, and this tree is read of it
 pub record IsReadOf (n : RunNumbers) (bytes : List ℕ) (names : List (List ℕ)) (tree : List ReadNode) : Type 0 where

@@ -103,15 +103,11 @@ WritesTree words bytes old new = (asked : Asked) (t : Tree) (names : List (List 
 -- What is told where the fuel of `demand` is spent: it is less than the number of inversions that the
 -- term's own net tells, before any step, of its first places, if they are no fewer than were asked
 -- for, or all.
-abbrev pub SpentTells : Translation → Tree → List (List ℕ) → (fuel heads : ℕ) → Status → Type 0
-SpentTells translation t names fuel heads status.Spent = (most m : ℕ) (ns : List ReadNode) →
+abbrev pub FuelTells : Asked → Tree → List (List ℕ) → Status → Type 0
+FuelTells (demand translation fuel heads name) t names status.Spent =
+    (most m : ℕ) (ns : List ReadNode) →
     HaveInversions (translation_of translation t (length names)) most ns m →
     (heads ≤ most) ⊎ (length ns < most) → fuel < m
-SpentTells translation t names fuel heads _ = Unit {0}
-
--- the same of a job
-abbrev pub FuelTells : Asked → Tree → List (List ℕ) → Status → Type 0
-FuelTells (demand translation fuel heads name) t names st = SpentTells translation t names fuel heads st
 FuelTells _ t names st = Unit {0}
 
 -- ---- every complete run
@@ -125,21 +121,17 @@ RunTells names fuel heads journal net status.Done old new =
 RunTells names fuel heads journal net status.Spent old new = fuel < length journal
 RunTells names fuel heads journal net _ old new = Unit {0}
 
--- what a run tells of the status of `demand`: where the demand run is longer than the fuel, so is
--- each complete run, and each that leads to a net from which the asked places can be read by walks
--- that meet no active pair
-abbrev pub DemandTells : (fuel : ℕ) → List Entry → Status → Type 0
-DemandTells fuel journal status.Spent = fuel < length journal
-DemandTells fuel journal _ = Unit {0}
-
--- the same of a job: the others rewrite nothing, or write no term
+-- The same of a job: where the demand run of `demand` is longer than the fuel, so is each complete
+-- run, and each that leads to a net from which the asked places can be read by walks that meet no
+-- active pair. The others rewrite nothing, or write no term.
 abbrev pub JobTells : Asked → List (List ℕ) → List Entry → NamedNet NodeName → Status →
     Option (List ℕ) → Option (List ℕ) → Type 0
 JobTells (run translation workers fuel heads name) names journal net st old new = RunTells names
     fuel heads journal net st old new
 JobTells (gen translation true k) names journal net st old new = RunTells names plain_fuel
     plain_heads journal net st old new
-JobTells (demand translation fuel heads name) names journal net st old new = DemandTells fuel journal st
+JobTells (demand translation fuel heads name) names journal net status.Spent old new =
+    fuel < length journal
 JobTells _ names journal net st old new = Unit {0}
 
 -- A run may end with a complete net, and for `demand` also with one from which the asked places can

@@ -1,8 +1,7 @@
 -- The texts that more than one command writes.
 use Rattle.std.specs.Fmt.{decimal}
-use Rattle.std.specs.Prelude.{List, [], codes, ℕ, ◌++◌, ◌∷◌}
+use Rattle.std.specs.Prelude.{List, [], codes, ℕ, ◌++◌, ◌<◌, ◌∷◌, ◌≡◌}
 use Rattle.ol_rules.specs.declared.journal.Counts.{Counts}
-use Rattle.ol_cli.specs.Limits.{most_term_bytes, most_depth, most_nodes, most_journal_bytes, most_net_bytes}
 
 -- the words and a line feed
 abbrev pub line : List ℕ → List ℕ
@@ -15,29 +14,9 @@ count_line name n = name ++ (32 ∷ decimal n ++ 10 ∷ [])
 abbrev pub usage_text : List ℕ
 usage_text = line (codes "usage: ol run|walk|view|trace|check|gen|demand|certify|net|equal [options] NAME")
 
-abbrev pub fault_text : List ℕ
-fault_text = line (codes "read fault")
-
-abbrev pub bytes_text : List ℕ
-bytes_text = count_line (codes "limit bytes") most_term_bytes
-
-abbrev pub depth_text : List ℕ
-depth_text = count_line (codes "limit depth") most_depth
-
-abbrev pub nodes_text : List ℕ
-nodes_text = count_line (codes "limit nodes") most_nodes
-
-abbrev pub journal_text : List ℕ
-journal_text = count_line (codes "limit journal") most_journal_bytes
-
-abbrev pub net_bytes_text : List ℕ
-net_bytes_text = count_line (codes "limit net") most_net_bytes
-
-abbrev pub syntax_text : ℕ → List ℕ
-syntax_text at = count_line (codes "syntax at byte") at
-
-abbrev pub spent_text : ℕ → List ℕ
-spent_text fuel = count_line (codes "fuel") fuel
+-- this number is more than the limit, and the text names the limit
+abbrev pub Exceeds : (n most : ℕ) → (limit text : List ℕ) → Type 0
+Exceeds n most limit text = (most < n) × (text ≡ count_line limit most)
 
 -- nine lines: the number of interactions of each rule, and of the pairs that are stuck
 abbrev pub counts_text : Counts → ℕ → List ℕ

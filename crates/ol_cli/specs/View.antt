@@ -10,12 +10,6 @@ use Rattle.ol_view.specs.Laws.{IsTable}
 use Rattle.ol_view.specs.Leads.{IsAfterLeads}
 use Rattle.ol_view.specs.ShowTexts.{show_text}
 use Rattle.ol_cli.specs.Texts.{count_line}
-use Rattle.ol_cli.specs.declared.status.Status.{Status}
-use Rattle.ol_cli.specs.Shapes.{OnlyDone}
-
--- the line of the number of steps, and the net after them as it is shown
-abbrev pub view_text : ℕ → List ℕ → List ℕ
-view_text steps shown = count_line (codes "step") steps ++ shown
 
 -- The net of the term is rewritten by at most so many leads, and what is left is shown, with the
 -- number of leads. The nodes have the
@@ -29,8 +23,4 @@ pub record Views (translation : Translation) (t : Tree) (names : List (List ℕ)
   pub whole : count_by is_some start.nodes ≡ length start.nodes
   pub leads : IsAfterLeads start after last steps
   pub tabled : IsTable last
-  pub written : text ≡ view_text steps (show_text last)
-
--- What `view` answers to a term: its net after some leads is shown.
-abbrev pub ViewAnswer : Translation → Tree → List (List ℕ) → (after : ℕ) → Status → List ℕ → Type 0
-ViewAnswer translation t names after = OnlyDone (Views translation t names after)
+  pub written : text ≡ count_line (codes "step") steps ++ show_text last

@@ -7,8 +7,6 @@ use Rattle.ol_term.specs.Trees.{Tree}
 use Rattle.ol_term.specs.declared.translations.Translation.{Translation}
 use Rattle.ol_translate.specs.Translation.{translation_of}
 use Rattle.ol_cli.specs.Texts.{line}
-use Rattle.ol_cli.specs.declared.status.Status.{Status}
-use Rattle.ol_cli.specs.Shapes.{OnlyDone}
 
 -- The untouched translation is read back, each try by at most `edges` crossings, and this is its line.
 pub record Walks (translation : Translation) (t : Tree) (names : List (List ℕ)) (edges heads : ℕ)
@@ -18,7 +16,3 @@ pub record Walks (translation : Translation) (t : Tree) (names : List (List ℕ)
   pub read : IsTree (translation_of translation t (length names)) heads edges tree
   pub shown : IsTextOf names tree term
   pub written : text ≡ line term
-
--- What `walk` answers to a term: its untouched translation is printed.
-abbrev pub WalkAnswer : Translation → Tree → List (List ℕ) → (edges heads : ℕ) → Status → List ℕ → Type 0
-WalkAnswer translation t names edges heads = OnlyDone (Walks translation t names edges heads)

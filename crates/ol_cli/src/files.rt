@@ -9,7 +9,8 @@ use crate::answer::{Answer, refusal};
 use crate::limits::{MOST_JOURNAL_BYTES, MOST_NET_BYTES, MOST_TERM_BYTES};
 use crate::status::Status;
 use crate::texts::count_line;
-use ol_io::{NoMemory, ReadAll, Source, read_all};
+use ol_io::{ReadAll, Source, read_all};
+use ol_memory::NoMemory;
 use std::alloc::Global;
 
 /// What a file is read for.

@@ -7,7 +7,8 @@ ghost use Rattle.ol_cli.specs.Ready.{HoldsOfTerms};
 ghost use Rattle.ol_cli.specs.Limits.{most_fuel, most_workers};
 
 use crate::numbers::RunNumbers;
-use ol_io::{Gate, NoMemory};
+use ol_io::Gate;
+use ol_memory::NoMemory;
 use ol_net::Net;
 use ol_readback::{ReadTree, read_back};
 use ol_reduce::{Reduced, reduce};

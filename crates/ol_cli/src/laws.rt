@@ -2,7 +2,7 @@
 
 ghost use Rattle.ol_cli.specs.DemandFuel.{DemandHasFuel, HeadHasFuel};
 ghost use Rattle.ol_cli.specs.EveryRun.{EveryRunIsLonger, EveryRunPrints};
-ghost use Rattle.ol_cli.specs.EveryRun.{AnyRunPrints, AnyRunRunsOut, OneThreadIsThere};
+ghost use Rattle.ol_cli.specs.EveryRun.{AnyRunEnds, AnyRunPrints, AnyRunRunsOut, OneThreadIsThere};
 ghost use Rattle.ol_cli.specs.SourceLaws.{CertifyNeverDiffers, ComparisonTellsSources, HeadBesideLostTellsSources};
 ghost use Rattle.ol_cli.specs.Laws.{OneAnswer, OneNetIsLeft, OneTreeIsDemanded, OneTreeIsPrinted};
 ghost use Rattle.ol_cli.specs.Laws.{OneTreeIsWalked, WorkersAreNotSeen};
@@ -34,12 +34,15 @@ pub fn every_run_answers()
     ensures longer { EveryRunIsLonger }
 {}
 
-/// There is a one-thread run for each fuel, and any run tells its answer: what is printed of a
-/// complete run within the fuel is printed of the one-thread run, and where a run is longer than
-/// the fuel, or is as long and has an active pair left, the one-thread run is spent.
+/// There is a one-thread run for each fuel, and any run tells its answer: where a complete run is
+/// within the fuel, the one-thread run ends within it, and prints what is printed of that run; and
+/// where a run is longer than the fuel, or is as long and has an active pair left, the one-thread
+/// run is spent. So what `trace` answers to a term, which is said of the run that it traces, is said
+/// of the one-thread run too.
 pub fn any_run_tells()
     ensures there { OneThreadIsThere }
     ensures prints { AnyRunPrints }
+    ensures ends { AnyRunEnds }
     ensures spent { AnyRunRunsOut }
 {}
 

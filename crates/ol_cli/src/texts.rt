@@ -1,10 +1,11 @@
 //! The texts that the program writes.
 ghost use Rattle.std.specs.Prelude.{◌≡◌, ◌++◌, IfOk, OnOk};
-ghost use Rattle.ol_cli.specs.Texts.{line, count_line, syntax_text, spent_text, counts_text, answer_text};
+ghost use Rattle.ol_cli.specs.Texts.{line, count_line, counts_text, answer_text};
+ghost use Rattle.ol_cli.specs.RefusalTexts.{syntax_text, spent_text};
 ghost use Rattle.ol_cli.specs.Check.{found_text};
-ghost use Rattle.ol_cli.specs.View.{view_text};
+ghost use Rattle.ol_cli.specs.RefusalTexts.{view_text};
 
-use ol_io::NoMemory;
+use ol_memory::NoMemory;
 use ol_rules::Counts;
 use ol_view::Check;
 use std::alloc::Global;

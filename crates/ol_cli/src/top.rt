@@ -3,15 +3,17 @@ ghost use Rattle.std.specs.Prelude.{List, ◌++◌, ℕ, ◌≢◌, ◌≤◌, �
 ghost use Rattle.ol_io.specs.Outside.{Rose, Appended};
 ghost use Rattle.ol_io.specs.Readings.{Reading, AreOfSince, handed};
 ghost use Rattle.ol_words.specs.declared.jobs.Job.{Job as Asked};
+ghost use Rattle.ol_cli.specs.NormalForms.{PlainDemandSays, FirstLine, IsFoundWithin};
+ghost use Rattle.ol_cli.specs.NormalForms.{CountsSay, IsNoMoreThanLeftmost, AreFamilies};
 ghost use Rattle.ol_cli.specs.Jobs.{AskFor, AskForNothing, EachName, IsKnownTo, OfReadFiles};
 ghost use Rattle.ol_cli.specs.Jobs.{TellsTerm, TellsFiles, count_of_files, files_of};
 ghost use Rattle.ol_cli.specs.Inside.{ComesOf, ComesOfWords, IsWithinLimits, Writes};
-ghost use Rattle.ol_cli.specs.Answers.{IfNoneFailed, seen_of, Ends, IsAnswer, RefusesFirst};
+ghost use Rattle.ol_cli.specs.Answers.{IfNoneFailed, seen_of, Ends, HasCause};
+ghost use Rattle.ol_cli.specs.Answers.{IsAnswer, RefusesFirst};
 ghost use Rattle.ol_cli.specs.Completeness.{AskForWhatCanBeDone, IsDoneOrNothing};
 ghost use Rattle.ol_cli.specs.Sources.{EveryRunTells, WritesTree};
 ghost use Rattle.ol_cli.specs.NormalForms.{LineSays, IsItsNormalForm, TellsOfNone, IsFoundOnDemand, LineSaysOfTwo};
-ghost use Rattle.ol_cli.specs.NormalForms.{PlainDemandFinds, PlainDemandIsFrugal};
-ghost use Rattle.ol_cli.specs.NormalForms.{PlainDemandIsOptimal, PlainEqualSays};
+ghost use Rattle.ol_cli.specs.NormalForms.{PlainEqualSays};
 ghost use Rattle.ol_cli.specs.NormalForms.{PlainLineSays};
 ghost use Rattle.ol_cli.specs.SourceLaws.{WritesOfSources};
 ghost use Rattle.ol_cli.specs.Handed.{Hands};
@@ -30,7 +32,8 @@ use crate::commands::walk::answer_walk;
 use crate::numbers::RunNumbers;
 use crate::status::Status;
 use crate::texts::line;
-use ol_io::{Gate, NoMemory, Sink, Source, Written, write_all};
+use ol_io::{Gate, Sink, Source, Written, write_all};
+use ol_memory::NoMemory;
 use ol_wire::Words;
 use ol_words::{Job, UsageFault, job};
 use std::alloc::Global;
@@ -168,14 +171,16 @@ pub fn ol<R: Threads + Wait + Sync, S: Source, W: Sink, G: Gate + Sync>(
     ensures plain_demand { OfReadFiles (S.readings src.old) (S.readings src.new) (λ files.
         IfNoneFailed (S.faults src.old) (S.faults src.new) (W.faults out.old) (W.faults out.new)
         (result.status ≡ Status.Done
-        → PlainDemandFinds words.now.items files (W.taken out.old) (W.taken out.new))) }
+        → PlainDemandSays (λ source. FirstLine (IsFoundWithin 4096 source))
+        words.now.items files (W.taken out.old) (W.taken out.new))) }
 
     // And its `beta` is no more than the number of redexes that leftmost reduction of the term in
     // the file contracts on its way to a normal form.
     ensures plain_frugal { OfReadFiles (S.readings src.old) (S.readings src.new) (λ files.
         IfNoneFailed (S.faults src.old) (S.faults src.new) (W.faults out.old) (W.faults out.new)
         (result.status ≡ Status.Done
-        → PlainDemandIsFrugal words.now.items files (W.taken out.old) (W.taken out.new))) }
+        → PlainDemandSays (λ source. CountsSay (λ line. IsNoMoreThanLeftmost source))
+        words.now.items files (W.taken out.old) (W.taken out.new))) }
 
     // Nor is it more than the number of families among these redexes, told by Lévy's labels. And
     // where the line is a text of a term it is that number. (By a theorem of Lévy's, which isn't
@@ -183,7 +188,8 @@ pub fn ol<R: Threads + Wait + Sync, S: Source, W: Sink, G: Gate + Sync>(
     ensures plain_optimal { OfReadFiles (S.readings src.old) (S.readings src.new) (λ files.
         IfNoneFailed (S.faults src.old) (S.faults src.new) (W.faults out.old) (W.faults out.new)
         (result.status ≡ Status.Done
-        → PlainDemandIsOptimal words.now.items files (W.taken out.old) (W.taken out.new))) }
+        → PlainDemandSays (λ source. CountsSay (AreFamilies source))
+        words.now.items files (W.taken out.old) (W.taken out.new))) }
 
     // After `ol equal A B` the line is `equal` only where the terms in the two files are
     // convertible, and begins with `different` only where they aren't. Beta reduction alone counts,
@@ -228,8 +234,9 @@ pub fn ol<R: Threads + Wait + Sync, S: Source, W: Sink, G: Gate + Sync>(
     // Each status has its cause, and its text is appended whole, or a prefix of it where the sink
     // failed.
     ensures ends { OfReadFiles (S.readings src.old) (S.readings src.new) (λ files.
-        Ends words.now.items (seen_of S.faults files S.given S.ended src.old src.new)
-        result.status (W.faults out.old) (W.faults out.new) (W.taken out.old) (W.taken out.new)) }
+        Ends (HasCause words.now.items
+        (seen_of S.faults files S.given S.ended src.old src.new)) result.status
+        (W.faults out.old) (W.faults out.new) (W.taken out.old) (W.taken out.new)) }
 
     // Where the bytes of the job's files are told and nothing fails, the status and the text are
     // those of the answer.
@@ -407,10 +414,7 @@ fn answer_words<R: Threads + Wait + Sync, S: Source, G: Gate + Sync>(
             )?;
             Ok(Answer::text_alone(text, Status::Usage))
         }
-        Ok(job) => {
-            let answer = answer_job(rt, alloc, &job, src, gate)?;
-            Ok(answer)
-        }
+        Ok(job) => answer_job(rt, alloc, &job, src, gate),
     }
 }
 

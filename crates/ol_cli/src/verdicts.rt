@@ -1,12 +1,14 @@
 //! The texts of verdicts.
 ghost use Rattle.std.specs.Prelude.{◌≡◌, ◌++◌, codes, IfOk, OnOk, string_bytes};
 ghost use Rattle.ol_cli.specs.Texts.{line, count_line};
-ghost use Rattle.ol_beta.specs.AddressTexts.{moves_text, address_text};
+ghost use Rattle.std.specs.List.{flat_map};
+ghost use Rattle.std.specs.Fmt.{decimal};
+ghost use Rattle.ol_beta.specs.AddressTexts.{address_text};
 ghost use Rattle.ol_cli.specs.Certify.{road_text, verdict_text};
 
 use crate::texts::{add_count, count_line, line};
 use ol_beta::{Address, Road, Verdict};
-use ol_io::NoMemory;
+use ol_memory::NoMemory;
 use std::alloc::Global;
 
 /// What is told of a verdict by at most `steps` steps: `incomplete`; `deep D` with the depth;
@@ -81,7 +83,7 @@ fn address_words(alloc: Global, at: &Address) -> Result<String, NoMemory>
 
 // The moves of an address, one digit each.
 fn digits(alloc: Global, at: &Address) -> Result<String, NoMemory>
-    ensures { IfOk result (λ words. string_bytes words ≡ moves_text at.now) }
+    ensures { IfOk result (λ words. string_bytes words ≡ flat_map decimal at.now) }
 {
     let mut words = String::new(alloc);
     for k in 0..at.len() {

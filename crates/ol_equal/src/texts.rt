@@ -2,11 +2,12 @@
 
 ghost use Rattle.std.specs.Prelude.{◌≡◌, ◌++◌, ◌∷◌, [], ◌<◌, length, slice_get, slice_index_or, drop, codes, IfOk, OnOk};
 ghost use Rattle.std.specs.Fmt.{decimal};
-ghost use Rattle.ol_equal.specs.Texts.{dotted, path_text, compared_text};
+ghost use Rattle.ol_equal.specs.Texts.{path_text, compared_text};
+ghost use Rattle.ol_equal.specs.Walking.{dotted};
 
 use crate::answers::Compared;
 use crate::steps::Path;
-use ol_io::NoMemory;
+use ol_memory::NoMemory;
 use std::alloc::Global;
 
 /// The words of a comparison: `equal`, `different at PATH` or `cut at PATH`. PATH is `root`, or the

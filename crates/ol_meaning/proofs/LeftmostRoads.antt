@@ -3,7 +3,8 @@ use Rattle.std.proofs.Common.{◌≡◌, ℕ, zero, suc, ◌+◌, Bool, true, fa
 use Rattle.std.proofs.Common.{◌∷◌, length, Option, Some, None, refl, sym, ap, ◌∙◌, subst}
 use Rattle.std.specs.Option.{option_map}
 use Rattle.ol_beta.specs.Beta.{contracted}
-use Rattle.ol_beta.specs.Leftmost.{leftmost, first_of_two, is_abstraction}
+use Rattle.std.specs.Option.{option_or}
+use Rattle.ol_beta.specs.Leftmost.{leftmost, is_abstraction}
 use Rattle.ol_beta.specs.Leftmost as beta_steps
 use Rattle.ol_readback.specs.Whole.{Part, term, lost, cut, none, more, preorder}
 use Rattle.ol_readback.specs.Terms.{HasAllHeads, abstracted, variable_of, meaning, term_of}
@@ -44,16 +45,16 @@ pub record IsNeutral (t : Tree) : Type 0 where
 pub arg_leftmost : (f a : Tree) (o : Option (List ℕ)) → IsNeutral f → leftmost a ≡ o →
     leftmost (app f a) ≡ beta_steps.under 2 o
 arg_leftmost f a o n e =
-    ap (λ b. if b then Some [] else first_of_two (beta_steps.under 1 (leftmost f))
+    ap (λ b. if b then Some [] else option_or (beta_steps.under 1 (leftmost f))
     (beta_steps.under 2 (leftmost a))) n.plain
-    ∙ ap (λ x. first_of_two (beta_steps.under 1 x) (beta_steps.under 2 (leftmost a))) n.none ∙ ap (beta_steps.under 2) e
+    ∙ ap (λ x. option_or (beta_steps.under 1 x) (beta_steps.under 2 (leftmost a))) n.none ∙ ap (beta_steps.under 2) e
 
 -- and of one whose function has one and is no abstraction
 pub fun_leftmost : (f a : Tree) (at : List ℕ) → is_abstraction f ≡ false → leftmost f ≡ Some at →
     leftmost (app f a) ≡ Some (1 ∷ at)
 fun_leftmost f a at n e =
-    ap (λ b. if b then Some [] else first_of_two (beta_steps.under 1 (leftmost f)) (beta_steps.under 2 (leftmost a))) n
-    ∙ ap (λ x. first_of_two (beta_steps.under 1 x) (beta_steps.under 2 (leftmost a))) e
+    ap (λ b. if b then Some [] else option_or (beta_steps.under 1 (leftmost f)) (beta_steps.under 2 (leftmost a))) n
+    ∙ ap (λ x. option_or (beta_steps.under 1 x) (beta_steps.under 2 (leftmost a))) e
 
 -- a leftmost step
 pub record StepsTo (t u : Tree) : Type 0 where

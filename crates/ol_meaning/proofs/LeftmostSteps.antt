@@ -6,7 +6,8 @@ use Rattle.std.proofs.lemmas.Bool.{eqb-true, eq-eqb, ltb-true, ltb-false}
 use Rattle.std.proofs.lemmas.Option.{same_Some}
 use Rattle.std.specs.Option.{option_map}
 use Rattle.ol_beta.specs.Beta.{shifted, substituted, contracted}
-use Rattle.ol_beta.specs.Leftmost.{leftmost, first_of_two}
+use Rattle.std.specs.Option.{option_or}
+use Rattle.ol_beta.specs.Leftmost.{leftmost}
 use Rattle.ol_beta.specs.Leftmost as beta_steps
 use Rattle.ol_meaning.specs.Spots.{Tree, var, free, lam, app, up_from, lift, suc_of, without, put}
 use Rattle.ol_meaning.specs.Spots.{subst_for, HeadStep, beta, below, before}
@@ -75,9 +76,9 @@ leftmost_step (below h) = let r = leftmost_step h in (0 ∷ r.0, ap (beta_steps.
 leftmost_step (before {R = R} {P = P} e h) =
     let r = leftmost_step h in (
       1 ∷ r.0,
-      ap (λ b. if b then Some [] else first_of_two (beta_steps.under 1 (leftmost R))
+      ap (λ b. if b then Some [] else option_or (beta_steps.under 1 (leftmost R))
           (beta_steps.under 2 (leftmost P))) e
-          ∙ ap (λ x. first_of_two (beta_steps.under 1 x) (beta_steps.under 2 (leftmost P))) r.1,
+          ∙ ap (λ x. option_or (beta_steps.under 1 x) (beta_steps.under 2 (leftmost P))) r.1,
       ap (option_map (λ g. app g P)) r.2,
     )
 

@@ -56,8 +56,7 @@ applied f (P ∷ Ps) = applied (app f P) Ps
 abbrev pub IsVariable : Tree → Type 0
 IsVariable (var y) = Unit {0}
 IsVariable (free f) = Unit {0}
-IsVariable (lam t) = ⊥
-IsVariable (app t s) = ⊥
+IsVariable _ = ⊥
 
 -- abstractions round a variable or a free name that is applied to arguments
 pub record IsHeadNormal (t : Tree) : Type 0 where
@@ -77,9 +76,8 @@ Shown false = List Tree
 -- some place has no head
 abbrev pub LacksHead : List ReadNode → Type 0
 LacksHead [] = ⊥
-LacksHead (node.Head l v k ∷ ns) = LacksHead ns
 LacksHead (node.NoHead ∷ ns) = Unit {0}
-LacksHead (node.Cut ∷ ns) = LacksHead ns
+LacksHead (n ∷ ns) = LacksHead ns
 
 -- The term is the tree's own, with some term in the place of each hole: where a place was cut, and
 -- where it has no head. Where

@@ -1,5 +1,5 @@
 -- The stuck pairs whose smaller numbers are below a number.
-use Rattle.std.proofs.Common.{◌≡◌, ℕ, suc, ◌+◌, ◌<◌, ◌≤◌, ◌↔◌, ◌⊎◌, List, [], ◌∷◌, ◌++◌, length}
+use Rattle.std.proofs.Common.{◌≡◌, ℕ, zero, suc, map, ◌+◌, ◌<◌, ◌≤◌, ◌↔◌, ◌⊎◌, List, [], ◌∷◌, ◌++◌, length}
 use Rattle.std.proofs.Common.{Option, Some, None, MatchOption, inl, inr, refl, sym, ap, ◌∙◌, subst}
 use Rattle.std.proofs.Common.{arith}
 use Rattle.std.specs.List.{flat_map}
@@ -13,7 +13,8 @@ use Rattle.ol_net.specs.Numbered.{net_of, PortsLinked}
 use Rattle.ol_net.specs.Pairs.{IsStuck, IsInStuck}
 use Rattle.ol_net.proofs.Numbered.{has_node}
 use Rattle.ol_net.proofs.Places.{kind_at-inside}
-use Rattle.ol_netfile.specs.StuckPairs.{Ascend, pair_line, IsPairsText}
+use Rattle.std.specs.List.Sorted.{IsStrictlyIncreasing}
+use Rattle.ol_netfile.specs.StuckPairs.{pair_line, IsPairsText}
 use Rattle.ol_netfile.proofs.Ordered.{pushed}
 
 -- ---- the other node of a stuck pair
@@ -36,6 +37,19 @@ above-is g n q s (Some b) net (y, stuck) linked
     (is, lt) = (lt, subst (IsStuck (net_of g) n) (only-other g n q s net linked y stuck ∙ sym is) stuck)
 
 -- ---- the pairs so far
+
+-- the first numbers ascend, from this one on
+abbrev pub Ascend : ℕ → List (ℕ × ℕ) → Type 0
+Ascend least [] = Unit {0}
+Ascend least (p ∷ pairs) = (least ≤ p.0) × Ascend (suc p.0) pairs
+
+ascends : (least : ℕ) (ps : List (ℕ × ℕ)) → Ascend least ps → IsStrictlyIncreasing (map (λ (p : ℕ × ℕ). p.0) ps)
+ascends least [] h k l = absurd (omega arith)
+ascends least (x ∷ []) h k l = absurd (omega arith)
+ascends least (x ∷ y ∷ ps) h zero l = omega (arith, h.1.0)
+ascends least (x ∷ y ∷ ps) h (suc k) l =
+    let e : suc k + 1 ≡ suc (k + 1) = omega arith in
+    rw e (ascends (suc x.0) (y ∷ ps) h.1 k (omega arith))
 
 pub record Below (N : NamedNet ℕ) (n : ℕ) (text : List ℕ) : Type 0 where
   pub pairs : List (ℕ × ℕ)
@@ -116,15 +130,13 @@ pub all-below : (g : Graph) (n : ℕ) (text : List ℕ) → length g.nodes ≤ n
     IsPairsText (net_of g) text
 all-below g n text le w = record {
   pairs = w.pairs;
-  stuck = record {
-    all = λ a b. (
-      λ h. let r = (w.all a b).0 h in (r.1, r.2),
-      λ h.
-          let s = h.1 in
-          let here = kind_at-inside g.nodes a (s.k, s.i) ((has_node g a s.k s.i).0 s.faces.first) in
-          (w.all a b).1 (omega (arith, here, le), h.0, h.1),
-    );
-    ascend = w.ascend;
-  };
+  all = λ a b. (
+    λ h. let r = (w.all a b).0 h in (r.1, r.2),
+    λ h.
+        let s = h.1 in
+        let here = kind_at-inside g.nodes a (s.k, s.i) ((has_node g a s.k s.i).0 s.faces.first) in
+        (w.all a b).1 (omega (arith, here, le), h.0, h.1),
+  );
+  ascend = ascends 0 w.pairs w.ascend;
   written = w.written;
 }

@@ -1,7 +1,7 @@
 -- A line of either form that is read stands there, and one that stands there is read.
 use Rattle.std.proofs.Common.{◌≡◌, ℕ, ◌≤◌, Bool, true, false, if◌then◌else◌, eqb, List, [], ◌∷◌}
 use Rattle.std.proofs.Common.{◌++◌, append_assoc, length, drop, Option, None, Some, refl, sym, ap}
-use Rattle.std.proofs.Common.{◌∙◌, subst}
+use Rattle.std.proofs.Common.{◌∙◌, subst, arith}
 use Rattle.std.specs.List.{starts_with}
 use Rattle.std.specs.Prelude.{option_and_then, option_map}
 use Rattle.std.specs.Fmt.{decimal}
@@ -13,9 +13,10 @@ use Rattle.ol_rules.specs.declared.journal.NodeName.{NodeName}
 use Rattle.ol_rules.specs.declared.journal.Entry.{Entry}
 use Rattle.ol_view.specs.declared.forms.Form.{Form}
 use Rattle.ol_view.specs.declared.forms.Form.TheVariants.{One, Two}
-use Rattle.ol_view.specs.TraceTexts.{line_text, BeginsWithLine}
-use Rattle.ol_view.specs.WaveTexts.{rule_text, BeginsWithWaveLine}
-use Rattle.ol_view.specs.Forms.{BeginsWithEntry}
+use Rattle.ol_view.specs.TraceTexts.{line_text}
+use Rattle.ol_view.specs.WaveTexts.{rule_text}
+use Rattle.ol_view.specs.EachForm.{BeginsWithLine}
+use Rattle.ol_view.specs.Forms.{line_of, BeginsWithEntry}
 use Rattle.ol_view.specs.Checks.{HasNoLine}
 use Rattle.ol_view.specs.LineReading.{front_number, behind, front_line, word_behind, first_of}
 use Rattle.ol_view.specs.LineReading.{front_rule_of, all_rules, front_rule, told_end, told_on}
@@ -156,33 +157,57 @@ abbrev entry : Rule → NodeName → NodeName → Entry
 entry r a b = record { rule = r; first = a; second = b }
 
 -- a line that is read, of a rule and a wave that it tells or doesn't tell
+pub line_there : (form : Form) (text : List ℕ) (t : Option (Rule × ℕ)) (a b : NodeName)
+    (rest : List ℕ) → ◌≡◌ {A = Read} (front_entry form text) (Some (t, a, b, rest)) →
+    (r : Rule) (wave : ℕ) → TellsOf t r wave → text ≡ line_of form (entry r a b) wave ++ rest
+line_there One text t a b rest e r wave h =
+    let l = line_read One text t a b rest e in
+    let z : ◌≡◌ {A = Option (Rule × ℕ) × List ℕ} (None, text) (t, l.names) = (let y = l.told in cc) in
+    ap (λ (p : Option (Rule × ℕ) × List ℕ). p.1) z ∙ l.line.begins
+line_there Two text t a b rest e r wave h =
+    let l = line_read Two text t a b rest e in
+    let d = told_sound text t l.names l.told in
+    let i : (d.rule ≡ r) × (d.wave ≡ wave) = subst (λ t. TellsOf t r wave) d.told h in
+    d.begins ∙ ap (λ r. rule_text r ++ (32 ∷ decimal d.wave ++ 32 ∷ l.names)) i.0
+    ∙ ap (λ wave. rule_text r ++ (32 ∷ decimal wave ++ 32 ∷ l.names)) i.1
+    ∙ ap (λ names. rule_text r ++ (32 ∷ decimal wave ++ 32 ∷ names)) l.line.begins
+    ∙ sym (append_assoc (rule_text r) (32 ∷ decimal wave ++ (32 ∷ line_text a b)) rest
+    ∙ ap (λ bs. rule_text r ++ 32 ∷ bs) (append_assoc (decimal wave) (32 ∷ line_text a b) rest))
+
 pub entry_sound : (form : Form) (text : List ℕ) (t : Option (Rule × ℕ)) (a b : NodeName)
     (rest : List ℕ) → ◌≡◌ {A = Read} (front_entry form text) (Some (t, a, b, rest)) →
-    (r : Rule) (wave : ℕ) → TellsOf t r wave →
+    (r : Rule) (wave : ℕ) → TellsOf t r wave → wave ≤ 4294967295 →
     BeginsWithEntry form text (entry r a b) wave rest
-entry_sound One text t a b rest e r wave h = one (line_read One text t a b rest e)
-  where
-    one : IsLineRead One text t a b rest → BeginsWithLine text a b rest
-    one l =
-        let z : ◌≡◌ {A = Option (Rule × ℕ) × List ℕ} (None, text) (t, l.names) = (let y = l.told in cc) in
-        subst (λ text. BeginsWithLine text a b rest) (sym (ap (λ (p : Option (Rule × ℕ) × List ℕ). p.1) z)) l.line
-entry_sound Two text t a b rest e r wave h = two (line_read Two text t a b rest e)
-  where
-    two : IsLineRead Two text t a b rest → BeginsWithWaveLine text (entry r a b) wave rest
-    two l =
-        let d = told_sound text t l.names l.told in
-        let i : (d.rule ≡ r) × (d.wave ≡ wave) = subst (λ t. TellsOf t r wave) d.told h in
-        record {
-          begins = d.begins ∙ ap (λ r. rule_text r ++ (32 ∷ decimal d.wave ++ 32 ∷ l.names)) i.0
-              ∙ ap (λ wave. rule_text r ++ (32 ∷ decimal wave ++ 32 ∷ l.names)) i.1
-              ∙ ap (λ names. rule_text r ++ (32 ∷ decimal wave ++ 32 ∷ names)) l.line.begins
-              ∙ sym (append_assoc (rule_text r) (32 ∷ decimal wave ++ (32 ∷ line_text a b)) rest
-              ∙ ap (λ bs. rule_text r ++ 32 ∷ bs) (append_assoc (decimal wave) (32 ∷ line_text a b) rest));
-          wave_may = subst (λ wave. wave ≤ 4294967295) i.1 d.may;
-          first_may = l.line.first_may;
-          second_may = l.line.second_may;
-          ordered = l.line.ordered;
-        }
+entry_sound form text t a b rest e r wave h small =
+    let l = line_read form text t a b rest e in
+    record {
+      begins = line_there form text t a b rest e r wave h;
+      wave_may = small;
+      names_may = (l.line.first_may, l.line.second_may);
+      ordered = l.line.ordered;
+    }
+
+-- a wave that is told may be written
+told_may : (form : Form) (text : List ℕ) (s : Rule × ℕ) (names : List ℕ) →
+    front_told form text ≡ Some (Some s, names) → s.1 ≤ 4294967295
+told_may One text s names e =
+    let z : ◌≡◌ {A = Option (Rule × ℕ) × List ℕ} (None, text) (Some s, names) = cc in
+    let q : ◌≡◌ {A = Option (Rule × ℕ)} None (Some s) = ap (λ (p : Option (Rule × ℕ) × List ℕ). p.0) z in
+    absurd (cc)
+told_may Two text s names e =
+    let d = told_sound text (Some s) names e in
+    let z : ◌≡◌ {A = Rule × ℕ} s (d.rule, d.wave) = (let y = d.told in cc) in
+    subst (λ w. w ≤ 4294967295) (sym (ap (λ (p : Rule × ℕ). p.1) z)) d.may
+
+-- the first form is read as its own line
+first_form : (text : List ℕ) (e : Entry) (wave : ℕ) (rest : List ℕ) →
+    BeginsWithEntry One text e wave rest → BeginsWithLine text e.first e.second rest
+first_form text e wave rest h = record {
+  begins = h.begins;
+  first_may = h.names_may.0;
+  second_may = h.names_may.1;
+  ordered = h.ordered;
+}
 
 -- a line that stands here is read
 pub entry_complete : (form : Form) (text : List ℕ) (e : Entry) (wave : ℕ) (rest : List ℕ) →
@@ -190,7 +215,7 @@ pub entry_complete : (form : Form) (text : List ℕ) (e : Entry) (wave : ℕ) (r
     ◌≡◌ {A = Read} (front_entry form text) (Some (told_of form e wave, e.first, e.second, rest))
 entry_complete One text e wave rest h = ap
     (λ o. option_map (λ (l : NodeName × NodeName × List ℕ). (None, l.0, l.1, l.2)) o)
-    (line_complete text e.first e.second rest h)
+    (line_complete text e.first e.second rest (first_form text e wave rest h))
 entry_complete Two text e wave rest h =
     ap (λ text. front_entry Two text) (h.begins
     ∙ append_assoc (rule_text e.rule) (32 ∷ decimal wave ++
@@ -199,7 +224,7 @@ entry_complete Two text e wave rest h =
     ∙ ap (λ o. option_and_then told_with o) (told_complete e.rule wave (line_text e.first e.second ++ rest) h.wave_may)
     ∙ ap (λ o. option_map (λ (l : NodeName × NodeName × List ℕ). (Some (e.rule, wave), l.0, l.1, l.2)) o)
     (line_complete (line_text e.first e.second ++ rest) e.first e.second rest
-    (record { begins = refl; first_may = h.first_may; second_may = h.second_may; ordered = h.ordered }))
+    (record { begins = refl; first_may = h.names_may.0; second_may = h.names_may.1; ordered = h.ordered }))
 
 -- each line that is read is one of an entry and a wave
 pub record IsOfEntry (form : Form) (text : List ℕ) (t : Option (Rule × ℕ)) (a b : NodeName)
@@ -215,13 +240,14 @@ of_entry form text None a b rest e = record {
   rule = rule.Beta;
   wave = 0;
   tells = tt;
-  begins = entry_sound form text None a b rest e rule.Beta 0 tt;
+  begins = entry_sound form text None a b rest e rule.Beta 0 tt (omega arith);
 }
 of_entry form text (Some s) a b rest e = record {
   rule = s.0;
   wave = s.1;
   tells = (refl, refl);
-  begins = entry_sound form text (Some s) a b rest e s.0 s.1 (refl, refl);
+  begins = entry_sound form text (Some s) a b rest e s.0 s.1 (refl, refl)
+      (told_may form text s (line_read form text (Some s) a b rest e).names (line_read form text (Some s) a b rest e).told);
 }
 
 -- no line, as it is read

@@ -1,19 +1,13 @@
 -- The text of a journal in either form, line by line.
-use Rattle.std.proofs.Common.{◌≡◌, ℕ, List, [], ◌∷◌, ◌++◌, append_assoc, true, length, refl, sym, ap, ◌∙◌, arith}
+use Rattle.std.proofs.Common.{◌≡◌, ℕ, List, [], ◌∷◌, ◌++◌, append_assoc, length, refl, sym, ap, ◌∙◌, arith}
 use Rattle.std.proofs.lemmas.List.{append-nil}
 use Rattle.ol_rules.specs.declared.journal.Entry.{Entry}
-use Rattle.ol_rules.specs.Names.{comes_before}
 use Rattle.ol_view.specs.declared.forms.Form.{Form}
 use Rattle.ol_view.specs.declared.forms.Form.TheVariants.{One, Two}
-use Rattle.ol_view.specs.TraceTexts.{header, line_text, lines_text}
-use Rattle.ol_view.specs.WaveTexts.{wave_header, wave_line_text, wave_lines_text}
-use Rattle.ol_view.specs.Forms.{header_of, text_of, BeginsWithEntry}
+use Rattle.ol_view.specs.TraceTexts.{line_text}
+use Rattle.ol_view.specs.EachForm.{header, lines_text, wave_header, wave_line_text, wave_lines_text}
+use Rattle.ol_view.specs.Forms.{header_of, line_of, text_of}
 use Rattle.ol_view.proofs.Traces.{lines_append}
-
--- the line of an entry
-abbrev pub line_of : Form → Entry → ℕ → List ℕ
-line_of One e wave = line_text e.first e.second
-line_of Two e wave = wave_line_text e wave
 
 abbrev pub lines_of : Form → List Entry → List ℕ → List ℕ
 lines_of One es ws = lines_text es
@@ -48,14 +42,3 @@ text_on One es ws e wave q = ap (λ bs. header ++ bs) (lines_append es e)
     ∙ sym (append_assoc header (lines_text es) (line_text e.first e.second))
 text_on Two es ws e wave q = ap (λ bs. wave_header ++ bs) (wave_lines_append es ws e wave q)
     ∙ sym (append_assoc wave_header (wave_lines_text es ws) (wave_line_text e wave))
-
--- a line that stands here names the smaller name first
-pub stands : (form : Form) (text : List ℕ) (e : Entry) (wave : ℕ) (rest : List ℕ) →
-    BeginsWithEntry form text e wave rest → comes_before e.first e.second ≡ true
-stands One text e wave rest h = h.ordered
-stands Two text e wave rest h = h.ordered
-
-pub begun : (form : Form) (text : List ℕ) (e : Entry) (wave : ℕ) (rest : List ℕ) →
-    BeginsWithEntry form text e wave rest → text ≡ line_of form e wave ++ rest
-begun One text e wave rest h = h.begins
-begun Two text e wave rest h = h.begins

@@ -17,7 +17,8 @@ use Rattle.ol_net.proofs.Numbered.{same_kinds, linked, net_is_net, numbered_port
 use Rattle.ol_net.proofs.Numbered.{partner_of-parts, partner_of-there}
 use Rattle.ol_rules.proofs.Relation.{same_sym}
 use Rattle.ol_view.specs.Laws.{IsTable, EqualNetsAreShownAlike}
-use Rattle.ol_view.specs.ShowTexts.{partner_text, free_lines, partners_text, node_line, node_lines}
+use Rattle.ol_view.specs.ShowTexts.{partner_text, node_line}
+use Rattle.ol_view.specs.Showing.{free_lines, partners_text, node_lines}
 use Rattle.ol_net.specs.PartTexts.{kind_text, index_text, port_text}
 
 -- ---- equal nets have the same nodes under the same numbers, and the same partners

@@ -4,7 +4,7 @@ use Rattle.std.proofs.Common.{take, Some, refl, sym, ap, ◌∙◌, arith}
 use Rattle.std.proofs.lemmas.List.{append-nil}
 use Rattle.std.specs.Prelude.{slice_get}
 use Rattle.ol_rules.specs.declared.journal.Entry.{Entry}
-use Rattle.ol_view.specs.WaveTexts.{wave_line_text, wave_lines_text}
+use Rattle.ol_view.specs.EachForm.{wave_line_text, wave_lines_text}
 
 -- one line more
 pub wave_lines_on : (es : List Entry) (ws : List ℕ) (k : ℕ) (e : Entry) (w : ℕ) →

@@ -49,28 +49,27 @@ IsOtherwise One net journal waves last entry wave = AreIdle last entry.first ent
 IsOtherwise Two net journal waves last entry wave = (next : NamedNet NodeName) →
     IsRunTold Two net (journal ++ entry ∷ []) (waves ++ wave ∷ []) next → ⊥
 
--- What is found of the text. Lines are numbered from 1, and the line of entry k, from 0, is line
--- k + 2.
-pub data IsFound (net : NamedNet NodeName) (text : List ℕ) : Check → Type 0 where
-  complete : {form : Form} {journal : List Entry} {waves : List ℕ} {last : NamedNet NodeName} →
-      BeginsWithRun form net text journal waves last [] → IsComplete last →
-      IsFound net text Complete
-  run : {form : Form} {journal : List Entry} {waves : List ℕ} {last : NamedNet NodeName} →
-      BeginsWithRun form net text journal waves last [] → HasActive last →
-      IsFound net text (Run (length journal))
+-- What is found behind the run so far. Nothing follows it: it is complete, or it goes on. No line of the grammar does,
+-- or there are as many as may be. Or a line does that the run doesn't go on with. Lines are numbered from 1, and the
+-- line of entry k, from 0, is line k + 2.
+abbrev pub IsFoundBehind : Form → NamedNet NodeName → List Entry → List ℕ → NamedNet NodeName →
+    List ℕ → Check → Type 0
+IsFoundBehind form net journal waves last rest Complete = (rest ≡ []) × IsComplete last
+IsFoundBehind form net journal waves last rest (Run k) =
+    (k ≡ length journal) × (rest ≡ []) × HasActive last
+IsFoundBehind form net journal waves last rest (BadText line) = (line ≡ length journal + 2)
+    × (rest ≢ []) × ((length journal ≡ 8000000) ⊎ HasNoLine form rest)
+IsFoundBehind form net journal waves last rest (NotARun line) = (line ≡ length journal + 2)
+    × (length journal < 8000000) × (entry : Entry) × (wave : ℕ) × (more : List ℕ)
+    × BeginsWithEntry form rest entry wave more × IsOtherwise form net journal waves last entry wave
+
+-- what is found of the text: no first line of either form, or what is found behind a run that it begins with
+pub data IsFound (net : NamedNet NodeName) (text : List ℕ) (check : Check) : Type 0 where
   no_header : ((form : Form) (rest : List ℕ) → text ≢ header_of form ++ rest) →
-      IsFound net text (BadText 1)
-  bad_text : {form : Form} {journal : List Entry} {waves : List ℕ} {last : NamedNet NodeName}
-      {rest : List ℕ} →
-      BeginsWithRun form net text journal waves last rest → rest ≢ [] →
-      (length journal ≡ 8000000) ⊎ HasNoLine form rest →
-      IsFound net text (BadText (length journal + 2))
-  not_a_run : {form : Form} {journal : List Entry} {waves : List ℕ} {last : NamedNet NodeName}
-      {rest : List ℕ} (entry : Entry) (wave : ℕ) (more : List ℕ) →
-      BeginsWithRun form net text journal waves last rest → length journal < 8000000 →
-      BeginsWithEntry form rest entry wave more →
-      IsOtherwise form net journal waves last entry wave →
-      IsFound net text (NotARun (length journal + 2))
+      check ≡ BadText 1 → IsFound net text check
+  behind : {form : Form} {journal : List Entry} {waves : List ℕ} {last : NamedNet NodeName}
+      {rest : List ℕ} → BeginsWithRun form net text journal waves last rest →
+      IsFoundBehind form net journal waves last rest check → IsFound net text check
 
 -- this is found, and nothing else
 abbrev pub OnlyIsFound : NamedNet NodeName → List ℕ → Check → Type 0

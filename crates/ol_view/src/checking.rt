@@ -4,7 +4,7 @@ ghost use Rattle.std.specs.Prelude.{◌≡◌, ◌≢◌, ℕ, ◌++◌, ◌≤�
 ghost use Rattle.ol_net.specs.Nets.{IsNet};
 ghost use Rattle.ol_net.specs.Numbered.{net_of};
 ghost use Rattle.ol_view.specs.declared.forms.Form.{Form};
-ghost use Rattle.ol_view.specs.TraceTexts.{header};
+ghost use Rattle.ol_view.specs.EachForm.{header};
 ghost use Rattle.ol_view.specs.Forms.{header_of};
 ghost use Rattle.ol_view.specs.LineReading.{TellsOf};
 ghost use Rattle.ol_view.specs.Checks.{start_net_of_graph, IsFound, OnlyIsFound, IsReadAgain};
@@ -15,7 +15,7 @@ use crate::line_reading::{Line, line_at};
 use crate::tracing::HEADER;
 use crate::wave_tracing::WAVE_HEADER;
 use ol_diamond::{Rewritten, Weighing};
-use ol_io::NoMemory;
+use ol_memory::NoMemory;
 use ol_net::Net;
 use std::alloc::Global;
 

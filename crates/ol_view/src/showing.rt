@@ -3,10 +3,11 @@
 ghost use Rattle.std.specs.Prelude.{◌≡◌, ◌++◌, length, OnOk, IfOk, string_bytes};
 ghost use Rattle.ol_net.specs.Parts.{slots_of};
 ghost use Rattle.ol_net.specs.Graph.{kind_at, partner_of};
-ghost use Rattle.ol_view.specs.ShowTexts.{partner_text, free_lines, partners_text, node_line, node_lines, show_text};
+ghost use Rattle.ol_view.specs.ShowTexts.{partner_text, node_line, show_text};
+ghost use Rattle.ol_view.specs.Showing.{free_lines, partners_text, node_lines};
 
 use crate::pieces::{put, put_number, put_shown};
-use ol_io::NoMemory;
+use ol_memory::NoMemory;
 use ol_net::{IndexOf, Net, NodeId, Port};
 use std::alloc::Global;
 

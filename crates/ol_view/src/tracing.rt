@@ -1,10 +1,12 @@
 //! The text of a journal.
 
-ghost use Rattle.std.specs.Prelude.{◌≡◌, ◌++◌, OnOk, IfOk, string_bytes};
-ghost use Rattle.ol_view.specs.TraceTexts.{name_text, line_text, trace_text};
+ghost use Rattle.std.specs.Prelude.{◌≡◌, ◌++◌, [], OnOk, IfOk, string_bytes};
+ghost use Rattle.ol_view.specs.declared.forms.Form.TheVariants.{One};
+ghost use Rattle.ol_view.specs.TraceTexts.{name_text, line_text};
+ghost use Rattle.ol_view.specs.Forms.{text_of};
 
 use crate::pieces::{put, put_number};
-use ol_io::NoMemory;
+use ol_memory::NoMemory;
 use ol_rules::{Entry, Journal, NodeName};
 use std::alloc::Global;
 
@@ -39,7 +41,7 @@ pub(crate) fn put_line(text: &mut String, entry: Entry) -> Result<(), NoMemory>
 /// that was born as `ticket.place`. Each line ends with a line feed. `NoMemory`: no memory was
 /// found.
 pub fn trace_text(alloc: Global, journal: &Journal) -> Result<Vec<u8>, NoMemory>
-    ensures { IfOk result (λ text. text.items ≡ trace_text journal.now) }
+    ensures { IfOk result (λ text. text.items ≡ text_of One journal.now []) }
 {
     let mut text = String::new(alloc);
     put(&mut text, HEADER)?;

@@ -6,12 +6,14 @@ ghost use Rattle.ol_rules.specs.declared.journal.NodeName.{NodeName};
 ghost use Rattle.ol_rules.specs.Runs.{IsRun};
 ghost use Rattle.ol_diamond.specs.Waves.{IsWavesOf};
 ghost use Rattle.ol_view.specs.Checks.{start_net_of_graph};
-ghost use Rattle.ol_view.specs.WaveTexts.{rule_text, wave_line_text, wave_trace_text};
+ghost use Rattle.ol_view.specs.declared.forms.Form.TheVariants.{Two};
+ghost use Rattle.ol_view.specs.WaveTexts.{rule_text};
+ghost use Rattle.ol_view.specs.Forms.{line_of, text_of};
 
 use crate::pieces::{put, put_number};
 use crate::tracing::put_line;
 use ol_diamond::{WaveList, waves};
-use ol_io::NoMemory;
+use ol_memory::NoMemory;
 use ol_net::{Net, Rule};
 use ol_rules::{Entry, Journal};
 use std::alloc::Global;
@@ -37,7 +39,7 @@ pub fn rule_word(rule: Rule) -> &'static str
 
 fn put_wave_line(text: &mut String, entry: Entry, wave: u32) -> Result<(), NoMemory>
     ensures { OnOk result
-        (string_bytes text.new ≡ string_bytes text.old ++ wave_line_text entry wave) }
+        (string_bytes text.new ≡ string_bytes text.old ++ line_of Two entry wave) }
 {
     put(text, rule_word(entry.rule))?;
     put(text, " ")?;
@@ -49,7 +51,7 @@ fn put_wave_line(text: &mut String, entry: Entry, wave: u32) -> Result<(), NoMem
 // The text of a journal with these waves.
 fn written(alloc: Global, journal: &Journal, waves: &WaveList) -> Result<Vec<u8>, NoMemory>
     requires count { length waves.now ≡ length journal.now }
-    ensures { IfOk result (λ text. text.items ≡ wave_trace_text journal.now waves.now) }
+    ensures { IfOk result (λ text. text.items ≡ text_of Two journal.now waves.now) }
 {
     let mut text = String::new(alloc);
     put(&mut text, WAVE_HEADER)?;
@@ -76,7 +78,7 @@ pub fn trace_text_2(alloc: Global, net: &Net, journal: &Journal) -> Result<Vec<u
     requires few { length net.now.nodes + 4 * length journal.now ≤ 2000000000 }
     requires run { (M : NamedNet NodeName) × IsRun (start_net_of_graph net.now) 0 journal.now M }
     ensures text { IfOk result (λ text. (waves : List ℕ) × IsWavesOf net.now journal.now waves
-        × (text.items ≡ wave_trace_text journal.now waves)) }
+        × (text.items ≡ text_of Two journal.now waves)) }
 {
     let list = waves(alloc, net, journal)?;
     written(alloc, journal, &list)

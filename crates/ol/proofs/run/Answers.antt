@@ -1,10 +1,11 @@
 -- The contract of the call that `main` makes: that of `ol`, of any files of its readings, over
 -- adapters of which no call was made before.
 use Rattle.std.proofs.Common.{Some, subst}
+use Rattle.ol_cli.specs.NormalForms.{PlainDemandSays, FirstLine, IsFoundWithin}
+use Rattle.ol_cli.specs.NormalForms.{CountsSay, IsNoMoreThanLeftmost, AreFamilies}
 use Rattle.ol_cli.specs.Jobs.{files_of}
 use Rattle.ol_cli.specs.NormalForms.{LineSays, IsItsNormalForm, TellsOfNone, IsFoundOnDemand}
-use Rattle.ol_cli.specs.NormalForms.{LineSaysOfTwo, PlainDemandFinds, PlainDemandIsFrugal}
-use Rattle.ol_cli.specs.NormalForms.{PlainDemandIsOptimal}
+use Rattle.ol_cli.specs.NormalForms.{LineSaysOfTwo}
 use Rattle.ol_cli.specs.NormalForms.{PlainEqualSays, PlainLineSays}
 use Rattle.ol_cli.specs.Sources.{EveryRunTells, WritesTree}
 use Rattle.ol_cli.specs.Completeness.{IsDoneOrNothing}
@@ -36,7 +37,8 @@ returns-clause-in_short g c = λ done verb name bytes are is one taken all sourc
 
 pub returns-clause-plain_demand : goal.returns-clause-plain_demand
 returns-clause-plain_demand g c = λ done files of.
-    subst (λ before. PlainDemandFinds c.args.words.now.items files before (Some c.ol-outcome.new.out.log.passed.taken))
+    subst (λ before. PlainDemandSays (λ source. FirstLine (IsFoundWithin 4096 source)) c.args.words.now.items files before
+    (Some c.ol-outcome.new.out.log.passed.taken))
     c.new-out.ensures.taken
     (c.ol-outcome.ensures.plain_demand files
     (of_none files c.new-src.result.log.passed.readings c.ol-outcome.new.src.log.passed.readings
@@ -53,7 +55,8 @@ returns-clause-plain_demand g c = λ done files of.
 
 pub returns-clause-plain_frugal : goal.returns-clause-plain_frugal
 returns-clause-plain_frugal g c = λ done files of.
-    subst (λ before. PlainDemandIsFrugal c.args.words.now.items files before
+    subst (λ before. PlainDemandSays (λ source. CountsSay (λ line. IsNoMoreThanLeftmost source))
+    c.args.words.now.items files before
     (Some c.ol-outcome.new.out.log.passed.taken))
     c.new-out.ensures.taken
     (c.ol-outcome.ensures.plain_frugal files
@@ -71,7 +74,7 @@ returns-clause-plain_frugal g c = λ done files of.
 
 pub returns-clause-plain_optimal : goal.returns-clause-plain_optimal
 returns-clause-plain_optimal g c = λ done files of.
-    subst (λ before. PlainDemandIsOptimal c.args.words.now.items files before
+    subst (λ before. PlainDemandSays (λ source. CountsSay (AreFamilies source)) c.args.words.now.items files before
     (Some c.ol-outcome.new.out.log.passed.taken))
     c.new-out.ensures.taken
     (c.ol-outcome.ensures.plain_optimal files

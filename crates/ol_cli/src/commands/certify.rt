@@ -16,7 +16,8 @@ use crate::status::Status;
 use crate::texts::spent_line;
 use crate::verdicts::verdict_lines;
 use ol_beta::certify;
-use ol_io::{Gate, NoMemory, Source};
+use ol_io::{Gate, Source};
+use ol_memory::NoMemory;
 use ol_net::Net;
 use ol_term::TermFile;
 use std::alloc::Global;
@@ -48,10 +49,7 @@ pub fn answer_certify<R: Threads + Wait + Sync, S: Source, G: Gate + Sync>(
     let ready = read_term(alloc, numbers.translation, name, src)?;
     match ready {
         Ready::Refused(answer) => Ok(answer),
-        Ready::Net { net, file } => {
-            let answer = certify_net(rt, alloc, &net, &file, numbers, steps, gate)?;
-            Ok(answer)
-        }
+        Ready::Net { net, file } => certify_net(rt, alloc, &net, &file, numbers, steps, gate),
     }
 }
 

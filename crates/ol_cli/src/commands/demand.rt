@@ -15,7 +15,8 @@ use crate::ready::{Ready, read_term};
 use crate::status::Status;
 use crate::texts::{answer_lines, spent_line};
 use ol_demand::{Demanded, demand};
-use ol_io::{NoMemory, Source};
+use ol_io::Source;
+use ol_memory::NoMemory;
 use ol_net::Net;
 use ol_readback::tree_text;
 use ol_rules::counts;
@@ -46,10 +47,7 @@ pub fn answer_demand<S: Source>(
     let ready = read_term(alloc, translation, name, src)?;
     match ready {
         Ready::Refused(answer) => Ok(answer),
-        Ready::Net { net, file } => {
-            let answer = demand_net(alloc, &net, &file, translation, fuel, heads)?;
-            Ok(answer)
-        }
+        Ready::Net { net, file } => demand_net(alloc, &net, &file, translation, fuel, heads),
     }
 }
 

@@ -1,7 +1,7 @@
 //! The command `gen`: a term that is made, printed or evaluated.
 ghost use Rattle.std.specs.Prelude.{◌≡◌, ◌≤◌, length, IfOk};
 ghost use Rattle.ol_words.specs.declared.jobs.Job.TheVariants.{Gen as gen};
-ghost use Rattle.ol_cli.specs.TermFiles.{FileAnswer};
+ghost use Rattle.ol_cli.specs.Cases.{FileAnswer};
 ghost use Rattle.ol_cli.specs.Answers.{Seen};
 ghost use Rattle.ol_cli.specs.Generate.{plain_run};
 ghost use Rattle.ol_cli.specs.TermFiles.{FileHands};
@@ -15,7 +15,8 @@ use crate::commands::run::run_net;
 use crate::numbers::RunNumbers;
 use crate::ready::{Ready, make_ready};
 use crate::status::Status;
-use ol_io::{Gate, NoMemory};
+use ol_io::Gate;
+use ol_memory::NoMemory;
 use ol_term::{Translation, make};
 use std::alloc::Global;
 use std::sync::Wait;

@@ -13,7 +13,8 @@ use crate::numbers::RunNumbers;
 use crate::ready::{Ready, read_term};
 use crate::status::Status;
 use crate::texts::{answer_lines, spent_line};
-use ol_io::{Gate, NoMemory, Source};
+use ol_io::{Gate, Source};
+use ol_memory::NoMemory;
 use ol_net::Net;
 use ol_readback::{read_back, tree_text};
 use ol_reduce::{Reduced, reduce};
@@ -48,10 +49,7 @@ pub fn answer_run<R: Threads + Wait + Sync, S: Source, G: Gate + Sync>(
     let ready = read_term(alloc, numbers.translation, name, src)?;
     match ready {
         Ready::Refused(answer) => Ok(answer),
-        Ready::Net { net, file } => {
-            let answer = run_net(rt, alloc, &net, &file, numbers, gate)?;
-            Ok(answer)
-        }
+        Ready::Net { net, file } => run_net(rt, alloc, &net, &file, numbers, gate),
     }
 }
 

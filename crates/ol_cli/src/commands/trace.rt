@@ -5,7 +5,7 @@ ghost use Rattle.ol_wire.specs.Sizes.{IsSmallNet};
 ghost use Rattle.ol_words.specs.declared.jobs.Job.TheVariants.{Trace as trace};
 ghost use Rattle.ol_cli.specs.Jobs.{OfReadFiles};
 ghost use Rattle.ol_cli.specs.Answers.{seen_of};
-ghost use Rattle.ol_cli.specs.Trace.{TraceAnswer};
+ghost use Rattle.ol_cli.specs.Trace.{Traces};
 ghost use Rattle.ol_cli.specs.Trace.{TraceHands};
 ghost use Rattle.ol_cli.specs.Inside.{ComesOf};
 ghost use Rattle.ol_cli.specs.Ready.{HoldsOfTerms};
@@ -14,7 +14,8 @@ ghost use Rattle.ol_cli.specs.Limits.{most_fuel, most_workers};
 use crate::answer::Answer;
 use crate::ready::{Ready, read_term};
 use crate::status::Status;
-use ol_io::{Gate, NoMemory, Source};
+use ol_io::{Gate, Source};
+use ol_memory::NoMemory;
 use ol_net::Net;
 use ol_reduce::{Reduced, reduce};
 use ol_term::Translation;
@@ -49,10 +50,7 @@ pub fn answer_trace<R: Threads + Wait + Sync, S: Source, G: Gate + Sync>(
     let ready = read_term(alloc, translation, name, src)?;
     match ready {
         Ready::Refused(answer) => Ok(answer),
-        Ready::Net { net, file: _ } => {
-            let answer = trace_net(rt, alloc, &net, workers, fuel, gate)?;
-            Ok(answer)
-        }
+        Ready::Net { net, file: _ } => trace_net(rt, alloc, &net, workers, fuel, gate),
     }
 }
 
@@ -71,7 +69,7 @@ fn trace_net<R: Threads + Wait + Sync, G: Gate + Sync>(
     requires workers { (1 ≤ workers) × (workers ≤ most_workers) }
     requires fuel { fuel ≤ most_fuel }
     ensures answer { IfOk result (λ a. HoldsOfTerms net.now (λ translation t names.
-        TraceAnswer translation t names fuel a.status a.text.items)) }
+        Traces translation t names fuel a.status a.text.items)) }
     ensures closed { IfOk result (λ a. HoldsOfTerms net.now (λ translation t names.
         TraceHands translation t names workers fuel a.status a.text.items a.closed)) }
 {

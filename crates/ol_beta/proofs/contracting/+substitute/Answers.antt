@@ -1,10 +1,59 @@
 use Rattle.std.proofs.Common.{◌≡◌, ◌+◌, ◌≤◌, sym, ap, ◌∙◌, subst, arith}
+use Rattle.std.proofs.lemmas.Result.{err_from_is_err_and}
 use Rattle.ol_term.specs.Trees.{Tree, tree_of, app}
 use Rattle.ol_beta.specs.Beta.{substituted}
 use Rattle.ol_beta.specs.Measures.{HasRoom, places_of}
 use Rattle.ol_beta.proofs.Rooms.{less_room}
 use Rattle.ol_beta.proofs.Places.{both_parts}
 use Rattle.ol_beta.proofs.contracting.+substitute.Goals as goal
+
+pub returns-in_err-part-in-Var-clause-body : goal.returns-in_err-part-in-Var-clause-body
+returns-in_err-part-in-Var-clause-body t c =
+    let p = err_from_is_err_and c.from_residual.result c.from_residual.ensures.1 in rw p.1 tt
+
+pub returns-in_err-part-in-Var-clause-places : goal.returns-in_err-part-in-Var-clause-places
+returns-in_err-part-in-Var-clause-places t c =
+    let p = err_from_is_err_and c.from_residual.result c.from_residual.ensures.1 in rw p.1 tt
+
+pub returns-in_err-part-in-Var-clause-kept : goal.returns-in_err-part-in-Var-clause-kept
+returns-in_err-part-in-Var-clause-kept t c =
+    let p = err_from_is_err_and c.from_residual.result c.from_residual.ensures.1 in rw p.1 tt
+
+pub returns-in_err-substitute-in-Lam-clause-body : goal.returns-in_err-substitute-in-Lam-clause-body
+returns-in_err-substitute-in-Lam-clause-body t c =
+    let p = err_from_is_err_and c.from_residual-in_err-substitute-in-Lam.result c.from_residual-in_err-substitute-in-Lam.ensures.1 in rw p.1 tt
+
+pub returns-in_err-substitute-in-Lam-clause-places : goal.returns-in_err-substitute-in-Lam-clause-places
+returns-in_err-substitute-in-Lam-clause-places t c =
+    let p = err_from_is_err_and c.from_residual-in_err-substitute-in-Lam.result c.from_residual-in_err-substitute-in-Lam.ensures.1 in rw p.1 tt
+
+pub returns-in_err-substitute-in-Lam-clause-kept : goal.returns-in_err-substitute-in-Lam-clause-kept
+returns-in_err-substitute-in-Lam-clause-kept t c =
+    let p = err_from_is_err_and c.from_residual-in_err-substitute-in-Lam.result c.from_residual-in_err-substitute-in-Lam.ensures.1 in rw p.1 tt
+
+pub returns-in_err-substitute-in-App-clause-body : goal.returns-in_err-substitute-in-App-clause-body
+returns-in_err-substitute-in-App-clause-body t c =
+    let p = err_from_is_err_and c.from_residual-in_err-substitute-in-App.result c.from_residual-in_err-substitute-in-App.ensures.1 in rw p.1 tt
+
+pub returns-in_err-substitute-in-App-clause-places : goal.returns-in_err-substitute-in-App-clause-places
+returns-in_err-substitute-in-App-clause-places t c =
+    let p = err_from_is_err_and c.from_residual-in_err-substitute-in-App.result c.from_residual-in_err-substitute-in-App.ensures.1 in rw p.1 tt
+
+pub returns-in_err-substitute-in-App-clause-kept : goal.returns-in_err-substitute-in-App-clause-kept
+returns-in_err-substitute-in-App-clause-kept t c =
+    let p = err_from_is_err_and c.from_residual-in_err-substitute-in-App.result c.from_residual-in_err-substitute-in-App.ensures.1 in rw p.1 tt
+
+pub returns-in_err-substitute-in-App-2-clause-body : goal.returns-in_err-substitute-in-App-2-clause-body
+returns-in_err-substitute-in-App-2-clause-body t c =
+    let p = err_from_is_err_and c.from_residual-in_err-substitute-in-App-2.result c.from_residual-in_err-substitute-in-App-2.ensures.1 in rw p.1 tt
+
+pub returns-in_err-substitute-in-App-2-clause-places : goal.returns-in_err-substitute-in-App-2-clause-places
+returns-in_err-substitute-in-App-2-clause-places t c =
+    let p = err_from_is_err_and c.from_residual-in_err-substitute-in-App-2.result c.from_residual-in_err-substitute-in-App-2.ensures.1 in rw p.1 tt
+
+pub returns-in_err-substitute-in-App-2-clause-kept : goal.returns-in_err-substitute-in-App-2-clause-kept
+returns-in_err-substitute-in-App-2-clause-kept t c =
+    let p = err_from_is_err_and c.from_residual-in_err-substitute-in-App-2.result c.from_residual-in_err-substitute-in-App-2.ensures.1 in rw p.1 tt
 
 pub shift-requires-clause-room : goal.shift-requires-clause-room
 shift-requires-clause-room t c =

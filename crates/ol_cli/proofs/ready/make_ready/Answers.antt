@@ -1,6 +1,5 @@
-use Rattle.std.proofs.Common.{refl}
+use Rattle.std.proofs.Common.{inl, inr, refl}
 use Rattle.ol_term.specs.Trees.{tree_of}
-use Rattle.ol_cli.specs.TermFiles.{deep, large}
 use Rattle.ol_cli.proofs.Readied.{ready_net}
 use Rattle.ol_cli.proofs.ready.make_ready.Goals as goal
 
@@ -21,7 +20,7 @@ returns-in-Ok c =
     let past = (c.in-Err-translate.ensures.too_many (λ e. absurd (cc))).0 (rw c.in-TooMany.is refl) in
     record {
       ready = c.refused.ensures c.args.translation c.args.bytes.now
-          (large c.requires.short p.file p.shallow past c.in_ok-text-in-TooMany.ensures);
+          (inr (c.requires.short, _, _, p.file, inr (p.shallow, (past, c.in_ok-text-in-TooMany.ensures))));
     }
 
 pub returns-in-Syntax : goal.returns-in-Syntax
@@ -37,5 +36,5 @@ returns c =
     let told = (c.in-Err.ensures.too_deep (λ e. absurd (cc)) c.in-Depth.depth).0 (rw c.in-Depth.is refl) in
     record {
       ready = c.refused-in-Depth.ensures c.args.translation c.args.bytes.now
-          (deep c.requires.short told.file (rw told.is at told.above) c.in_ok-text-in-Depth.ensures);
+          (inr (c.requires.short, _, _, told.file, inl (rw told.is at told.above, c.in_ok-text-in-Depth.ensures)));
     }

@@ -66,8 +66,7 @@ returns-in-Check-clause-comes g c = λ files of.
 
 pub returns-in-Check-clause-first_alone : goal.returns-in-Check-clause-first_alone
 returns-in-Check-clause-first_alone g c = λ files of refused.
-    c.answer_check.ensures.first_alone files of
-    (rw (c.as_str-in-Check.ensures, c.as_str-in-Check-2.ensures) (rw c.in-Check.is at refused))
+    c.answer_check.ensures.first_alone files of (rw c.as_str-in-Check.ensures (rw c.in-Check.is at refused))
 
 pub returns-in-Gen-clause-comes : goal.returns-in-Gen-clause-comes
 returns-in-Gen-clause-comes g c = λ files of.

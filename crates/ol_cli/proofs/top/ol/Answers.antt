@@ -6,6 +6,7 @@ use Rattle.ol_io.proofs.Readings.{handed-over, handed-told}
 use Rattle.ol_cli.specs.declared.status.Status.TheVariants.{Done, NoMemory}
 use Rattle.ol_cli.proofs.Called.{call_ends, call_hands, call_reads}
 use Rattle.ol_cli.proofs.Complete.{done_or_nothing}
+use Rattle.ol_cli.proofs.Causing.{ends_by}
 use Rattle.ol_cli.proofs.Exact.{ends_asked, ends_done, ends_exact, ends_fault, ends_risen}
 use Rattle.ol_cli.proofs.Exact.{ends_usage, ends_write, ends_write_told}
 use Rattle.ol_cli.proofs.Sourced.{writes_tree, ends_run}
@@ -328,6 +329,9 @@ returns-clause-closed g c = λ files of.
 
 pub returns-clause-ends : goal.returns-clause-ends
 returns-clause-ends g c = λ files of.
+    ends_by c.args.words.now.items _ (g.W.Sink.faults c.args.out.now)
+    (g.W.Sink.faults c.write.new.out) (g.W.Sink.taken c.args.out.now)
+    (g.W.Sink.taken c.write.new.out) c.write.result.status
     (call_ends c.args.words.now.items _ (g.W.Sink.faults c.args.out.now)
     (g.W.Sink.faults c.write.new.out) (g.W.Sink.taken c.args.out.now)
     (g.W.Sink.taken c.write.new.out) c.answer_words-made.result c.write.result c.write.ensures.told

@@ -1,6 +1,6 @@
 use Rattle.std.proofs.Common.{◌≡◌, suc, ◌+◌, ◌++◌, arith, take, sym, ap, ◌∙◌}
 use Rattle.std.specs.Fmt.{decimal}
-use Rattle.ol_beta.specs.AddressTexts.{moves_text}
+use Rattle.std.specs.List.{flat_map}
 use Rattle.ol_beta.proofs.Moves.{moves_on}
 use Rattle.ol_cli.proofs.verdicts.digits.Goals as goal
 
@@ -11,4 +11,4 @@ loop-k-preserved c =
     c.in-Ok.ensures.bytes
     ∙ ap (λ bs. bs ++ decimal m) c.loop-k.invariant
     ∙ sym t
-    ∙ ap (λ k. moves_text (take k c.args.at.now)) (let q : suc c.loop-k.k ≡ c.loop-k.k + 1 = omega arith in q)
+    ∙ ap (λ k. flat_map decimal (take k c.args.at.now)) (let q : suc c.loop-k.k ≡ c.loop-k.k + 1 = omega arith in q)

@@ -1,5 +1,5 @@
 use Rattle.std.proofs.Common.{◌≡◌, ◌++◌, drop}
-use Rattle.ol_equal.specs.Texts.{dotted}
+use Rattle.ol_equal.specs.Walking.{dotted}
 use Rattle.ol_equal.proofs.texts.put_dotted.Given as goal
 
 abbrev pub invariant-loop-k : goal.invariant-loop-k

@@ -6,7 +6,8 @@ use Rattle.std.specs.Fmt.{decimal}
 use Rattle.ol_net.specs.declared.parts.Kind.{Kind}
 use Rattle.ol_net.specs.Parts.{slots_of}
 use Rattle.ol_net.specs.PartTexts.{kind_text, index_text}
-use Rattle.ol_view.specs.ShowTexts.{node_line, partners_text}
+use Rattle.ol_view.specs.ShowTexts.{node_line}
+use Rattle.ol_view.specs.Showing.{partners_text}
 use Rattle.ol_view.proofs.showing.put_node.Goals as goal
 
 joined : (b0 b1 b2 b3 b4 b5 b6 b7 n k i p : List ℕ) → b1 ≡ b0 ++ n → b2 ≡ b1 ++ 32 ∷ [] →

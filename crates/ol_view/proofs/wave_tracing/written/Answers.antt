@@ -1,5 +1,5 @@
 use Rattle.std.proofs.Common.{◌≡◌, suc, ◌+◌, ◌++◌, arith, append_assoc, take, sym, ap, ◌∙◌}
-use Rattle.ol_view.specs.WaveTexts.{wave_header, wave_line_text, wave_lines_text}
+use Rattle.ol_view.specs.EachForm.{wave_header, wave_line_text, wave_lines_text}
 use Rattle.ol_view.proofs.WaveTraces.{wave_lines_on, wave_there}
 use Rattle.ol_view.proofs.wave_tracing.written.Goals as goal
 

@@ -1,6 +1,6 @@
 use Rattle.std.proofs.Common.{◌≡◌, take}
 use Rattle.std.specs.Prelude.{string_bytes}
-use Rattle.ol_view.specs.WaveTexts.{wave_trace_text}
+use Rattle.ol_view.specs.EachForm.{wave_trace_text}
 use Rattle.ol_view.proofs.wave_tracing.written.Given as goal
 
 -- the entries so far are written

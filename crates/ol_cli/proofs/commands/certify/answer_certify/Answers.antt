@@ -1,5 +1,6 @@
+use Rattle.std.proofs.lemmas.Result.{IfOk-weaker}
 use Rattle.ol_cli.specs.Inside.{certify_on}
-use Rattle.ol_cli.proofs.TermJobs.{refused_comes, term_comes}
+use Rattle.ol_cli.proofs.TermJobs.{refused_comes, term_comes_if}
 use Rattle.ol_cli.proofs.commands.certify.answer_certify.Goals as goal
 
 pub returns-in-Refused-clause-comes : goal.returns-in-Refused-clause-comes
@@ -7,9 +8,9 @@ returns-in-Refused-clause-comes g c = λ files of.
     refused_comes (certify_on c.args.numbers c.args.steps c.args.name.now) tt _ c.in-Refused.answer
     (rw c.in-Refused.is at (c.in_ok-ready.ensures.comes files of))
 
-pub returns-in_ok-answer-in-Net-clause-comes : goal.returns-in_ok-answer-in-Net-clause-comes
-returns-in_ok-answer-in-Net-clause-comes g c = λ files of.
-    let h = c.in_ok-answer-in-Net.ensures in
-    term_comes (certify_on c.args.numbers c.args.steps c.args.name.now) tt _ c.in-Net.net
-    c.in-Net.file (rw c.in-Net.is at (c.in_ok-ready.ensures.comes files of)) c.in_ok-answer-in-Net.answer
-    h.answer (λ words e. tt) h.closed
+pub returns-in-Net-clause-comes : goal.returns-in-Net-clause-comes
+returns-in-Net-clause-comes g c = λ files of.
+    let h = c.certify_net.ensures in
+    term_comes_if (certify_on c.args.numbers c.args.steps c.args.name.now) tt _ c.in-Net.net
+    c.in-Net.file (rw c.in-Net.is at (c.in_ok-ready.ensures.comes files of)) c.certify_net.result
+    h.answer (IfOk-weaker c.certify_net.result _ _ (λ a closed words e. tt) h.closed) h.closed

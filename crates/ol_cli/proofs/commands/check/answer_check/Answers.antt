@@ -2,7 +2,8 @@
 use Rattle.std.proofs.Common.{◌+◌}
 use Rattle.ol_term.specs.Trees.{tree_of}
 use Rattle.ol_words.specs.declared.jobs.Job.TheVariants.{Check as check}
-use Rattle.ol_cli.specs.Answers.{Seen, by_journal, seen}
+use Rattle.ol_cli.specs.Answers.{Seen}
+use Rattle.ol_cli.specs.Cases.{by_journal, seen}
 use Rattle.ol_cli.specs.Check.{JournalAnswer}
 use Rattle.ol_io.proofs.Readings.{AreOfSince-parts, AreOfSince-then}
 use Rattle.ol_cli.proofs.Exact.{after_term}

@@ -1,6 +1,6 @@
 use Rattle.std.proofs.Common.{◌+◌, refl}
 use Rattle.ol_io.proofs.Readings.{AreOfSince-parts, AreOfSince-then}
-use Rattle.ol_cli.specs.Answers.{by_first}
+use Rattle.ol_cli.specs.Cases.{by_first}
 use Rattle.ol_cli.proofs.BothFiles.{second_cause}
 use Rattle.ol_cli.proofs.FirstAlone.{read_first}
 use Rattle.ol_cli.proofs.TwoFiles.{equal_comes}

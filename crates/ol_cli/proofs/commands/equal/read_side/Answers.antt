@@ -1,7 +1,7 @@
 use Rattle.std.proofs.Common.{◌≡◌, ◌-◌, length, refl, subst, arith}
 use Rattle.ol_term.specs.Trees.{tree_of}
 use Rattle.ol_readback.specs.Texts.{AreNamed}
-use Rattle.ol_cli.specs.Answers.{given}
+use Rattle.ol_cli.specs.Cases.{given}
 use Rattle.ol_cli.specs.Inside.{run_on}
 use Rattle.ol_cli.proofs.TermJobs.{refused_cause, refused_undone}
 use Rattle.ol_cli.proofs.commands.equal.read_side.Goals as goal

@@ -1,5 +1,5 @@
 use Rattle.ol_cli.specs.declared.files.FileKind.TheVariants as kind
-use Rattle.ol_cli.specs.Answers.{given}
+use Rattle.ol_cli.specs.Cases.{given}
 use Rattle.ol_cli.specs.Net.{NetFileAnswer}
 use Rattle.ol_cli.proofs.FilesRead.{refused_file}
 use Rattle.ol_cli.proofs.TermJobs.{net_comes}

@@ -17,12 +17,10 @@ pub returns-then-nodes-gt-MOST_NODES-clause-answer : goal.returns-then-nodes-gt-
 returns-then-nodes-gt-MOST_NODES-clause-answer g c =
     let d = rw c.in-Done.is at c.in_ok-reduce.ensures.reduced in
     let many = c.nodes.ensures.nodes in
-    rw c.text_alone-then-nodes-gt-MOST_NODES.ensures (
-      done_is_large c.args.net.now c.is_net.ensures.net c.args.fuel c.args.workers c.in-Done.journal
-          c.in-Done.words c.in-Done.last d c.stuck-stuck.result c.is_net-in-Done.ensures.net
-          c.stuck-stuck.ensures.stuck (omega (arith, many, c.if-nodes-gt-MOST_NODES.true)),
-      c.in_ok-text-in-Done.ensures,
-    )
+    let past = done_is_large c.args.net.now c.is_net.ensures.net c.args.fuel c.args.workers c.in-Done.journal
+    c.in-Done.words c.in-Done.last d c.stuck-stuck.result c.is_net-in-Done.ensures.net
+    c.stuck-stuck.ensures.stuck (omega (arith, many, c.if-nodes-gt-MOST_NODES.true)) in
+    rw c.text_alone-then-nodes-gt-MOST_NODES.ensures (past.0, (past.1, c.in_ok-text-in-Done.ensures))
 
 pub net_lines-requires-clause-few_ports : goal.net_lines-requires-clause-few_ports
 net_lines-requires-clause-few_ports g c =

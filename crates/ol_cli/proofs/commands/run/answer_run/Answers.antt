@@ -1,5 +1,5 @@
 use Rattle.ol_cli.specs.Inside.{run_on}
-use Rattle.ol_cli.proofs.TermJobs.{refused_comes, term_comes}
+use Rattle.ol_cli.proofs.TermJobs.{refused_comes, term_comes_if}
 use Rattle.ol_cli.proofs.commands.run.answer_run.Goals as goal
 
 pub returns-in-Refused-clause-comes : goal.returns-in-Refused-clause-comes
@@ -7,9 +7,8 @@ returns-in-Refused-clause-comes g c = λ files of.
     refused_comes (run_on c.args.numbers c.args.name.now) tt _ c.in-Refused.answer
     (rw c.in-Refused.is at (c.in_ok-ready.ensures.comes files of))
 
-pub returns-in_ok-answer-in-Net-clause-comes : goal.returns-in_ok-answer-in-Net-clause-comes
-returns-in_ok-answer-in-Net-clause-comes g c = λ files of.
-    let h = c.in_ok-answer-in-Net.ensures in
-    term_comes (run_on c.args.numbers c.args.name.now) tt _ c.in-Net.net c.in-Net.file
-    (rw c.in-Net.is at (c.in_ok-ready.ensures.comes files of)) c.in_ok-answer-in-Net.answer
-    h.answer h.read h.closed
+pub returns-in-Net-clause-comes : goal.returns-in-Net-clause-comes
+returns-in-Net-clause-comes g c = λ files of.
+    let h = c.run_net.ensures in
+    term_comes_if (run_on c.args.numbers c.args.name.now) tt _ c.in-Net.net c.in-Net.file
+    (rw c.in-Net.is at (c.in_ok-ready.ensures.comes files of)) c.run_net.result h.answer h.read h.closed

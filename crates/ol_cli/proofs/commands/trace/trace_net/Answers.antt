@@ -1,7 +1,6 @@
 use Rattle.std.proofs.Common.{arith}
 use Rattle.ol_cli.proofs.Traced.{spent_traces, spent_trace_hands, spent_leads, done_traces}
-use Rattle.ol_cli.proofs.Traced.{done_ends, done_trace_hands, done_leads}
-use Rattle.ol_cli.proofs.Worked.{spent_answer}
+use Rattle.ol_cli.proofs.Traced.{done_trace_hands, done_leads}
 use Rattle.ol_cli.proofs.commands.trace.trace_net.Goals as goal
 
 pub trace_text_2-requires-clause-few : goal.trace_text_2-requires-clause-few
@@ -30,12 +29,9 @@ trace_text_2-requires-in-Done-clause-run g c = done_leads c.args.net.now c.args.
 
 pub returns-in-Spent-clause-answer : goal.returns-in-Spent-clause-answer
 returns-in-Spent-clause-answer g c = λ tr t names n.
-    let d = rw c.in-Spent.is at c.in_ok-reduced.ensures.reduced in (
-      spent_answer tr t names c.args.net.now n.same c.args.fuel c.args.workers 0 c.in-Spent.journal
-          c.in-Spent.words d c.is_net.ensures.net,
-      spent_traces tr t names c.args.net.now n.same c.is_net.ensures.net c.args.fuel c.args.workers
-          c.in-Spent.journal c.in-Spent.words c.in_ok-text-in-Spent.text.items c.in_ok-text-in-Spent.ensures.text d,
-    )
+    spent_traces tr t names c.args.net.now n.same c.is_net.ensures.net c.args.fuel c.args.workers
+    c.in-Spent.journal c.in-Spent.words c.in_ok-text-in-Spent.text.items c.in_ok-text-in-Spent.ensures.text
+    (rw c.in-Spent.is at c.in_ok-reduced.ensures.reduced)
 
 pub returns-in-Spent-clause-closed : goal.returns-in-Spent-clause-closed
 returns-in-Spent-clause-closed g c = λ tr t names n.
@@ -45,14 +41,9 @@ returns-in-Spent-clause-closed g c = λ tr t names n.
 
 pub returns-clause-answer : goal.returns-clause-answer
 returns-clause-answer g c = λ tr t names n.
-    let d = rw c.in-Done.is at c.in_ok-reduced.ensures.reduced in (
-      done_ends tr t names c.args.net.now n.same c.is_net.ensures.net c.args.fuel c.args.workers
-          c.in-Done.journal c.in-Done.words c.in_ok-text-in-Done.text.items
-          c.in_ok-text-in-Done.ensures.text c.in-Done.net d,
-      done_traces tr t names c.args.net.now n.same c.is_net.ensures.net c.args.fuel c.args.workers
-          c.in-Done.journal c.in-Done.words c.in_ok-text-in-Done.text.items
-          c.in_ok-text-in-Done.ensures.text c.in-Done.net d,
-    )
+    done_traces tr t names c.args.net.now n.same c.is_net.ensures.net c.args.fuel c.args.workers
+    c.in-Done.journal c.in-Done.words c.in_ok-text-in-Done.text.items
+    c.in_ok-text-in-Done.ensures.text c.in-Done.net (rw c.in-Done.is at c.in_ok-reduced.ensures.reduced)
 
 pub returns-clause-closed : goal.returns-clause-closed
 returns-clause-closed g c = λ tr t names n.
