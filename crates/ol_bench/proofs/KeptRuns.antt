@@ -24,7 +24,7 @@ use Rattle.ol_demand.specs.declared.rewriting.Run.{Run}
 use Rattle.ol_demand.proofs.Entries.{the_pair, entry_names, named_step, after_step, names_of_next}
 use Rattle.ol_view.specs.Checks.{start_net_of_graph}
 use Rattle.ol_bench.specs.declared.replaying.Replay.{Replay}
-use Rattle.ol_bench.specs.Replays.{names_of, AreNames, IsReplay, Advances}
+use Rattle.ol_bench.specs.Replays.{names_of, AreNames, IsReplay, entry_for, Advances}
 
 -- the names at the start
 abbrev at_start : Graph → ℕ → NodeName
@@ -166,6 +166,26 @@ module _ (old : Graph) (r r' : Replay) (x y : ℕ) (u : IsReplay old r) (a : Adv
       (let q = a.step.numbers in omega arith)
       (record { room = u.named.room; initial = u.named.initial; rising = u.named.rising; born = u.named.born })
       (record { tickets = u.tickets; last = u.given; finds = u.finds; found = u.found })
+
+  -- what had a name has it still
+  pub still_named : (k : ℕ) → k < length r.net.nodes → names_of r' k ≡ names_of r k
+  still_named k l = let q = a.step.numbers in
+      next.listed k (omega arith) ∙ names_after_old u.m (length r'.net.nodes) (suc t) k (omega arith)
+      ∙ sym (u.listed k l)
+
+  -- the step, under the names of both runs
+  pub step_named : IsEntryStep (net_under (names_of r) (net_of r.net)) t (entry_for r a.rule x y)
+      (net_under (names_of r') (net_of r'.net))
+  step_named =
+      let before : here ≡ net_under (names_of r) (net_of r.net) = net_alike u.m (names_of r)
+      (net_of r.net) u.is_net (λ z k i h. sym (u.listed z (node_below r.net z k i h))) in
+      let after : there ≡ net_under (names_of r') (net_of r'.net) = net_alike on (names_of r')
+      (net_of r'.net) a.new_net (λ z k i h. sym (next.listed z (node_below r'.net z k i h))) in
+      let written : entry ≡ entry_for r a.rule x y =
+      λ i. record { rule = a.rule; first = sym (u.listed x below.0) i; second = sym (u.listed y below.1) i } in
+      subst (λ N. IsEntryStep N t (entry_for r a.rule x y) (net_under (names_of r') (net_of r'.net))) before
+      (subst (λ M. IsEntryStep here t (entry_for r a.rule x y) M) after
+      (subst (λ e. IsEntryStep here t e there) written step))
 
   pub advanced : IsReplay old r'
   advanced = record {

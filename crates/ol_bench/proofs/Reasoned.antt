@@ -11,25 +11,24 @@ use Rattle.ol_view.specs.declared.answers.Check.TheVariants.{Complete, Run, BadT
 use Rattle.ol_view.specs.declared.line_reading.Line.{Line}
 use Rattle.ol_view.specs.LineReading.{TellsOf}
 use Rattle.ol_view.specs.Checks.{start_net_of_graph, BeginsWithRun, IsFound, IsReadAgain}
-use Rattle.ol_view.specs.Checks as found
+use Rattle.ol_view.proofs.FoundCases as found
 use Rattle.ol_bench.specs.declared.answers.End.TheVariants.{No}
 use Rattle.ol_bench.specs.declared.following.Stop.TheVariants as stop
 use Rattle.ol_bench.specs.declared.replaying.Replay.{Replay}
 use Rattle.ol_bench.specs.Explained.{cause_words, IsExplainedOf, not_a_run}
 use Rattle.ol_bench.specs.Followed.{net_here, Stops, otherwise}
-use Rattle.ol_bench.specs.Reasons.{IsOffBy, IsToldWhole}
+use Rattle.ol_bench.specs.Reasons.{IsOffBy}
+use Rattle.ol_bench.specs.Found.{IsToldBy}
 use Rattle.ol_bench.proofs.Told.{at_good}
 
 module _ (old : Graph) (text : List ℕ) (most : ℕ) (r : Replay) (at : ℕ) where
   -- all lines are good
-  pub whole : Stops old text most r at stop.Good → length text ≤ at → IsToldWhole old text
+  pub whole : Stops old text most r at stop.Good → length text ≤ at → IsToldBy old text r
   whole s l =
       let g = at_good old text most r at s in
       record {
         form = g.form;
-        journal = r.journal;
         waves = g.waves;
-        last = net_here r;
         begins = subst (λ rest. BeginsWithRun g.form (start_net_of_graph old) text r.journal g.waves (net_here r) rest)
             (drop_of_length-le text l) g.told;
       }
@@ -42,7 +41,7 @@ module _ (old : Graph) (text : List ℕ) (most : ℕ) (r : Replay) (at : ℕ) wh
       let e : length r.journal ≡ 8000000 = ends g.ended in
       subst (λ n. IsFound (start_net_of_graph old) text (BadText n))
       (let q : length r.journal + 2 ≡ 8000002 = omega arith in q)
-      (found.bad_text g.told (λ z. let q = ap length z in omega (arith, length-drop at text)) (inl e))
+      (found.found_of (found.bad_text g.told (λ z. let q = ap length z in omega (arith, length-drop at text)) (inl e)))
     where
       ends : (length r.journal ≡ most) ⊎ (length text ≤ at) → length r.journal ≡ 8000000
       ends (inl e) = e ∙ m
@@ -76,9 +75,9 @@ module _ (old : Graph) (text : List ℕ) (most : ℕ) (r : Replay) (at : ℕ) wh
   made_wrong line made (otherwise t b f o) = o.wrong
 
 -- what is found of a whole text of a run is one of two things
-pub no_other : (old : Graph) (text : List ℕ) (v : Check) → IsReadAgain (start_net_of_graph old) text v →
-    IsToldWhole old text → v ≢ Complete → ((n : ℕ) → v ≢ Run n) → ⊥
-no_other old text v again w a b =
-    let h = again w.form w.journal w.waves w.last w.begins.few w.begins.run
+pub no_other : (old : Graph) (text : List ℕ) (r : Replay) (v : Check) →
+    IsReadAgain (start_net_of_graph old) text v → IsToldBy old text r → v ≢ Complete → ((n : ℕ) → v ≢ Run n) → ⊥
+no_other old text r v again w a b =
+    let h = again w.form r.journal w.waves (net_here r) w.begins.few w.begins.run
     (w.begins.begins ∙ append-nil _) in
-    b (length w.journal) (h.1 (λ c. a (h.0 c)))
+    b (length r.journal) (h.1 (λ c. a (h.0 c)))

@@ -30,12 +30,12 @@ use Rattle.ol_diamond.proofs.WeighedEntries.{net_is, weighted_named, names_next,
 use Rattle.ol_view.specs.declared.forms.Form.{Form}
 use Rattle.ol_view.specs.declared.forms.Form.TheVariants.{One, Two}
 use Rattle.ol_view.specs.declared.line_reading.Line.{Line}
-use Rattle.ol_view.specs.Forms.{header_of, text_of}
+use Rattle.ol_view.specs.Forms.{header_of, line_of, text_of}
 use Rattle.ol_view.specs.LineReading.{front_entry, TellsOf}
 use Rattle.ol_view.specs.Checks.{start_net_of_graph, IsRunTold}
-use Rattle.ol_view.proofs.Entries.{Read, entry_sound, IsOfEntry, of_entry, first_tells_nothing}
+use Rattle.ol_view.proofs.Entries.{Read, line_there, IsOfEntry, of_entry, first_tells_nothing}
 use Rattle.ol_view.proofs.Finding.{UnderWay}
-use Rattle.ol_view.proofs.FormTexts.{line_of, text_on, stands, begun}
+use Rattle.ol_view.proofs.FormTexts.{text_on}
 use Rattle.ol_view.proofs.OneVerdict.{not_idle}
 use Rattle.ol_view.proofs.Replays.{idle_names}
 use Rattle.ol_bench.specs.declared.replaying.Replay.{Replay}
@@ -172,7 +172,7 @@ module _ (form : Form) (old : Graph) (text : List ℕ) (g : Graph) (bases weight
     own = record { rule = rule; first = a; second = b }
 
     ordered : comes_before a b ≡ true
-    ordered = stands form (drop at text) (record { rule = line.rule; first = a; second = b }) line.wave rest line.begins
+    ordered = line.begins.ordered
 
     abbrev m' : ℕ → NodeName
     m' = names_after w.m (length g'.nodes) (suc (length r.journal))
@@ -260,8 +260,7 @@ module _ (form : Form) (old : Graph) (text : List ℕ) (g : Graph) (bases weight
             m = m';
             begins = w.begins
                 ∙ ap (λ bs. text_of form r.journal w.waves ++ bs)
-                (begun form (drop at text) own wave rest
-                (entry_sound form (drop at text) t a b rest e rule wave tells)
+                (line_there form (drop at text) t a b rest e rule wave tells
                 ∙ ap (λ rest. line_of form own wave ++ rest) q)
                 ∙ sym (append_assoc (text_of form r.journal w.waves) (line_of form own wave) (drop next text))
                 ∙ ap (λ bs. bs ++ drop next text) (sym (text_on form r.journal w.waves own wave w.even));

@@ -22,6 +22,8 @@ use Rattle.ol_bench.specs.declared.answers.End.TheVariants.{Yes, No, Refused}
 use Rattle.ol_bench.specs.declared.subjects.Subject.{Subject}
 use Rattle.ol_bench.specs.Subjects.{IsSubject, Refuses}
 use Rattle.ol_bench.specs.Afters.{line_with}
+use Rattle.ol_bench.specs.Left.{TellsLeft}
+use Rattle.ol_bench.specs.Wanted.{IsBadLine}
 use Rattle.ol_bench.specs.declared.causes.Cause.{Cause}
 use Rattle.ol_bench.specs.declared.causes.Cause.TheVariants as cause
 
@@ -114,14 +116,19 @@ pub record IsOffLine (g : Graph) (journal : List ℕ) (line : ℕ) (words : List
   pub is : IsCause form (start_net_of_graph g) entries waves last entry wave cause
   pub words_are : words ≡ cause_words entry.first entry.second cause
 
--- The line of `ol check`; and below it, of a line that isn't the next one of a run, its cause.
+-- The line of `ol check`; and below it, of a run that isn't complete, the pairs that are left, of
+-- text that isn't in the grammar, what is wanted at which byte, and of a line that isn't the next
+-- one of a run, its cause.
 pub data IsExplainedOf (g : Graph) (journal text : List ℕ) : End → Type 0 where
   complete : IsFound (start_net_of_graph g) journal Complete → text ≡ codes "complete\n" →
       IsExplainedOf g journal text Yes
-  run : {k : ℕ} → IsFound (start_net_of_graph g) journal (Run k) →
-      text ≡ line_with (codes "run ") k → IsExplainedOf g journal text Yes
-  bad_text : {line : ℕ} → IsFound (start_net_of_graph g) journal (BadText line) →
-      text ≡ line_with (codes "bad text at line ") line → IsExplainedOf g journal text No
+  run : {k : ℕ} {left : List ℕ} → IsFound (start_net_of_graph g) journal (Run k) →
+      TellsLeft g journal left → text ≡ line_with (codes "run ") k ++ left →
+      IsExplainedOf g journal text Yes
+  bad_text : {line : ℕ} {words : List ℕ} → IsFound (start_net_of_graph g) journal (BadText line) →
+      IsBadLine g journal line words →
+      text ≡ line_with (codes "bad text at line ") line ++ words ++ codes "\n" →
+      IsExplainedOf g journal text No
   not_a_run : {line : ℕ} {words : List ℕ} → IsFound (start_net_of_graph g) journal (NotARun line) →
       IsOffLine g journal line words →
       text ≡ line_with (codes "not a run at line ") line ++ words ++ codes "\n" →

@@ -1,5 +1,5 @@
 -- Private: words of private contracts alone: how far a journal was followed, and why no further.
-use Rattle.std.specs.Prelude.{◌≡◌, ℕ, ◌+◌, ◌<◌, ◌≤◌, List, [], ◌∷◌, ◌++◌, length, drop, Option, IfSome, IfNone, ◌⊎◌}
+use Rattle.std.specs.Prelude.{◌≡◌, ◌≢◌, ℕ, ◌+◌, ◌<◌, ◌≤◌, List, [], ◌∷◌, ◌++◌, length, drop, Option, IfSome, IfNone, ◌⊎◌}
 use Rattle.ol_net.specs.Graph.{Graph}
 use Rattle.ol_net.specs.Nets.{NamedNet, net_under}
 use Rattle.ol_net.specs.Numbered.{net_of}
@@ -12,8 +12,8 @@ use Rattle.ol_view.specs.declared.forms.Form.{Form}
 use Rattle.ol_view.specs.declared.forms.Form.TheVariants.{Two}
 use Rattle.ol_view.specs.declared.line_reading.Line.{Line}
 use Rattle.ol_view.specs.LineReading.{TellsOf}
-use Rattle.ol_view.specs.Checks.{start_net_of_graph, IsFound, IsRunTold, BeginsWithRun}
-use Rattle.ol_view.specs.Forms.{BeginsWithEntry}
+use Rattle.ol_view.specs.Checks.{start_net_of_graph, IsFound, IsRunTold, BeginsWithRun, HasNoLine}
+use Rattle.ol_view.specs.Forms.{header_of, BeginsWithEntry}
 use Rattle.ol_bench.specs.declared.replaying.Replay.{Replay}
 use Rattle.ol_bench.specs.declared.following.Stop.{Stop}
 use Rattle.ol_bench.specs.declared.following.Stop.TheVariants as stop
@@ -49,12 +49,14 @@ pub record IsOff (form : Form) (waves : List ℕ) (old : Graph) (r : Replay) (te
 
 -- The text was followed up to here: to its end, to so many entries, or to a line that isn't good.
 pub data Stops (old : Graph) (text : List ℕ) (most : ℕ) (r : Replay) (at : ℕ) : Stop → Type 0 where
-  no_header : IsFound (start_net_of_graph old) text (BadText 1) → Stops old text most r at stop.NoHeader
+  no_header : ((form : Form) (rest : List ℕ) → text ≢ header_of form ++ rest) →
+      Stops old text most r at stop.NoHeader
   good : {form : Form} {waves : List ℕ} → IsTold form waves old r text at → length r.journal ≤ most →
       (length r.journal ≡ most) ⊎ (length text ≤ at) → Stops old text most r at stop.Good
-  no_line : {form : Form} {waves : List ℕ} → IsTold form waves old r text at → length r.journal < most →
-      IsFound (start_net_of_graph old) text (BadText (length r.journal + 2)) →
-      Stops old text most r at stop.NoLine
+  no_line : {form : Form} {waves : List ℕ} → IsTold form waves old r text at →
+      length r.journal < most →
+      IsFound (start_net_of_graph old) text (BadText (length r.journal + 2)) → at < length text →
+      HasNoLine form (drop at text) → Stops old text most r at (stop.NoLine form)
   otherwise : {form : Form} {waves : List ℕ} {line : Line} {made : Option Rewritten} →
       IsTold form waves old r text at → length r.journal < most →
       IsFound (start_net_of_graph old) text (NotARun (length r.journal + 2)) →

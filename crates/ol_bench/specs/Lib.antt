@@ -3,10 +3,14 @@ pub mod Places
 pub mod Subjects
 pub mod Steps
 pub mod Tables
+pub mod Rounds
+pub mod Laws
 pub mod Orders
 pub mod Same
 pub mod NamedTexts
 pub mod Afters
+pub mod Left
+pub mod Wanted
 pub mod Explained
 pub mod Commands
 pub mod Statuses
@@ -17,5 +21,8 @@ pub mod Meetings
 pub mod Walked
 pub mod Seconds
 pub mod Replays
+pub mod Played
 pub mod Followed
+pub mod Found
+pub mod Fields
 pub mod Reasons

@@ -1,4 +1,4 @@
--- The journal of a run in one of two orders.
+-- The journal of a run in one of three orders.
 use Rattle.std.specs.Prelude.{◌≡◌, ℕ, List}
 use Rattle.ol_net.specs.Graph.{Graph}
 use Rattle.ol_net.specs.Numbered.{net_of}
@@ -9,19 +9,21 @@ use Rattle.ol_diamond.specs.Waves.{IsWavesOf}
 use Rattle.ol_readback.specs.declared.answers.ReadNode.{ReadNode}
 use Rattle.ol_demand.specs.declared.answers.Demanded.TheVariants.{Done, Spent}
 use Rattle.ol_demand.specs.Answers.{IsAnswer}
-use Rattle.ol_view.specs.WaveTexts.{wave_header, wave_trace_text}
+use Rattle.ol_view.specs.declared.forms.Form.TheVariants as form
+use Rattle.ol_view.specs.Forms.{header_of, text_of}
 use Rattle.ol_bench.specs.declared.answers.End.{End}
 use Rattle.ol_bench.specs.declared.answers.End.TheVariants.{Yes, No, Refused}
 use Rattle.ol_bench.specs.declared.ordering.Order.{Order}
-use Rattle.ol_bench.specs.declared.ordering.Order.TheVariants.{Least, Demand}
+use Rattle.ol_bench.specs.declared.ordering.Order.TheVariants.{Least, Demand, Rounds}
 use Rattle.ol_bench.specs.declared.subjects.Subject.{Subject}
+use Rattle.ol_bench.specs.Rounds.{EndsInRounds, GoesOnInRounds}
 use Rattle.ol_bench.specs.Subjects.{IsSubject, Refuses}
 
 -- the text tells this journal with its rules and its waves
 pub record Traces (g : Graph) (journal : List Entry) (text : List ℕ) : Type 0 where
   pub waves : List ℕ
   pub waves_are : IsWavesOf g journal waves
-  pub text_is : text ≡ wave_trace_text journal waves
+  pub text_is : text ≡ text_of form.Two journal waves
 
 -- The text of the journal of a run from the graph. Yes where the order has come to its end, and No
 -- where it goes on beyond the fuel.
@@ -36,7 +38,11 @@ pub data IsJournalOf (g : Graph) (fuel heads : ℕ) (text : List ℕ) : Order �
   demand_goes_on : {journal : List Entry} {last : Graph} →
       IsAnswer g heads fuel last (Spent journal) → Traces g journal text →
       IsJournalOf g fuel heads text Demand No
-  no_root : g.free ≡ 0 → text ≡ wave_header → IsJournalOf g fuel heads text Demand Yes
+  no_root : g.free ≡ 0 → text ≡ header_of form.Two → IsJournalOf g fuel heads text Demand Yes
+  rounds_ended : {journal : List Entry} → EndsInRounds g fuel journal → Traces g journal text →
+      IsJournalOf g fuel heads text Rounds Yes
+  rounds_go_on : {journal : List Entry} → GoesOnInRounds g fuel journal → Traces g journal text →
+      IsJournalOf g fuel heads text Rounds No
 
 -- The answer to a file with a term or a net.
 pub data IsJournal (bytes : List ℕ) (order : Order) (fuel heads : ℕ) (text : List ℕ)

@@ -11,7 +11,7 @@ use Rattle.ol_diamond.specs.declared.weighing.Rewritten.{Rewritten}
 use Rattle.ol_diamond.specs.Replaying.{AreIdle}
 use Rattle.ol_view.specs.declared.forms.Form.{Form}
 use Rattle.ol_view.specs.declared.line_reading.Line.{Line}
-use Rattle.ol_view.specs.Checks.{start_net_of_graph, BeginsWithRun}
+use Rattle.ol_view.specs.Checks.{start_net_of_graph}
 use Rattle.ol_bench.specs.declared.causes.Cause.{Cause}
 use Rattle.ol_bench.specs.declared.replaying.Replay.{Replay}
 use Rattle.ol_bench.specs.Replays.{names_of, IsReplay}
@@ -57,11 +57,3 @@ pub record IsOffBy (r : Replay) (line : Line) (made : Option Rewritten) (text : 
   pub is : IsCauseOff r line made cause
   pub text_is : text ≡ line_with (codes "not a run at line ") (length r.journal + 2)
       ++ cause_words line.first line.second cause ++ codes "\n"
-
--- the whole text is that of a run
-pub record IsToldWhole (g : Graph) (text : List ℕ) : Type 0 where
-  pub form : Form
-  pub journal : List Entry
-  pub waves : List ℕ
-  pub last : NamedNet NodeName
-  pub begins : BeginsWithRun form (start_net_of_graph g) text journal waves last []

@@ -12,7 +12,7 @@ ghost use Rattle.ol_bench.specs.Reasons.{IsCauseAway, IsCauseIdle, IsCauseOther,
 use crate::naming::{put, put_long, put_name, put_number};
 use crate::replaying::Replay;
 use ol_diamond::Rewritten;
-use ol_io::NoMemory;
+use ol_memory::NoMemory;
 use ol_net::{NodeId, Port, Rule};
 use ol_rules::{Entry, Journal, NodeName};
 use ol_view::{Line, rule_word};

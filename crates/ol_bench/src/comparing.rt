@@ -16,7 +16,7 @@ ghost use Rattle.ol_bench.specs.Subjects.{IsSubject};
 use crate::answers::{Answer, End};
 use crate::subjects::{NetRead, Subject, read_subject};
 use crate::texts::{put, put_number};
-use ol_io::NoMemory;
+use ol_memory::NoMemory;
 use ol_net::{Kind, Net, NodeId, Port};
 use std::alloc::Global;
 
@@ -69,7 +69,8 @@ fn put_pair(met: &mut Met, x: NodeId, y: NodeId) -> Result<(), NoMemory>
     requires new_second { met_by met.old.back.items y.0 ≡ None }
     requires tables { TellPairs met.old.pairs.items met.old.there.items met.old.back.items }
     ensures pairs { OnOk result (met.new.pairs.items ≡ met.old.pairs.items ++ (x.0, y.0) ∷ []) }
-    ensures tables { OnOk result (TellPairs met.new.pairs.items met.new.there.items met.new.back.items) }
+    ensures tables { OnOk result
+        (TellPairs met.new.pairs.items met.new.there.items met.new.back.items) }
     ensures there { length met.new.there.items ≡ length met.old.there.items }
     ensures back { length met.new.back.items ≡ length met.old.back.items }
 {
@@ -275,7 +276,8 @@ impl Met {
 fn seek(alloc: Global, a: &Net, b: &Net, met: &Met, tries: &mut u32) -> Result<Tried, NoMemory>
     requires free { a.now.free ≡ b.now.free }
     requires tables { AreTables a.now b.now met.now }
-    requires walked { HasWalked a.now b.now (a.now.free + 3 * length met.now.pairs.items) met.now.pairs.items }
+    requires walked { HasWalked a.now b.now
+        (a.now.free + 3 * length met.now.pairs.items) met.now.pairs.items }
     ensures found { IfOk result
         (Searched a.now b.now (NoneFollow a.now b.now met.now.pairs.items)) }
     ensures tries { tries.new ≤ tries.old }
@@ -306,7 +308,8 @@ fn try_each(
 ) -> Result<Tried, NoMemory>
     requires free { a.now.free ≡ b.now.free }
     requires tables { AreTables a.now b.now met.now }
-    requires walked { HasWalked a.now b.now (a.now.free + 3 * length met.now.pairs.items) met.now.pairs.items }
+    requires walked { HasWalked a.now b.now
+        (a.now.free + 3 * length met.now.pairs.items) met.now.pairs.items }
     requires alone { met_by met.now.there.items x.0 ≡ None }
     requires there { (k : Kind) × (i : ℕ) × HasNode (net_of a.now) x.0 k i }
     ensures found { IfOk result
@@ -337,7 +340,8 @@ fn try_pair(
 ) -> Result<Tried, NoMemory>
     requires free { a.now.free ≡ b.now.free }
     requires tables { AreTables a.now b.now met.now }
-    requires walked { HasWalked a.now b.now (a.now.free + 3 * length met.now.pairs.items) met.now.pairs.items }
+    requires walked { HasWalked a.now b.now
+        (a.now.free + 3 * length met.now.pairs.items) met.now.pairs.items }
     requires alone { met_by met.now.there.items x.0 ≡ None }
     requires there { (k : Kind) × (i : ℕ) × HasNode (net_of a.now) x.0 k i }
     requires second { y.0 < length b.now.nodes }

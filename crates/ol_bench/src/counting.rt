@@ -12,7 +12,7 @@ use crate::subjects::{NetRead, Subject, TermRead, read_subject, read_term};
 use crate::texts::{put, put_number};
 use ol_beta::{BetaFault, beta, redex};
 use ol_demand::{Demanded, demand};
-use ol_io::NoMemory;
+use ol_memory::NoMemory;
 use ol_net::Net;
 use ol_rules::{Counts, Ended, counts, run};
 use ol_term::{Term, TermFile, Translation};

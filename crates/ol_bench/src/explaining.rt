@@ -1,20 +1,25 @@
-//! The command `explain`: what a journal is found to be, and of a line that isn't one of a run why.
+//! The command `explain`: what a journal is found to be, which pairs are left after a run, what is
+//! wanted in bad text, and of a line that isn't one of a run why.
 
 ghost use Rattle.std.specs.Prelude.{◌≡◌, ◌≤◌, ◌<◌, length, codes, IfOk, IfSome};
 ghost use Rattle.ol_view.specs.LineReading.{TellsOf};
 ghost use Rattle.ol_bench.specs.Afters.{line_with};
-ghost use Rattle.ol_bench.specs.Reasons.{IsReplayed, IsOffBy, IsToldWhole};
+ghost use Rattle.ol_bench.specs.Found.{IsToldBy};
+ghost use Rattle.ol_bench.specs.Reasons.{IsReplayed, IsOffBy};
+ghost use Rattle.ol_bench.specs.Replays.{IsReplay};
 ghost use Rattle.ol_bench.specs.Explained.{IsExplained, IsExplainedOf};
 ghost use Rattle.ol_bench.specs.Subjects.{most_bytes};
 
 use crate::answers::{Answer, End};
 use crate::causes::{cause_of, put_cause};
 use crate::following::{Stop, follow};
+use crate::left::run_and_left;
 use crate::naming::{put, put_number};
 use crate::replaying::Replay;
 use crate::subjects::{NetRead, Subject, read_subject};
+use crate::wanting::{bad_header, bad_line, past_the_end};
 use ol_diamond::Rewritten;
-use ol_io::NoMemory;
+use ol_memory::NoMemory;
 use ol_net::Net;
 use ol_view::{Check, Line, check};
 use std::alloc::Global;
@@ -70,18 +75,20 @@ fn off(
 }
 
 // The answer where all lines are good.
-fn ended(alloc: Global, net: &Net, journal: &[u8]) -> Result<Answer, NoMemory>
+fn ended(alloc: Global, net: &Net, journal: &[u8], replay: &mut Replay) -> Result<Answer, NoMemory>
     requires few { length net.now.nodes ≤ 200000 }
-    requires told { IsToldWhole net.now journal.now }
+    requires told { IsToldBy net.now journal.now replay.old }
+    requires replay { IsReplay net.now replay.old }
     ensures { IfOk result (λ a. IsExplainedOf net.now journal.now a.text.items a.end) }
 {
+    net.is_net();
     match check(alloc, net, journal)? {
         Check::Complete => {
             let answer = complete(alloc)?;
             Ok(answer)
         }
         Check::Run { k } => {
-            let answer = line_of(alloc, "run ", k, End::Yes)?;
+            let answer = run_and_left(alloc, net, k, replay)?;
             Ok(answer)
         }
         Check::BadText { .. } => unreachable!(),
@@ -93,23 +100,23 @@ fn of_net(alloc: Global, net: &Net, journal: &[u8]) -> Result<Answer, NoMemory>
     requires few { length net.now.nodes ≤ 200000 }
     ensures { IfOk result (λ a. IsExplainedOf net.now journal.now a.text.items a.end) }
 {
-    let followed = follow(alloc, net, journal, 8_000_000)?;
+    let mut followed = follow(alloc, net, journal, 8_000_000)?;
     match followed.stop {
         Stop::NoHeader => {
-            let answer = line_of(alloc, "bad text at line ", 1, End::No)?;
+            let answer = bad_header(alloc, journal)?;
             Ok(answer)
         }
         Stop::Good => {
             if followed.at < journal.len() {
-                let answer = line_of(alloc, "bad text at line ", 8_000_002, End::No)?;
+                let answer = past_the_end(alloc, followed.at)?;
                 return Ok(answer);
             }
-            let answer = ended(alloc, net, journal)?;
+            let answer = ended(alloc, net, journal, &mut followed.replay)?;
             Ok(answer)
         }
-        Stop::NoLine => {
+        Stop::NoLine { form } => {
             let bad = followed.replay.journal.len() + 2;
-            let answer = line_of(alloc, "bad text at line ", bad, End::No)?;
+            let answer = bad_line(alloc, form, journal, followed.at, bad)?;
             Ok(answer)
         }
         Stop::Otherwise { line, made } => {
@@ -119,11 +126,16 @@ fn of_net(alloc: Global, net: &Net, journal: &[u8]) -> Result<Answer, NoMemory>
     }
 }
 
-/// What a journal is found to be against the net of a file: the line of `ol check`, and below it, of
-/// a line that isn't the next one of a run, why it isn't.
+/// What a journal is found to be against the net of a file: the line of `ol check`; and below it,
+/// of a run that isn't complete, the pairs that are left, of bad text, what is wanted at which
+/// byte, and of a line that isn't the next one of a run, why it isn't.
 ///
-/// - `Yes`: `complete`, or `run` with the number of entries.
-/// - `No`: the number of the first bad line. Where that is a line of the grammar, its cause: a name
+/// - `Yes`: `complete`, or `run` with the number of entries, and the lines with which the journal
+///   could go on: of each active pair its rule, its wave and its two names. There are at most 20 of
+///   them, in the order of their first names, and a last line tells how many more there are.
+/// - `No`: the number of the first bad line. Where that is none of the grammar, the byte from which
+///   on no text is, and what is wanted there; where only its names aren't in order, that a greater
+///   one is. Where it is a line of the grammar, its cause: a name
 ///   of a node that isn't born yet, that is gone, with the line by which it went, or that never was
 ///   one; what the first node faces, where it isn't the second one; that the two have no rule; or
 ///   which rule or which wave is the pair's, where the line tells another.

@@ -2,7 +2,7 @@
 
 ghost use Rattle.std.specs.Prelude.{◌≡◌, ◌≢◌, ℕ, ◌++◌, ◌≤◌, List, length, drop, true, false, IfOk, IfSome, IfNone, IsSomeAnd};
 ghost use Rattle.ol_view.specs.declared.forms.Form.{Form};
-ghost use Rattle.ol_view.specs.TraceTexts.{header};
+ghost use Rattle.ol_view.specs.EachForm.{header};
 ghost use Rattle.ol_view.specs.Forms.{header_of};
 ghost use Rattle.ol_view.specs.LineReading.{TellsOf};
 ghost use Rattle.ol_bench.specs.Replays.{IsReplay};
@@ -10,7 +10,7 @@ ghost use Rattle.ol_bench.specs.Followed.{Stops};
 
 use crate::replaying::Replay;
 use ol_diamond::{Rewritten, Weighing};
-use ol_io::NoMemory;
+use ol_memory::NoMemory;
 use ol_net::Net;
 use ol_view::{Form, Line, line_at};
 use std::alloc::Global;
@@ -22,8 +22,8 @@ pub enum Stop {
     NoHeader,
     /// It ends here, or as many entries as were asked for are made.
     Good,
-    /// No line of the grammar stands here.
-    NoLine,
+    /// No line of the grammar, by this form, stands here.
+    NoLine { form: Form },
     /// This line stands here, and isn't one of the run: its pair isn't active, or what was made of
     /// the pair isn't what the line tells.
     Otherwise { line: Line, made: Option<Rewritten> },
@@ -95,7 +95,7 @@ pub fn follow(alloc: Global, net: &Net, text: &[u8], most: u32) -> Result<Follow
             return Ok(Followed { replay, at, stop });
         }
         let Some(line) = line_at(form, text, at) else {
-            let stop = Stop::NoLine;
+            let stop = Stop::NoLine { form };
             return Ok(Followed { replay, at, stop });
         };
         let made = weighing.rewrite(line.first, line.second)?;

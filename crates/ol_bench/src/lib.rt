@@ -3,15 +3,20 @@
 //!
 //! - `subjects`: files made ready: from the bytes of a file to a term, or to a net
 //! - `counting`: the command `counts`: three ways to reduce, side by side
-//! - `ordering`: the command `journal`: a run in one of two orders
+//! - `ordering`: the command `journal`: a run in one of three orders
 //! - `placing`: the command `where`: the line and the column of a byte
 //! - `stepping`: the command `steps`: leftmost reduction, term by term
 //! - `pausing`: the command `after`: the net after the first lines of a journal
 //! - `explaining`: the command `explain`: what a journal is found to be, and why
 //! - `causes`: why a line of a journal isn't one of a run
+//! - `left`: the pairs that are left after a run
+//! - `wanting`: where a line that isn't one of a journal breaks off, and what is wanted there
 //! - `comparing`: the command `same`: whether two nets are one up to the numbers of their nodes
 //! - `replaying`: a run from a net, pair by pair
+//! - `playing`: a run from a net, round by round
+//! - `waiting`: which nodes may stand in an active pair
 //! - `following`: a journal, followed line by line
+//! - `laws`: the law of runs in rounds
 //! - `naming`: a net as a text, under the names of a run
 //! - `answers`: what the commands answer
 //! - `texts`: pieces of texts
@@ -24,20 +29,26 @@ mod comparing;
 mod counting;
 mod explaining;
 mod following;
+mod laws;
+mod left;
 mod naming;
 mod ordering;
 mod pausing;
 mod placing;
+mod playing;
 mod replaying;
 mod stepping;
 mod subjects;
 mod texts;
 mod top;
+mod waiting;
+mod wanting;
 
 pub use answers::{Answer, End};
 pub use comparing::same;
 pub use counting::{Bounds, Column, Row, counted};
 pub use explaining::explained;
+pub use laws::waves_are_rounds;
 pub use ordering::{Order, journal};
 pub use pausing::after;
 pub use placing::whereabouts;

@@ -8,7 +8,7 @@ ghost use Rattle.ol_bench.specs.NamedTexts.{named_port, named_partner, named_fre
 ghost use Rattle.ol_bench.specs.Replays.{names_of};
 
 use crate::replaying::Replay;
-use ol_io::NoMemory;
+use ol_memory::NoMemory;
 use ol_net::{IndexOf, NodeId, Port};
 use ol_rules::NodeName;
 use std::alloc::Global;

@@ -1,19 +1,21 @@
-//! The command `journal`: the journal of a run in one of two orders.
+//! The command `journal`: the journal of a run in one of three orders.
 
 ghost use Rattle.std.specs.Prelude.{◌≡◌, ℕ, ◌+◌, ◌*◌, ◌≤◌, List, length, IfOk};
 ghost use Rattle.ol_net.specs.Nets.{NamedNet};
 ghost use Rattle.ol_rules.specs.declared.journal.NodeName.{NodeName};
 ghost use Rattle.ol_rules.specs.Runs.{IsRun};
 ghost use Rattle.ol_view.specs.Checks.{start_net_of_graph};
-ghost use Rattle.ol_view.specs.WaveTexts.{wave_header};
+ghost use Rattle.ol_view.specs.declared.forms.Form.TheVariants.{Two};
+ghost use Rattle.ol_view.specs.Forms.{header_of};
 ghost use Rattle.ol_bench.specs.Subjects.{most_bytes};
 ghost use Rattle.ol_bench.specs.Orders.{Traces, IsJournalOf, IsJournal};
 
 use crate::answers::{Answer, End};
+use crate::playing::play;
 use crate::subjects::{NetRead, Subject, read_subject};
 use crate::texts::put;
 use ol_demand::{Demanded, demand};
-use ol_io::NoMemory;
+use ol_memory::NoMemory;
 use ol_net::Net;
 use ol_rules::{Ended, Journal, run};
 use ol_view::trace_text_2;
@@ -26,6 +28,9 @@ pub enum Order {
     Least,
     /// Only the pairs come that the reading of the net meets, in the order in which it meets them.
     Demand,
+    /// All pairs come that are active, each once, by the order of their smaller names; then all that
+    /// are active now; and so on.
+    Rounds,
 }
 
 // The text of a journal with its rules and waves.
@@ -60,9 +65,30 @@ fn least(alloc: Global, net: &Net, fuel: u32) -> Result<Answer, NoMemory>
     }
 }
 
+// The run in rounds.
+fn in_rounds(alloc: Global, net: &Net, fuel: u32) -> Result<Answer, NoMemory>
+    requires few { length net.now.nodes ≤ 200000 }
+    requires fuel { fuel ≤ 8000000 }
+    ensures { IfOk result (λ a.
+        (heads : ℕ) → IsJournalOf net.now fuel heads a.text.items Order.Rounds a.end) }
+{
+    let ran = play(alloc, net, fuel)?;
+    let text = traced(alloc, net, &ran.journal)?;
+    match ran.ended {
+        Ended::Done => {
+            let end = End::Yes;
+            Ok(Answer { text, end })
+        }
+        Ended::Spent => {
+            let end = End::No;
+            Ok(Answer { text, end })
+        }
+    }
+}
+
 // The text of the journal of no entry.
 fn no_entry(alloc: Global) -> Result<Answer, NoMemory>
-    ensures text { IfOk result (λ a. a.text.items ≡ wave_header) }
+    ensures text { IfOk result (λ a. a.text.items ≡ header_of Two) }
     ensures yes { IfOk result (λ a. a.end ≡ End.Yes) }
 {
     let mut text = Vec::new(alloc);
@@ -112,6 +138,10 @@ fn of_net(alloc: Global, net: &Net, order: Order, fuel: u32, heads: u32) -> Resu
         }
         Order::Demand => {
             let answer = on_demand(alloc, net, fuel, heads)?;
+            Ok(answer)
+        }
+        Order::Rounds => {
+            let answer = in_rounds(alloc, net, fuel)?;
             Ok(answer)
         }
     }

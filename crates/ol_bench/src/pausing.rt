@@ -11,7 +11,7 @@ use crate::naming::named_net;
 use crate::replaying::Replay;
 use crate::subjects::{NetRead, Subject, read_subject};
 use crate::texts::{put, put_number};
-use ol_io::NoMemory;
+use ol_memory::NoMemory;
 use ol_net::Net;
 use std::alloc::Global;
 
@@ -65,7 +65,7 @@ fn of_net(alloc: Global, net: &Net, journal: &[u8], lines: u32) -> Result<Answer
             let answer = nothing(alloc, "the last line is line ", has)?;
             Ok(answer)
         }
-        Stop::NoLine => {
+        Stop::NoLine { .. } => {
             let line = followed.replay.journal.len() + 2;
             let answer = nothing(alloc, "bad text at line ", line)?;
             Ok(answer)

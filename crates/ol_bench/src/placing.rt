@@ -5,7 +5,7 @@ ghost use Rattle.ol_bench.specs.Places.{is_feed, blank, blanks, place_text, past
 
 use crate::answers::{Answer, End};
 use crate::texts::{put, put_number};
-use ol_io::NoMemory;
+use ol_memory::NoMemory;
 use std::alloc::Global;
 
 const FEED: u8 = 10;

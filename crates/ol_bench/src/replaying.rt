@@ -7,7 +7,7 @@ ghost use Rattle.ol_rules.specs.Runs.{names_born};
 ghost use Rattle.ol_diamond.specs.Replaying.{node_number, AreIdle};
 ghost use Rattle.ol_bench.specs.Replays.{names_of, IsReplay, Advances, AdvancesNamed, AreApart};
 
-use ol_io::NoMemory;
+use ol_memory::NoMemory;
 use ol_net::{Facing, Net, NodeId, Port};
 use ol_rules::{Entry, Journal, NodeName, StepFault, step};
 use std::alloc::Global;

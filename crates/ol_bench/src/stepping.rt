@@ -6,13 +6,14 @@ ghost use Rattle.ol_term.specs.Trees.{tree_of, is_below, is_named_below, term_si
 ghost use Rattle.ol_beta.specs.Beta.{IsWithin};
 ghost use Rattle.ol_bench.specs.Subjects.{IsTerm};
 ghost use Rattle.ol_bench.specs.Steps.{address_line, last_line, past_line, term_line, Tells, IsStepsOf};
-ghost use Rattle.ol_beta.specs.AddressTexts.{moves_text};
+ghost use Rattle.std.specs.List.{flat_map};
+ghost use Rattle.std.specs.Fmt.{decimal};
 
 use crate::answers::{Answer, End};
 use crate::subjects::{TermRead, read_term};
 use crate::texts::{put, put_number};
 use ol_beta::{Address, BetaFault, beta, redex};
-use ol_io::NoMemory;
+use ol_memory::NoMemory;
 use ol_net::Net;
 use ol_term::{Names, Term, TermFile, Translation, depth, print_term, size};
 use std::alloc::Global;
@@ -46,7 +47,7 @@ fn put_term(alloc: Global, text: &mut Vec<u8>, term: &Term, names: &Names) -> Re
 
 // The moves of an address.
 fn put_moves(alloc: Global, text: &mut Vec<u8>, at: &Address) -> Result<(), NoMemory>
-    ensures { OnOk result (text.new.items ≡ text.old.items ++ moves_text at.now) }
+    ensures { OnOk result (text.new.items ≡ text.old.items ++ flat_map decimal at.now) }
 {
     for k in 0..at.len() {
         let Some(to) = at.get(k) else { unreachable!() };

@@ -6,7 +6,7 @@ ghost use Rattle.ol_bench.specs.Subjects.{most_bytes, Refuses};
 ghost use Rattle.ol_bench.specs.Readied.{IsTermRead, IsSubjectRead};
 
 use crate::texts::{put, put_number};
-use ol_io::NoMemory;
+use ol_memory::NoMemory;
 use ol_net::Net;
 use ol_netfile::{NetFault, fault_text, read_net};
 use ol_parse::{ParseFault, parse};

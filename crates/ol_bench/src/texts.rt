@@ -3,7 +3,7 @@
 ghost use Rattle.std.specs.Prelude.{◌≡◌, ◌++◌, ◌∷◌, [], OnOk, IfOk};
 ghost use Rattle.std.specs.Fmt.{decimal};
 
-use ol_io::NoMemory;
+use ol_memory::NoMemory;
 use std::alloc::Global;
 
 /// Appends some bytes.

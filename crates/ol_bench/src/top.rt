@@ -17,7 +17,8 @@ use crate::placing::whereabouts;
 use crate::stepping::steps;
 use crate::subjects::Subject;
 use crate::texts::put;
-use ol_io::{NoMemory, ReadAll, Sink, Source, Written, read_all, write_all};
+use ol_io::{ReadAll, Sink, Source, Written, read_all, write_all};
+use ol_memory::NoMemory;
 use std::alloc::Global;
 
 /// What is asked: a command, with the names of its files; `-` is standard input.

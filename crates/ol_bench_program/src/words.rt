@@ -66,12 +66,12 @@ fn journal<'a>(alloc: Global) -> Result<Command<'a>, AllocError> {
         .long("order")
         .required(true)
         .action(ArgAction::Set)
-        .value_parser(["least", "demand"].as_slice())
+        .value_parser(["least", "demand", "rounds"].as_slice())
         .help("which pairs come first");
     on_net(
         alloc,
         "journal",
-        "The journal of a run in one of two orders",
+        "The journal of a run in one of three orders",
     )?
     .arg(order)?
     .arg(file(alloc, OF_TERM_OR_NET))
@@ -102,7 +102,9 @@ fn after<'a>(alloc: Global) -> Result<Command<'a>, AllocError> {
 
 fn explain<'a>(alloc: Global) -> Result<Command<'a>, AllocError> {
     Command::new(alloc, "explain")
-        .about("What a journal is found to be, and of a line that isn't one of a run why")
+        .about(
+            "What a journal is found to be, which pairs are left, or why a line isn't one of a run",
+        )
         .arg(flag(alloc, "net", "the file has a net, as `ol net` writes one"))?
         .arg(number(alloc, "translation", 1, 2, TRANSLATION))?
         .arg(file(alloc, OF_TERM_OR_NET))?
@@ -224,6 +226,7 @@ fn name_of(alloc: Global, found: &ArgMatches) -> Result<String, Error> {
 fn order_of(found: &ArgMatches) -> Order {
     match found.get_str("order") {
         Some("demand") => Order::Demand,
+        Some("rounds") => Order::Rounds,
         _ => Order::Least,
     }
 }

@@ -54,6 +54,7 @@ fn asked(alloc: Global, command: &str, number: u32) -> Result<Asked, AllocError>
         "counts" => Ok(counts(Subject::Term(Translation::Two), number, name)),
         "counts --net" => Ok(counts(Subject::Net, number, name)),
         "least" => Ok(journal(Order::Least, number, name)),
+        "rounds" => Ok(journal(Order::Rounds, number, name)),
         _ => Ok(journal(Order::Demand, number, name)),
     }
 }
@@ -191,10 +192,19 @@ fn orders_are_traced(rt: HostRuntime) -> Result<(), Fail> {
     let begun = "ol trace 2\nbeta 1 0 1\ncross-croissant 2 2 3\n";
     let unused = b"(\\x. y) ((\\x. x) z)".as_slice();
     let one = "ol trace 2\nbeta 1 0 1\n";
-    let rows: [(&str, u32, &[u8], Status, &str); 4] = [
+    let rounds =
+        "ol trace 2\nbeta 1 0 1\ncross-fan 2 4 5\ncross-croissant 3 3 1.2\ncross-fan 3 6 1.1
+beta 4 2 2.2\nfan 4 1.0 3.0\ncross-croissant 4 2.1 3.1\ncross-croissant 5 1.3 6.1
+croissant 5 2.0 6.0\ncross-croissant 6 3.2 7.1\ncroissant 7 7.0 9.0\n";
+    let cut = "ol trace 2\nbeta 1 0 1\ncross-fan 2 4 5\ncross-croissant 3 3 1.2\n";
+    let rows: [(&str, u32, &[u8], Status, &str); 8] = [
         ("least", 9, small, Status::Yes, all),
         ("least", 2, small, Status::No, begun),
         ("demand", 9, unused, Status::Yes, one),
+        ("rounds", 11, ONCE, Status::Yes, rounds),
+        ("rounds", 3, ONCE, Status::No, cut),
+        ("rounds", 0, ONCE, Status::No, "ol trace 2\n"),
+        ("rounds", 0, b"x", Status::Yes, "ol trace 2\n"),
         ("demand", 9, b"", Status::Refused, "syntax at byte 0\n"),
     ];
     for row in rows {

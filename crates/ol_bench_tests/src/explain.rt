@@ -14,6 +14,17 @@ const TERM: &str = "(\\x. x) (\\y. y)";
 const NET: &str =
     "ol net 1\nfree 4\nnode lam 0\nnode lam 0\nlink f0 0.1\nlink f1 0.2\nlink f2 1.1\nlink f3 1.2\nlink 0.0 1.0\n";
 
+// A stuck pair and an active one.
+const TWO_PAIRS: &str =
+    "ol net 1\nfree 8\nnode lam 0\nnode lam 0\nnode app 0\nnode lam 0\nlink f0 0.1\nlink f1 0.2\nlink f2 1.1\nlink f3 1.2\nlink 0.0 1.0\nlink f4 2.1\nlink f5 2.2\nlink f6 3.1\nlink f7 3.2\nlink 2.0 3.0\n";
+
+// One pair more than are told.
+const MANY_PAIRS: &str =
+    "ol net 1\nfree 0\nnode eraser -\nnode eraser -\nnode eraser -\nnode eraser -\nnode eraser -\nnode eraser -\nnode eraser -\nnode eraser -\nnode eraser -\nnode eraser -\nnode eraser -\nnode eraser -\nnode eraser -\nnode eraser -\nnode eraser -\nnode eraser -\nnode eraser -\nnode eraser -\nnode eraser -\nnode eraser -\nnode eraser -\nnode eraser -\nnode eraser -\nnode eraser -\nnode eraser -\nnode eraser -\nnode eraser -\nnode eraser -\nnode eraser -\nnode eraser -\nnode eraser -\nnode eraser -\nnode eraser -\nnode eraser -\nnode eraser -\nnode eraser -\nnode eraser -\nnode eraser -\nnode eraser -\nnode eraser -\nnode eraser -\nnode eraser -\nlink 0.0 1.0\nlink 2.0 3.0\nlink 4.0 5.0\nlink 6.0 7.0\nlink 8.0 9.0\nlink 10.0 11.0\nlink 12.0 13.0\nlink 14.0 15.0\nlink 16.0 17.0\nlink 18.0 19.0\nlink 20.0 21.0\nlink 22.0 23.0\nlink 24.0 25.0\nlink 26.0 27.0\nlink 28.0 29.0\nlink 30.0 31.0\nlink 32.0 33.0\nlink 34.0 35.0\nlink 36.0 37.0\nlink 38.0 39.0\nlink 40.0 41.0\n";
+
+const MANY_TOLD: &str =
+    "run 0\nerase 1 0 1\nerase 1 2 3\nerase 1 4 5\nerase 1 6 7\nerase 1 8 9\nerase 1 10 11\nerase 1 12 13\nerase 1 14 15\nerase 1 16 17\nerase 1 18 19\nerase 1 20 21\nerase 1 22 23\nerase 1 24 25\nerase 1 26 27\nerase 1 28 29\nerase 1 30 31\nerase 1 32 33\nerase 1 34 35\nerase 1 36 37\nerase 1 38 39\nand 1 more\n";
+
 const JOURNAL: &str =
     "ol trace 2\nbeta 1 0 1\ncross-croissant 2 2 3\ncross-croissant 3 4 1.1\ncroissant 4 1.0 2.0\n";
 
@@ -64,10 +75,38 @@ fn assert_explained(
 
 #[test]
 fn causes_are_told(rt: HostRuntime) -> Result<(), Fail> {
-    let rows: [(&str, Status, &str); 11] = [
+    let rows: [(&str, Status, &str); 15] = [
         (JOURNAL, Status::Yes, "complete\n"),
-        ("ol trace 1\n0 1\n", Status::Yes, "run 1\n"),
-        ("ol trace 1\n3 2\n", Status::No, "bad text at line 2\n"),
+        (
+            "ol trace 1\n0 1\n",
+            Status::Yes,
+            "run 1\ncross-croissant 2 2 3\n",
+        ),
+        (
+            "ol trace 1\n3 2\n",
+            Status::No,
+            "bad text at line 2\nbyte 13: wanted a name greater than 3\n",
+        ),
+        (
+            "ol trace 3\n",
+            Status::No,
+            "bad text at line 1\nbyte 9: wanted 1 or 2\n",
+        ),
+        (
+            "ol trace 2\nbeta 01 0 1\n",
+            Status::No,
+            "bad text at line 2\nbyte 17: wanted a space\n",
+        ),
+        (
+            "ol trace 2\ncross-fon 1 0 1\n",
+            Status::No,
+            "bad text at line 2\nbyte 18: wanted a\n",
+        ),
+        (
+            "ol trace 1\n0 1",
+            Status::No,
+            "bad text at line 2\nbyte 14: wanted a line feed or a dot or a digit\n",
+        ),
         (
             "ol trace 1\n0 5.0\n",
             Status::No,
@@ -125,6 +164,32 @@ fn causes_are_told(rt: HostRuntime) -> Result<(), Fail> {
             "ol trace 1\n0 1\n",
             Status::No,
             "not a run at line 2\n0 and 1 have no rule\n",
+        ),
+    )
+}
+
+#[test]
+fn pairs_that_are_left_are_told(rt: HostRuntime) -> Result<(), Fail> {
+    let rows: [(&str, &str, &str); 2] = [
+        (TWO_PAIRS, "ol trace 1\n", "run 0\nbeta 1 2 3\n"),
+        (MANY_PAIRS, "ol trace 2\n", MANY_TOLD),
+    ];
+    for (net, journal, wanted) in rows {
+        assert_explained(
+            &rt,
+            rt.alloc(),
+            (Subject::Net, net),
+            (journal, Status::Yes, wanted),
+        )?;
+    }
+    assert_explained(
+        &rt,
+        rt.alloc(),
+        (Subject::Term(Translation::Two), TERM),
+        (
+            "ol trace 2\nbeta 1 0 1\ncross-croissant 2 2 3\n",
+            Status::Yes,
+            "run 2\ncross-croissant 3 4 1.1\n",
         ),
     )
 }

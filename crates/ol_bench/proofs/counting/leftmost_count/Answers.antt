@@ -1,10 +1,9 @@
 use Rattle.std.proofs.Common.{◌≡◌, ◌+◌, ◌<◌, ◌≤◌, ◌⊎◌, inl, inr, ◌++◌, [], ◌∷◌, length, Some, refl}
 use Rattle.std.proofs.Common.{sym, ap, ◌∙◌, subst, arith, rules}
 use Rattle.std.specs.Prelude.{IsSome}
-use Rattle.std.proofs.lemmas.Bool.{cases_lt}
 use Rattle.std.proofs.lemmas.List.{length_push}
 use Rattle.ol_term.specs.Trees.{tree_of, term_size, depth}
-use Rattle.ol_beta.specs.Beta.{IsPast, IsPastAfter}
+use Rattle.ol_beta.specs.Beta.{IsPastAfter}
 use Rattle.ol_beta.specs.Faults.{IsBetaFault}
 use Rattle.ol_beta.specs.Leftmost.{leftmost}
 use Rattle.ol_beta.specs.declared.contracting.BetaFault.{BetaFault}
@@ -22,14 +21,8 @@ returns-then-not-is_within c =
       steps = refl;
       few = omega arith;
       measure = (refl, refl);
-      past = go (cases_lt 100000 (term_size t)) (cases_lt 1000 (depth t));
+      past = λ w. let e = c.if-not-is_within.ensures.1 w in absurd (cc);
     })
-  where
-    go : (100000 < term_size (tree_of c.args.term)) ⊎ (term_size (tree_of c.args.term) ≤ 100000) →
-        (1000 < depth (tree_of c.args.term)) ⊎ (depth (tree_of c.args.term) ≤ 1000) → IsPast (tree_of c.args.term)
-    go (inl h) k = inl h
-    go (inr h) (inl k) = inr k
-    go (inr h) (inr k) = let e = c.if-not-is_within.ensures.1 (h, k) in absurd (cc)
 
 pub returns-in_default : goal.returns-in_default
 returns-in_default c =

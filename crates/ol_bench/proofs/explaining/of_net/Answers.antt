@@ -1,12 +1,19 @@
 use Rattle.std.proofs.Common.{◌≡◌, ◌+◌, length, refl, sym, subst, arith}
-use Rattle.ol_view.specs.declared.answers.Check.TheVariants.{BadText}
-use Rattle.ol_view.specs.Checks.{start_net_of_graph, IsFound}
 use Rattle.ol_bench.specs.Explained.{IsExplainedOf}
-use Rattle.ol_bench.specs.Explained as of
 use Rattle.ol_bench.specs.Followed.{Stops}
-use Rattle.ol_bench.proofs.Told.{at_header, at_no_line, at_other}
-use Rattle.ol_bench.proofs.Reasoned.{whole, full, explains, made_wrong}
+use Rattle.ol_bench.proofs.Told.{at_header, no_header_here, no_line_here, at_other}
+use Rattle.ol_bench.proofs.BadLines.{at_the_header, at_the_line, at_the_end}
+use Rattle.ol_bench.proofs.Reasoned.{whole, explains, made_wrong}
 use Rattle.ol_bench.proofs.explaining.of_net.Goals as goal
+
+pub bad_header-requires : goal.bad_header-requires
+bad_header-requires c =
+    let f = c.in_ok-followed.followed in
+    record {
+      none = no_header_here c.args.net.now c.args.journal.now 8000000 f.replay f.at
+          (subst (λ s. Stops c.args.net.now c.args.journal.now 8000000 f.replay f.at s)
+          c.in-NoHeader.is c.in_ok-followed.ensures.stops);
+    }
 
 pub returns-in-NoHeader : goal.returns-in-NoHeader
 returns-in-NoHeader c =
@@ -15,7 +22,8 @@ returns-in-NoHeader c =
     c.in-NoHeader.is c.in_ok-followed.ensures.stops in
     let a = c.in_ok-answer-in-NoHeader in
     subst (λ e. IsExplainedOf c.args.net.now c.args.journal.now a.answer.text.items e) (sym a.ensures.end)
-    (of.IsExplainedOf.bad_text (at_header c.args.net.now c.args.journal.now 8000000 f.replay f.at s) a.ensures.text)
+    (at_the_header c.args.net.now c.args.journal.now a.answer.text.items
+    (at_header c.args.net.now c.args.journal.now 8000000 f.replay f.at s) a.ensures.text)
 
 pub returns-then-followed-journal : goal.returns-then-followed-journal
 returns-then-followed-journal c =
@@ -24,9 +32,8 @@ returns-then-followed-journal c =
     c.in-Good.is c.in_ok-followed.ensures.stops in
     let a = c.in_ok-answer-in-Good in
     subst (λ e. IsExplainedOf c.args.net.now c.args.journal.now a.answer.text.items e) (sym a.ensures.end)
-    (of.IsExplainedOf.bad_text (full c.args.net.now c.args.journal.now 8000000 f.replay f.at s
-    c.if-followed-journal.true refl)
-    a.ensures.text)
+    (at_the_end c.args.net.now c.args.journal.now 8000000 f.replay f.at refl s
+    c.if-followed-journal.true a.answer.text.items a.ensures.text)
 
 pub ended-requires-clause-told : goal.ended-requires-clause-told
 ended-requires-clause-told c =
@@ -35,17 +42,36 @@ ended-requires-clause-told c =
     c.in-Good.is c.in_ok-followed.ensures.stops in
     whole c.args.net.now c.args.journal.now 8000000 f.replay f.at s c.if-followed-journal.false
 
+pub ended-requires-clause-replay : goal.ended-requires-clause-replay
+ended-requires-clause-replay c = c.in_ok-followed.ensures.replay
+
+pub bad_line-requires-clause-at : goal.bad_line-requires-clause-at
+bad_line-requires-clause-at c =
+    let f = c.in_ok-followed.followed in
+    let n = no_line_here c.args.net.now c.args.journal.now 8000000 f.replay f.at
+    (subst (λ s. Stops c.args.net.now c.args.journal.now 8000000 f.replay f.at s)
+    c.in-NoLine.is c.in_ok-followed.ensures.stops) in
+    let w = n.within in omega arith
+
+pub bad_line-requires-clause-none : goal.bad_line-requires-clause-none
+bad_line-requires-clause-none c =
+    let f = c.in_ok-followed.followed in
+    let n = no_line_here c.args.net.now c.args.journal.now 8000000 f.replay f.at
+    (subst (λ s. Stops c.args.net.now c.args.journal.now 8000000 f.replay f.at s)
+    c.in-NoLine.is c.in_ok-followed.ensures.stops) in
+    n.none
+
 pub returns-in-NoLine : goal.returns-in-NoLine
 returns-in-NoLine c =
     let f = c.in_ok-followed.followed in
-    let s = subst (λ s. Stops c.args.net.now c.args.journal.now 8000000 f.replay f.at s)
-    c.in-NoLine.is c.in_ok-followed.ensures.stops in
-    let g = at_no_line c.args.net.now c.args.journal.now 8000000 f.replay f.at s in
+    let n = no_line_here c.args.net.now c.args.journal.now 8000000 f.replay f.at
+    (subst (λ s. Stops c.args.net.now c.args.journal.now 8000000 f.replay f.at s)
+    c.in-NoLine.is c.in_ok-followed.ensures.stops) in
     let a = c.in_ok-answer-in-NoLine in
-    let q : length f.replay.journal + 2 ≡ c.len-bad.result + 2 = (let l = c.len-bad.ensures in omega arith) in
+    let q : c.len-bad.result + 2 ≡ length f.replay.journal + 2 = (let l = c.len-bad.ensures in omega arith) in
     subst (λ e. IsExplainedOf c.args.net.now c.args.journal.now a.answer.text.items e) (sym a.ensures.end)
-    (of.IsExplainedOf.bad_text
-    (subst (λ n. IsFound (start_net_of_graph c.args.net.now) c.args.journal.now (BadText n)) q g.1) a.ensures.text)
+    (at_the_line c.args.net.now c.args.journal.now 8000000 f.replay f.at refl c.in-NoLine.form n
+    (c.len-bad.result + 2) q a.answer.text.items a.ensures.text)
 
 pub off-requires-clause-few : goal.off-requires-clause-few
 off-requires-clause-few c =

@@ -1,15 +1,15 @@
 use Rattle.std.proofs.Common.{◌≢◌, ◌<◌, length, List, ℕ, [], drop, inl, inr, refl, sym, ap, ◌∙◌, subst, arith}
 use Rattle.ol_net.specs.Graph.{Graph}
 use Rattle.ol_rules.specs.declared.journal.Entry.{Entry}
-use Rattle.ol_view.specs.Checks as found
 use Rattle.ol_view.proofs.Finding as finding
+use Rattle.ol_view.proofs.Entries.{none_there}
 use Rattle.ol_bench.specs.Followed.{good, no_header, no_line, otherwise}
 use Rattle.ol_bench.proofs.KeptRuns.{longer}
 use Rattle.ol_bench.proofs.Ways.{Way, under, first_way, is_told, never_apart, made_one, is_off}
 use Rattle.ol_bench.proofs.following.follow.Goals as goal
 
 pub returns-in_default-clause-stops : goal.returns-in_default-clause-stops
-returns-in_default-clause-stops c = no_header (found.no_header c.in_default.ensures.none)
+returns-in_default-clause-stops c = no_header c.in_default.ensures.none
 
 pub loop-at-init : goal.loop-at-init
 loop-at-init c =
@@ -49,6 +49,8 @@ returns-in_default-line_at-clause-stops c =
     (length r.journal) c.loop-at.at (under c.in-Some.form c.args.net.now c.args.text.now w.net
     w.bases.items w.weights.items r.journal c.loop-at.at i.way)
     c.loop-at-test.true c.in_default-line_at.ensures.read)
+    c.loop-at-test.true
+    (none_there c.in-Some.form (drop c.loop-at.at c.args.text.now) c.in_default-line_at.ensures.read)
 
 pub returns-then-not-is_so-clause-stops : goal.returns-then-not-is_so-clause-stops
 returns-then-not-is_so-clause-stops c =

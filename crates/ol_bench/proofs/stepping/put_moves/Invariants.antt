@@ -1,6 +1,7 @@
 use Rattle.std.proofs.Common.{◌≡◌, ◌++◌, take}
-use Rattle.ol_beta.specs.AddressTexts.{moves_text}
+use Rattle.std.specs.List.{flat_map}
+use Rattle.std.specs.Fmt.{decimal}
 use Rattle.ol_bench.proofs.stepping.put_moves.Given as goal
 
 abbrev pub invariant-loop-k : goal.invariant-loop-k
-invariant-loop-k l = l.text.items ≡ l.fn.text.items ++ moves_text (take l.k l.at)
+invariant-loop-k l = l.text.items ≡ l.fn.text.items ++ flat_map decimal (take l.k l.at)
