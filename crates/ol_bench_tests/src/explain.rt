@@ -16,7 +16,7 @@ const NET: &str =
 
 // A stuck pair and an active one.
 const TWO_PAIRS: &str =
-    "ol net 1\nfree 8\nnode lam 0\nnode lam 0\nnode app 0\nnode lam 0\nlink f0 0.1\nlink f1 0.2\nlink f2 1.1\nlink f3 1.2\nlink 0.0 1.0\nlink f4 2.1\nlink f5 2.2\nlink f6 3.1\nlink f7 3.2\nlink 2.0 3.0\n";
+    "ol net 1\nfree 8\nnode lam 0\nnode lam 0\nnode app 0\nnode lam 0\nlink f0 0.1\nlink f1 0.2\nlink f2 1.1\nlink f3 1.2\nlink f4 2.1\nlink f5 2.2\nlink f6 3.1\nlink f7 3.2\nlink 0.0 1.0\nlink 2.0 3.0\n";
 
 // One pair more than are told.
 const MANY_PAIRS: &str =
