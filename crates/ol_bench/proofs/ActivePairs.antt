@@ -1,9 +1,8 @@
 -- The active pairs of a net by numbers: how the list of them grows, and what a step leaves of them.
-use Rattle.std.proofs.Common.{◌≡◌, ◌≢◌, ℕ, suc, ◌+◌, ◌<◌, ◌≤◌, true, false, nat_lt, nat_eq, List, [], ◌∷◌, ◌++◌}
+use Rattle.std.proofs.Common.{◌≡◌, ◌≢◌, ℕ, suc, ◌+◌, ◌<◌, ◌≤◌, true, false, List, [], ◌∷◌, ◌++◌}
 use Rattle.std.proofs.Common.{length, ◌⊎◌, inl, inr, refl, sym, ap, ◌∙◌, subst, arith}
 use Rattle.std.proofs.lemmas.Bool.{cases_lt}
-use Rattle.std.proofs.lemmas.Bool.Decides.{nat_tests}
-use Rattle.std.specs.Ordering.{nat_cmp, is_eq}
+use Rattle.std.specs.Ordering.{nat_cmp}
 use Rattle.std.specs.BTreeSet.{BTreeSet, contains, Updates, IsLowerBound, btree_set_len}
 use Rattle.ol_edges.specs.Edges.{IsIn}
 use Rattle.ol_edges.proofs.Lists.{in_left, in_right, in_cases, only}
@@ -18,7 +17,7 @@ use Rattle.ol_rules.specs.Running.{AllWait, StillWait, RangeWaits, BesideWaits}
 use Rattle.ol_rules.specs.Steps.{StepsAt}
 use Rattle.ol_rules.proofs.FreshPairs.{linked_sym, active_after, gone}
 use Rattle.ol_rules.proofs.UnderWay.{node_below}
-use Rattle.ol_rules.proofs.Waiting.{nat_is, others_stay, lower, nothing_waits, active_node, active_below}
+use Rattle.ol_rules.proofs.Waiting.{nat_is, differs, others_stay, lower, nothing_waits, active_node, active_below}
 use Rattle.ol_diamond.specs.Replaying.{AreIdle}
 use Rattle.ol_diamond.specs.Squares.{AreTogether}
 use Rattle.ol_diamond.proofs.Pairs.{one_partner, faces_after}
@@ -33,15 +32,6 @@ pub record AreFound (g : Graph) (waiting : BTreeSet ℕ) (pairs : List (ℕ × �
   pub all : (x y : ℕ) (rule : Rule) → IsPair g x y rule →
       IsIn (x, y) pairs ⊎ (contains nat_cmp waiting x ≡ true)
   pub rising : AreRisingPairs pairs
-
-differs : (k q : ℕ) → q ≢ k → is_eq (nat_cmp k q) ≡ false
-differs k q h = go (cases_lt k q) (cases_lt q k)
-  where
-    go : (k < q) ⊎ (q ≤ k) → (q < k) ⊎ (k ≤ q) → is_eq (nat_cmp k q) ≡ false
-    go (inl a) b = let e : nat_lt k q ≡ true = grind (arith, nat_tests) in rw e refl
-    go (inr a) (inl b) = let e : nat_lt k q ≡ false = grind (arith, nat_tests) in
-        let e' : nat_eq k q ≡ false = grind (arith, nat_tests) in rw (e, e') refl
-    go (inr a) (inr b) = absurd (h (omega arith))
 
 rising_on : (ps : List (ℕ × ℕ)) (p : ℕ × ℕ) → AreRisingPairs ps →
     ((q : ℕ × ℕ) → IsIn q ps → q.0 < p.0) → AreRisingPairs (ps ++ p ∷ [])

@@ -1,13 +1,10 @@
 -- Fields of a line: how they begin, what ends them, and what is left behind them.
 use Rattle.std.proofs.Common.{◌≡◌, ◌≢◌, ℕ, suc, ◌+◌, ◌-◌, ◌*◌, ◌<◌, ◌≤◌, Bool, true, false, if◌then◌else◌, ◌&&◌, ◌==◌, nat_le}
-use Rattle.std.proofs.Common.{List, [], ◌∷◌, ◌++◌, append_assoc, length, length-append, length-drop, take, drop, get_or, eqb, eqb-true, eq-eqb, Option, None, Some}
+use Rattle.std.proofs.Common.{List, [], ◌∷◌, ◌++◌, append_assoc, length, length-append, length-drop, take, drop, get_or, eqb-true, eq-eqb, Option, None, Some}
 use Rattle.std.proofs.Common.{◌⊎◌, inl, inr, refl, sym, ap, ◌∙◌, subst, arith}
 use Rattle.std.specs.Prelude.{option_and_then, option_map, codes}
 use Rattle.std.specs.Fmt.{decimal}
-use Rattle.std.specs.List.{starts_with}
 use Rattle.std.proofs.lemmas.List.{append-nil, drop_at, drop_all, take_all, take_more, get_or_push, same_from_push, nil_from_length}
-use Rattle.std.proofs.lemmas.Slice.Eq.{starts_is}
-use Rattle.std.proofs.lemmas.Bool.Decides.{Decides-eqb}
 use Rattle.std.proofs.lemmas.Bool.Decides.{nat_tests}
 use Rattle.std.proofs.lemmas.Fmt.{decimal_digit, decimal_nonempty}
 use Rattle.ol_net.specs.declared.parts.Rule.{Rule}
@@ -17,9 +14,10 @@ use Rattle.ol_rules.specs.declared.journal.NodeName.TheVariants.{Init, Born}
 use Rattle.ol_view.specs.declared.forms.Form.{Form}
 use Rattle.ol_view.specs.declared.forms.Form.TheVariants.{One, Two}
 use Rattle.ol_view.specs.TraceTexts.{name_text, line_text}
-use Rattle.ol_view.specs.WaveTexts.{rule_text}
+use Rattle.ol_view.specs.RuleNames.{rule_text}
 use Rattle.ol_view.specs.Forms.{header_of}
-use Rattle.ol_view.specs.LineReading.{is_digit, number_on, front_number, place_on, name_on, front_name, behind, word_behind, first_of, front_rule_of, all_rules, front_rule}
+use Rattle.ol_view.specs.LineReading.{is_digit, number_on, front_number, place_on, name_on, front_name, behind, all_rules, front_rule}
+use Rattle.ol_view.proofs.Entries.{rule_sound as rule_sound_of}
 use Rattle.ol_view.proofs.Numerals.{number_complete, name_complete, name_sound, front_sound}
 use Rattle.ol_bench.specs.declared.wanting.Field.{Field}
 use Rattle.ol_bench.specs.declared.wanting.Field.TheVariants as field
@@ -328,28 +326,6 @@ pub number_begins_only : (read : List ℕ) → read ≢ [] → Begins field.Numb
 number_begins_only read ne (more, (n, l, e)) = let w = number_prefix read more n l e ne in is_whole read w.0 w.1
 
 -- ---- names of rules
-
-word_sound : (word bs rest : List ℕ) → word_behind word bs ≡ Some rest → bs ≡ word ++ rest
-word_sound word bs rest e = go (starts_with eqb bs word) refl e
-  where
-    go : (v : Bool) → v ≡ starts_with eqb bs word →
-        (if v then Some (drop (length word) bs) else None) ≡ Some rest → bs ≡ word ++ rest
-    go true i e = let z : drop (length word) bs ≡ rest = cc in
-        (starts_is Decides-eqb bs word true i).0 refl ∙ ap (λ rest. word ++ rest) z
-    go false i e = absurd (cc)
-
-rule_sound_of : (rs : List Rule) (bs : List ℕ) (r : Rule) (rest : List ℕ) →
-    front_rule_of rs bs ≡ Some (r, rest) → bs ≡ rule_text r ++ rest
-rule_sound_of [] bs r rest e = absurd (cc)
-rule_sound_of (q ∷ rs) bs r rest e = go (λ e. rule_sound_of rs bs r rest e) (word_behind (rule_text q) bs) refl e
-  where
-    go : (front_rule_of rs bs ≡ Some (r, rest) → bs ≡ rule_text r ++ rest) → (o : Option (List ℕ)) →
-        word_behind (rule_text q) bs ≡ o → first_of (option_map (λ (rest : List ℕ). (q, rest)) o)
-        (front_rule_of rs bs) ≡ Some (r, rest) → bs ≡ rule_text r ++ rest
-    go ih None i e = ih e
-    go ih (Some bs') i e =
-        let z : ◌≡◌ {A = Rule × List ℕ} (q, bs') (r, rest) = cc in
-        word_sound (rule_text q) bs bs' i ∙ ap (λ (p : Rule × List ℕ). rule_text p.0 ++ p.1) z
 
 pub rule_sound : (bs : List ℕ) (r : Rule) (rest : List ℕ) → front_rule bs ≡ Some (r, rest) → bs ≡ rule_text r ++ rest
 rule_sound bs r rest e = rule_sound_of all_rules bs r rest e

@@ -16,7 +16,7 @@ use Rattle.ol_rules.specs.Names.{comes_before}
 use Rattle.ol_view.specs.declared.forms.Form.{Form}
 use Rattle.ol_view.specs.declared.forms.Form.TheVariants.{One, Two}
 use Rattle.ol_view.specs.TraceTexts.{name_text, line_text, MayBeWritten}
-use Rattle.ol_view.specs.WaveTexts.{rule_text}
+use Rattle.ol_view.specs.RuleNames.{rule_text}
 use Rattle.ol_view.specs.Checks.{HasNoLine}
 use Rattle.ol_bench.specs.declared.wanting.Field.{Field}
 use Rattle.ol_bench.specs.declared.wanting.Field.TheVariants as field

@@ -18,19 +18,16 @@ use Rattle.ol_rules.proofs.NameOrder.{Names, names_apart, not_before, not_before
 use Rattle.ol_rules.proofs.Renaming.{net_alike, active_to, active_from}
 use Rattle.ol_rules.proofs.UnderWay.{node_below}
 use Rattle.ol_diamond.proofs.Pairs.{one_rule}
+use Rattle.ol_view.proofs.OneVerdict.{one_entry}
 use Rattle.ol_bench.specs.declared.replaying.Replay.{Replay}
 use Rattle.ol_bench.specs.Replays.{names_of, IsReplay}
 use Rattle.ol_bench.specs.Followed.{net_here}
-use Rattle.ol_bench.specs.Found.{IsOfPair, IsPairAt, AreRising, AreBelow, AreFound}
+use Rattle.ol_bench.specs.Found.{IsOfPair, IsPairAt, AreBelow, AreFound}
+use Rattle.ol_bench.specs.Rounds.{AreRising}
 
 -- one of two nodes acts on the other, by this rule
 abbrev pub Act : Graph → ℕ → ℕ → Rule → Type 0
 Act g x y r = IsActive (net_of g) x y r ⊎ IsActive (net_of g) y x r
-
-same_entry : (d e : Entry) → d.rule ≡ e.rule → d.first ≡ e.first → d.second ≡ e.second → d ≡ e
-same_entry d e p q r = ap (λ (k : Rule). record { rule = k; first = d.first; second = d.second }) p
-    ∙ ap (λ (x : NodeName). record { rule = e.rule; first = x; second = d.second }) q
-    ∙ ap (λ (x : NodeName). record { rule = e.rule; first = e.first; second = x }) r
 
 rising_on : (es : List Entry) (e : Entry) → AreRising es →
     ((d : Entry) → IsIn d es → comes_before d.first e.first ≡ true) → AreRising (es ++ e ∷ [])
@@ -179,7 +176,7 @@ module _ (old : Graph) (r : Replay) (u : IsReplay old r) where
         let x = at_number n b d h in
         let y = at_number n b e h' in
         let i : x.0 ≡ y.0 = partner n x.0 y.0 0 (act_linked n x.0 d.rule x.3) (act_linked n y.0 e.rule y.3) in
-        same_entry d e (one_rule (net_of r.net) u.is_net n d.rule e.rule (x.0, x.3) (y.0, y.3))
+        one_entry d e (one_rule (net_of r.net) u.is_net n d.rule e.rule (x.0, x.3) (y.0, y.3))
         (h.0 ∙ sym h'.0) (x.2 ∙ ap (λ k. names_of r k) i ∙ sym y.2)
 
     -- with one node more

@@ -24,9 +24,11 @@ use Rattle.ol_diamond.proofs.WaveRuns.{WavedTo, waved_of, waves_to}
 use Rattle.ol_diamond.proofs.WeightedJournals.{journal_has_one_waves}
 use Rattle.ol_view.specs.EachForm.{wave_line_text, wave_lines_text}
 use Rattle.ol_view.specs.Checks.{start_net_of_graph}
+use Rattle.ol_view.proofs.Finding.{last_is}
 use Rattle.ol_view.proofs.WaveTraces.{wave_lines_on}
 use Rattle.ol_bench.specs.Left.{GoesOnWith, AreInOrder, AreLeft, lines_of, more_text, left_text}
-use Rattle.ol_bench.specs.Found.{IsOfPair, AreRising}
+use Rattle.ol_bench.specs.Found.{IsOfPair}
+use Rattle.ol_bench.specs.Rounds.{AreRising}
 use Rattle.ol_bench.proofs.Waits.{AllWait, of_step, pair_same, run_all}
 use Rattle.ol_bench.proofs.Alone.{Balanced, balanced, balanced_first, IsNext, AllNext, all_next, others_next}
 use Rattle.ol_bench.proofs.Alone.{Parted, parted}
@@ -113,10 +115,6 @@ pub rising_first : (k : ℕ) (es : List Entry) → AreRising es → AreRising (t
 rising_first zero es h = tt
 rising_first (suc k) [] h = tt
 rising_first (suc k) (e ∷ es) h = ((λ d i. h.0 d (in_taken k es d i)), rising_first k es h.1)
-
-last_is : (ws : List ℕ) (x y : ℕ) → ws ++ x ∷ [] ≡ ws ++ y ∷ [] → x ≡ y
-last_is [] x y e = cc
-last_is (w ∷ ws) x y e = last_is ws x y (cc)
 
 -- ---- pieces
 

@@ -17,6 +17,7 @@ use Rattle.ol_rules.proofs.NameOrder.{not_before, not_before_itself}
 use Rattle.ol_rules.proofs.Renaming.{net_alike, active_to, active_from}
 use Rattle.ol_rules.proofs.UnderWay.{node_below}
 use Rattle.ol_diamond.proofs.Pairs.{one_rule}
+use Rattle.ol_view.proofs.OneVerdict.{one_entry}
 use Rattle.ol_demand.proofs.Entries.{one_name}
 use Rattle.ol_bench.specs.declared.replaying.Replay.{Replay}
 use Rattle.ol_bench.specs.Followed.{net_here}
@@ -38,9 +39,6 @@ AreEntries r [] [] = Unit {0}
 AreEntries r [] (e ∷ es) = ⊥
 AreEntries r (p ∷ ps) [] = ⊥
 AreEntries r (p ∷ ps) (e ∷ es) = IsEntryFor r p e × AreEntries r ps es
-
-one_entry : (e d : Entry) → e.rule ≡ d.rule → e.first ≡ d.first → e.second ≡ d.second → e ≡ d
-one_entry e d r a b = λ i. record { rule = r i; first = a i; second = b i }
 
 entries_of : (r : Replay) (ps : List (ℕ × ℕ)) →
     ((p : ℕ × ℕ) → IsIn p ps → (rule : Rule) × IsPair r.net p.0 p.1 rule) →

@@ -1,4 +1,4 @@
--- What a journal is found to be, and of a line that isn't one of a run why.
+-- What a journal is found to be: the pairs that are left after a run, what bad text wants, and of a line that isn't one of a run why.
 use Rattle.std.specs.Prelude.{◌≡◌, ◌≢◌, ℕ, ◌+◌, ◌≤◌, ◌<◌, List, [], ◌∷◌, ◌++◌, length, codes, slice_get, Some, ◌⊎◌}
 use Rattle.std.specs.Fmt.{decimal}
 use Rattle.ol_net.specs.declared.parts.Kind.{Kind}
@@ -14,7 +14,7 @@ use Rattle.ol_view.specs.declared.answers.Check.TheVariants.{Complete, Run, BadT
 use Rattle.ol_view.specs.declared.forms.Form.{Form}
 use Rattle.ol_view.specs.declared.forms.Form.TheVariants.{Two}
 use Rattle.ol_view.specs.TraceTexts.{name_text}
-use Rattle.ol_view.specs.WaveTexts.{rule_text}
+use Rattle.ol_view.specs.RuleNames.{rule_text}
 use Rattle.ol_view.specs.Forms.{BeginsWithEntry}
 use Rattle.ol_view.specs.Checks.{start_net_of_graph, IsRunTold, BeginsWithRun, IsFound}
 use Rattle.ol_bench.specs.declared.answers.End.{End}

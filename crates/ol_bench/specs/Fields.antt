@@ -8,7 +8,7 @@ use Rattle.ol_rules.specs.declared.journal.Entry.{Entry}
 use Rattle.ol_rules.specs.Names.{comes_before}
 use Rattle.ol_view.specs.declared.forms.Form.{Form}
 use Rattle.ol_view.specs.TraceTexts.{name_text, line_text, MayBeWritten}
-use Rattle.ol_view.specs.WaveTexts.{rule_text}
+use Rattle.ol_view.specs.RuleNames.{rule_text}
 use Rattle.ol_view.specs.Forms.{header_of, line_of}
 use Rattle.ol_view.specs.LineReading.{is_digit}
 use Rattle.ol_bench.specs.Afters.{line_with}

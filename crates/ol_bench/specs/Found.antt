@@ -1,5 +1,5 @@
 -- Private: words of private contracts alone: the active pairs of a net, as they are found node by node.
-use Rattle.std.specs.Prelude.{◌≡◌, ℕ, ◌-◌, ◌<◌, ◌≤◌, ◌↔◌, true, List, [], ◌∷◌, length, take, Option, None, Some, ◌⊎◌}
+use Rattle.std.specs.Prelude.{◌≡◌, ℕ, ◌-◌, ◌<◌, ◌≤◌, ◌↔◌, true, List, [], length, take, Option, None, Some, ◌⊎◌}
 use Rattle.ol_edges.specs.Edges.{IsIn}
 use Rattle.ol_net.specs.Graph.{Graph}
 use Rattle.ol_net.specs.Nets.{NamedNet}
@@ -14,6 +14,7 @@ use Rattle.ol_bench.specs.declared.replaying.Replay.{Replay}
 use Rattle.ol_bench.specs.Replays.{names_of}
 use Rattle.ol_bench.specs.Followed.{net_here}
 use Rattle.ol_bench.specs.Left.{AreLeft, left_text}
+use Rattle.ol_bench.specs.Rounds.{AreRising}
 
 -- the entry tells an active pair of the net, the smaller name first
 abbrev pub IsOfPair : NamedNet NodeName → Entry → Type 0
@@ -28,11 +29,6 @@ IsPairAt r n e = (e.first ≡ names_of r n) × IsOfPair (net_here r) e
 abbrev pub IsPairOf : Replay → ℕ → Option Entry → Type 0
 IsPairOf r n None = (e : Entry) → IsPairAt r n e → ⊥
 IsPairOf r n (Some e) = IsPairAt r n e
-
--- each has a later first name than those before it
-abbrev pub AreRising : List Entry → Type 0
-AreRising [] = Unit {0}
-AreRising (d ∷ es) = ((e : Entry) → IsIn e es → comes_before d.first e.first ≡ true) × AreRising es
 
 -- these are the ones whose first nodes have numbers below n
 pub record AreBelow (r : Replay) (n : ℕ) (es : List Entry) : Type 0 where

@@ -9,7 +9,7 @@ ghost use Rattle.ol_view.specs.declared.forms.Form.TheVariants.{Two};
 ghost use Rattle.ol_view.specs.Checks.{HasNoLine};
 ghost use Rattle.ol_view.specs.Forms.{header_of};
 ghost use Rattle.ol_view.specs.LineReading.{is_digit};
-ghost use Rattle.ol_view.specs.WaveTexts.{rule_text};
+ghost use Rattle.ol_view.specs.RuleNames.{rule_text};
 ghost use Rattle.ol_view.specs.TraceTexts.{name_text, MayBeWritten};
 ghost use Rattle.std.specs.Fmt.{decimal};
 ghost use Rattle.std.specs.Prelude.{◌==◌, Option};

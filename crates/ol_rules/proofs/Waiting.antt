@@ -24,7 +24,7 @@ use Rattle.ol_rules.proofs.UnderWay.{node_below, the_pair}
 pub nat_is : (m n : ℕ) → (m ≡ n) ⊎ (m ≢ n)
 nat_is m n = grind arith
 
-differs : (k q : ℕ) → q ≢ k → is_eq (nat_cmp k q) ≡ false
+pub differs : (k q : ℕ) → q ≢ k → is_eq (nat_cmp k q) ≡ false
 differs k q h = go (cases_lt k q) (cases_lt q k)
   where
     go : (k < q) ⊎ (q ≤ k) → (q < k) ⊎ (k ≤ q) → is_eq (nat_cmp k q) ≡ false

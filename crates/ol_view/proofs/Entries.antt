@@ -14,7 +14,7 @@ use Rattle.ol_rules.specs.declared.journal.Entry.{Entry}
 use Rattle.ol_view.specs.declared.forms.Form.{Form}
 use Rattle.ol_view.specs.declared.forms.Form.TheVariants.{One, Two}
 use Rattle.ol_view.specs.TraceTexts.{line_text}
-use Rattle.ol_view.specs.WaveTexts.{rule_text}
+use Rattle.ol_view.specs.RuleNames.{rule_text}
 use Rattle.ol_view.specs.EachForm.{BeginsWithLine}
 use Rattle.ol_view.specs.Forms.{line_of, BeginsWithEntry}
 use Rattle.ol_view.specs.Checks.{HasNoLine}
@@ -42,7 +42,7 @@ word_sound word bs rest e = go (starts_with eqb bs word) refl e
         (starts_is Decides-eqb bs word true i).0 refl ∙ ap (λ rest. word ++ rest) z
     go false i e = absurd (cc)
 
-rule_sound : (rs : List Rule) (bs : List ℕ) (r : Rule) (rest : List ℕ) →
+pub rule_sound : (rs : List Rule) (bs : List ℕ) (r : Rule) (rest : List ℕ) →
     front_rule_of rs bs ≡ Some (r, rest) → bs ≡ rule_text r ++ rest
 rule_sound [] bs r rest e = absurd (cc)
 rule_sound (q ∷ rs) bs r rest e = go (λ e. rule_sound rs bs r rest e) (word_behind (rule_text q) bs) refl e

@@ -9,7 +9,7 @@ use Rattle.std.proofs.Math.Seq.{drop-cons, drop-length}
 use Rattle.std.specs.Prelude.{option_map}
 use Rattle.ol_net.specs.declared.parts.Rule.{Rule}
 use Rattle.ol_net.specs.declared.parts.Rule.TheVariants.{Beta}
-use Rattle.ol_view.specs.WaveTexts.{rule_text}
+use Rattle.ol_view.specs.RuleNames.{rule_text}
 use Rattle.ol_view.specs.LineReading.{word_behind, first_of, front_rule_of, all_rules}
 
 to_end : (text : List ℕ) (at : ℕ) → at ≤ length text → slice_range text at (length text) ≡ drop at text

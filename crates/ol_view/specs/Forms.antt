@@ -7,7 +7,7 @@ use Rattle.ol_rules.specs.Names.{comes_before}
 use Rattle.ol_view.specs.declared.forms.Form.{Form}
 use Rattle.ol_view.specs.declared.forms.Form.TheVariants.{One, Two}
 use Rattle.ol_view.specs.TraceTexts.{line_text, MayBeWritten}
-use Rattle.ol_view.specs.WaveTexts.{rule_text}
+use Rattle.ol_view.specs.RuleNames.{rule_text}
 
 -- the first line
 abbrev pub header_of : Form → List ℕ
@@ -25,7 +25,8 @@ text_of One journal waves = header_of One ++ flat_map (λ e. line_of One e 0) jo
 text_of Two journal waves = header_of Two
     ++ flat_map (λ (p : Entry × ℕ). line_of Two p.0 p.1) (zip journal waves)
 
--- The text begins with a line of the grammar, that of this entry and wave, and this follows.
+-- The text begins with a line of the grammar, that of this entry and wave, and this follows. In the first form, whose
+-- lines tell no wave, any will do.
 pub record BeginsWithEntry (form : Form) (text : List ℕ) (entry : Entry) (wave : ℕ)
     (rest : List ℕ) : Type 0 where
   pub begins : text ≡ line_of form entry wave ++ rest

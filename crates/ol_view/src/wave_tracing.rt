@@ -7,7 +7,7 @@ ghost use Rattle.ol_rules.specs.Runs.{IsRun};
 ghost use Rattle.ol_diamond.specs.Waves.{IsWavesOf};
 ghost use Rattle.ol_view.specs.Checks.{start_net_of_graph};
 ghost use Rattle.ol_view.specs.declared.forms.Form.TheVariants.{Two};
-ghost use Rattle.ol_view.specs.WaveTexts.{rule_text};
+ghost use Rattle.ol_view.specs.RuleNames.{rule_text};
 ghost use Rattle.ol_view.specs.Forms.{line_of, text_of};
 
 use crate::pieces::{put, put_number};

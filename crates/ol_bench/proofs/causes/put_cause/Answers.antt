@@ -4,7 +4,7 @@ use Rattle.std.specs.Prelude.{string_bytes, codes}
 use Rattle.std.specs.Fmt.{decimal}
 use Rattle.std.proofs.lemmas.List.{append_assoc}
 use Rattle.ol_view.specs.TraceTexts.{name_text}
-use Rattle.ol_view.specs.WaveTexts.{rule_text}
+use Rattle.ol_view.specs.RuleNames.{rule_text}
 use Rattle.ol_bench.specs.Explained.{cause_words}
 use Rattle.ol_bench.proofs.causes.put_cause.Goals as goal
 

@@ -4,7 +4,7 @@ use Rattle.std.specs.Prelude.{string_bytes}
 use Rattle.std.specs.Fmt.{decimal}
 use Rattle.std.proofs.lemmas.List.{append_assoc}
 use Rattle.ol_view.specs.TraceTexts.{name_text}
-use Rattle.ol_view.specs.WaveTexts.{rule_text}
+use Rattle.ol_view.specs.RuleNames.{rule_text}
 use Rattle.ol_bench.proofs.left.put_line.Goals as goal
 
 joined : (b0 b1 b2 b3 b4 b5 b6 b7 r w x y : List ℕ) → b1 ≡ b0 ++ r → b2 ≡ b1 ++ 32 ∷ [] →

@@ -1,7 +1,7 @@
 use Rattle.std.proofs.Common.{◌++◌, ℕ, List, drop, inr, refl, ap, ◌∙◌}
 use Rattle.std.specs.Prelude.{option_map}
 use Rattle.ol_net.specs.declared.parts.Rule.{Rule}
-use Rattle.ol_view.specs.WaveTexts.{rule_text}
+use Rattle.ol_view.specs.RuleNames.{rule_text}
 use Rattle.ol_view.proofs.Numerals.{behind_sound}
 use Rattle.ol_bench.specs.declared.wanting.Field.TheVariants as field
 use Rattle.ol_bench.proofs.Breaks.{none_first, none_second, rule_sound}
