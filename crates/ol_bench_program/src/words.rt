@@ -103,7 +103,7 @@ fn after<'a>(alloc: Global) -> Result<Command<'a>, AllocError> {
 fn explain<'a>(alloc: Global) -> Result<Command<'a>, AllocError> {
     Command::new(alloc, "explain")
         .about(
-            "What a journal is found to be; the pairs left, what bad text wants, or why a line isn't one of a run",
+            "What a journal is found to be; pairs left, what bad text wants, why a line is wrong",
         )
         .arg(flag(alloc, "net", "the file has a net, as `ol net` writes one"))?
         .arg(number(alloc, "translation", 1, 2, TRANSLATION))?
