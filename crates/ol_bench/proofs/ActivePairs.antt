@@ -26,7 +26,7 @@ use Rattle.ol_bench.specs.Played.{IsPair, AreRisingPairs, ArePairs, NewWait}
 
 -- The pairs that were found before these nodes are looked at: their smaller numbers are smaller than
 -- all of these, and any other pair's smaller number is among them.
-pub record AreFound (g : Graph) (waiting : BTreeSet ℕ) (pairs : List (ℕ × ℕ)) : Type 0 where
+pub record AreTaken (g : Graph) (waiting : BTreeSet ℕ) (pairs : List (ℕ × ℕ)) : Type 0 where
   pub each : (p : ℕ × ℕ) → IsIn p pairs → (rule : Rule) × IsPair g p.0 p.1 rule
   pub earlier : (p : ℕ × ℕ) → IsIn p pairs → (z : ℕ) → contains nat_cmp waiting z ≡ true → p.0 < z
   pub all : (x y : ℕ) (rule : Rule) → IsPair g x y rule →
@@ -47,8 +47,8 @@ rising_on (d ∷ ps) p h l = (first, rising_on ps p h.1 (λ q i. l q (inr i)))
 
 -- before the first one
 pub none_yet : (g : Graph) (waiting : BTreeSet ℕ) (ps : List (ℕ × ℕ)) → ps ≡ [] → AllWait g waiting →
-    AreFound g waiting ps
-none_yet g waiting ps e w = subst (λ ps. AreFound g waiting ps) (sym e) (record {
+    AreTaken g waiting ps
+none_yet g waiting ps e w = subst (λ ps. AreTaken g waiting ps) (sym e) (record {
   each = λ p i. absurd i;
   earlier = λ p i. absurd i;
   all = λ x y r p. inr (w x r p.active);
@@ -56,7 +56,7 @@ none_yet g waiting ps e w = subst (λ ps. AreFound g waiting ps) (sym e) (record
 })
 
 -- the least one is looked at
-module _ (g : Graph) (old new : BTreeSet ℕ) (n : ℕ) (ps : List (ℕ × ℕ)) (h : AreFound g old ps)
+module _ (g : Graph) (old new : BTreeSet ℕ) (n : ℕ) (ps : List (ℕ × ℕ)) (h : AreTaken g old ps)
     (was : contains nat_cmp old n ≡ true) (least : IsLowerBound nat_cmp old n) (u : Updates nat_cmp old new n false) where
   is_other : (z : ℕ) → contains nat_cmp new z ≡ true → z ≢ n
   is_other z c e =
@@ -72,7 +72,7 @@ module _ (g : Graph) (old new : BTreeSet ℕ) (n : ℕ) (ps : List (ℕ × ℕ))
 
   -- it is the smaller one of a pair
   pub one_more : IsNet (net_of g) → (y : ℕ) (rule : Rule) → IsPair g n y rule →
-      AreFound g new (ps ++ (n, y) ∷ [])
+      AreTaken g new (ps ++ (n, y) ∷ [])
   one_more is_net y rule pair = record {
     each = λ p i. each p (in_cases p ps ((n, y) ∷ []) i);
     earlier = λ p i. earlier p (in_cases p ps ((n, y) ∷ []) i);
@@ -99,7 +99,7 @@ module _ (g : Graph) (old new : BTreeSet ℕ) (n : ℕ) (ps : List (ℕ × ℕ))
       all x z r p (inr c) (inr d) = inr (others_stay old new n false u x d c)
 
   -- or of none
-  pub no_more : ((y : ℕ) (rule : Rule) → IsPair g n y rule → ⊥) → AreFound g new ps
+  pub no_more : ((y : ℕ) (rule : Rule) → IsPair g n y rule → ⊥) → AreTaken g new ps
   no_more never = record {
     each = h.each;
     earlier = λ p i z c. h.earlier p i z (waited z c);
@@ -115,7 +115,7 @@ module _ (g : Graph) (old new : BTreeSet ℕ) (n : ℕ) (ps : List (ℕ × ℕ))
 
 -- after the last one
 pub all_pairs : (g : Graph) (waiting : BTreeSet ℕ) (ps : List (ℕ × ℕ)) → btree_set_len waiting ≡ 0 →
-    AreFound g waiting ps → ArePairs g ps
+    AreTaken g waiting ps → ArePairs g ps
 all_pairs g waiting ps none h = record {
   each = h.each;
   all = λ x y r p. go x y (h.all x y r p);
@@ -321,13 +321,13 @@ pub no_pair : (g : Graph) → IsNet (net_of g) → (x : ℕ) (q : NamedPort ℕ)
 no_pair g n x q l d y r p = d y p.lesser (n.one_link (slot x 0) q (slot y 0) l p.linked)
 
 -- what is left of a list of pairs
-pub record AreLeft (g : Graph) (ps : List (ℕ × ℕ)) : Type 0 where
+pub record AreStillActive (g : Graph) (ps : List (ℕ × ℕ)) : Type 0 where
   pub each : (p : ℕ × ℕ) → IsIn p ps → (rule : Rule) × IsPair g p.0 p.1 rule
   pub rising : AreRisingPairs ps
 
 -- the later pairs after the step of the first one
 pub left_after : (g g' : Graph) → IsNet (net_of g) → (p : ℕ × ℕ) (ps : List (ℕ × ℕ)) →
-    AreLeft g (p ∷ ps) → (r : Rule) → StepsAt g g' p.0 r → AreLeft g' ps
+    AreStillActive g (p ∷ ps) → (r : Rule) → StepsAt g g' p.0 r → AreStillActive g' ps
 left_after g g' n p ps h r s = record {
   each = λ q i.
       let t = h.each q (inr i) in

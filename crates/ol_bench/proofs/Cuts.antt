@@ -25,7 +25,7 @@ use Rattle.ol_bench.specs.declared.wanting.Fault.TheVariants as fault
 use Rattle.ol_bench.specs.Afters.{line_with}
 use Rattle.ol_bench.specs.Wanted.{IsLine, IsWanted, IsWhole, BreaksOff, AreThose, empty, with, without, bytes_at, greater_at}
 use Rattle.ol_view.specs.Forms.{header_of, line_of, BeginsWithEntry}
-use Rattle.ol_bench.specs.Fields.{IsField, Begins, AreFields, AreLeft, pair, GoesOn, IsEnd, IsCut, AreAt, IsFault, cut, whole, IsBrokenBy, IsBadBy, unordered}
+use Rattle.ol_bench.specs.Fields.{IsField, Begins, AreFields, FieldsFollow, pair, GoesOn, IsEnd, IsCut, AreAt, IsFault, cut, whole, IsBrokenBy, IsBadBy, unordered}
 use Rattle.ol_bench.proofs.Breaks.{Parts, short, long, parts, same_rest, apart}
 
 -- ---- one field
@@ -88,7 +88,7 @@ some_byte f c read (d ∷ m) h = (d, inl (m, subst (λ u. IsField f u) (sym (app
 
 -- ---- the fields of a line
 
-pub one_field : AreLeft None [] ((field.Header, 10) ∷ [])
+pub one_field : FieldsFollow None [] ((field.Header, 10) ∷ [])
 one_field t = (there, back)
   where
     there : IsLine None t → AreFields ((field.Header, 10) ∷ []) t
@@ -113,7 +113,7 @@ names_there : (x y : NodeName) → MayBeWritten x → MayBeWritten y → AreFiel
 names_there x y m m' =
     (name_text x, name_text y ++ 10 ∷ [], (x, m, refl), (name_text y, [], (y, m', refl), refl, refl), refl)
 
-pub two_names : AreLeft (Some One) [] pair
+pub two_names : FieldsFollow (Some One) [] pair
 two_names t = (there, back)
   where
     there : IsLine (Some One) t → AreFields pair t
@@ -123,7 +123,7 @@ two_names t = (there, back)
     back h = let n = names_back t h in
         (record { rule = rule.Beta; first = n.0; second = n.1 }, 0, (n.2, n.3, omega arith), n.4)
 
-pub four_fields : AreLeft (Some Two) [] ((field.Rule, 32) ∷ (field.Number, 32) ∷ pair)
+pub four_fields : FieldsFollow (Some Two) [] ((field.Rule, 32) ∷ (field.Number, 32) ∷ pair)
 four_fields t = (there, back)
   where
     there : IsLine (Some Two) t → AreFields ((field.Rule, 32) ∷ (field.Number, 32) ∷ pair) t
@@ -153,7 +153,7 @@ four_fields t = (there, back)
 
 -- one field more is in front
 pub behind : (form : Option Form) (front : List ℕ) (f : Field) (c : ℕ) (fs : List (Field × ℕ)) (u : List ℕ) →
-    AreLeft form front ((f, c) ∷ fs) → IsField f u → IsEnd f c → AreLeft form (front ++ (u ++ c ∷ [])) fs
+    FieldsFollow form front ((f, c) ∷ fs) → IsField f u → IsEnd f c → FieldsFollow form (front ++ (u ++ c ∷ [])) fs
 behind form front f c fs u left h end t = (there, back)
   where
     q : (front ++ (u ++ c ∷ [])) ++ t ≡ front ++ (u ++ c ∷ t)
@@ -269,7 +269,7 @@ place_behind text u c at to l l' e =
 
 module _ (form : Form) (text : List ℕ) (at : ℕ) (within : at ≤ length text) where
   -- a line breaks off in its first field
-  pub cut_first : (f : Field) (c : ℕ) (fs : List (Field × ℕ)) → AreLeft (Some form) [] ((f, c) ∷ fs) → IsEnd f c →
+  pub cut_first : (f : Field) (c : ℕ) (fs : List (Field × ℕ)) → FieldsFollow (Some form) [] ((f, c) ∷ fs) → IsEnd f c →
       ((u w : List ℕ) → IsField f u → drop at text ≢ u ++ c ∷ w) → IsFault form text at (fault.Cut f c at)
   cut_first f c fs left end other = cut (record {
     front = [];
@@ -358,7 +358,7 @@ module _ (form : Form) (text : List ℕ) (at start : ℕ) (a : AreAt form text a
 
 module _ (text : List ℕ) (at wave names : ℕ) (r : Rule) (n : ℕ) (l : at ≤ length text) (l' : wave ≤ length text)
     (e : drop at text ≡ rule_text r ++ 32 ∷ drop wave text) where
-  left_two : AreLeft (Some Two) (rule_text r ++ 32 ∷ []) ((field.Number, 32) ∷ pair)
+  left_two : FieldsFollow (Some Two) (rule_text r ++ 32 ∷ []) ((field.Number, 32) ∷ pair)
   left_two = behind (Some Two) [] field.Rule 32 ((field.Number, 32) ∷ pair) (rule_text r) four_fields (r, refl) (inr refl)
 
   text_two : drop at text ≡ (rule_text r ++ 32 ∷ []) ++ drop wave text

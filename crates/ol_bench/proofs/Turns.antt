@@ -11,12 +11,12 @@ use Rattle.ol_rules.proofs.OneThread.{step_few}
 use Rattle.ol_bench.specs.declared.replaying.Replay.{Replay}
 use Rattle.ol_bench.specs.Replays.{Advances}
 use Rattle.ol_bench.specs.Played.{IsPair, ArePairs, NewWait, Plays, IsCut}
-use Rattle.ol_bench.proofs.ActivePairs.{AreLeft, left_after, OthersWait, of_pair, others_on, all_wait}
+use Rattle.ol_bench.proofs.ActivePairs.{AreStillActive, left_after, OthersWait, of_pair, others_on, all_wait}
 use Rattle.ol_bench.proofs.RoundByRound.{grown}
 
 -- What is left is active still and completes the round, and each other node of an active pair waits.
 pub record IsPlaying (first r : Replay) (waiting : BTreeSet ℕ) (pairs : List (ℕ × ℕ)) (i fuel : ℕ) : Type 0 where
-  pub left : AreLeft r.net (drop i pairs)
+  pub left : AreStillActive r.net (drop i pairs)
   pub waits : OthersWait r.net waiting (drop i pairs)
   pub on : (left : List (ℕ × ℕ)) (s : Replay) → Plays r (drop i pairs) left s → Plays first pairs left s
   pub few : length r.net.nodes + 4 * fuel ≤ 2000000000 + 4 * length r.journal
@@ -37,7 +37,7 @@ module _ (first r : Replay) (w : BTreeSet ℕ) (pairs : List (ℕ × ℕ)) (i fu
     (p : IsPlaying first r w pairs i fuel) where
   -- the next pair
   pub next_pair : (d : ℕ × ℕ) → i < length pairs → (rule : Rule) × IsPair r.net (get_or pairs i d).0 (get_or pairs i d).1 rule
-  next_pair d h = (subst (λ ps. AreLeft r.net ps) (drop_more pairs i d h) p.left).each (get_or pairs i d) (inl refl)
+  next_pair d h = (subst (λ ps. AreStillActive r.net ps) (drop_more pairs i d h) p.left).each (get_or pairs i d) (inl refl)
 
   pub turn_on : (d : ℕ × ℕ) (s : Replay) (w' : BTreeSet ℕ) → i < length pairs → length r.journal ≢ fuel →
       Advances r s (get_or pairs i d).0 (get_or pairs i d).1 → StillWait w w' →
@@ -47,7 +47,7 @@ module _ (first r : Replay) (w : BTreeSet ℕ) (pairs : List (ℕ × ℕ)) (i fu
       let q = get_or pairs i d in
       let g = grown r s q.0 q.1 a in
       record {
-        left = left_after r.net s.net a.old_net q (drop (i + 1) pairs) (subst (λ ps. AreLeft r.net ps) e p.left)
+        left = left_after r.net s.net a.old_net q (drop (i + 1) pairs) (subst (λ ps. AreStillActive r.net ps) e p.left)
             a.rule a.step;
         waits = others_on r.net s.net w w' q (drop (i + 1) pairs)
             (subst (λ ps. OthersWait r.net w ps) e p.waits) kept new;

@@ -36,8 +36,8 @@ AreFields (f ∷ fs) text =
     (u : List ℕ) × (w : List ℕ) × IsField f.0 u × AreFields fs w × (text ≡ u ++ f.1 ∷ w)
 
 -- behind this front of a line exactly these fields are left
-abbrev pub AreLeft : Option Form → List ℕ → List (Field × ℕ) → Type 0
-AreLeft form front fs = (t : List ℕ) → IsLine form (front ++ t) ↔ AreFields fs t
+abbrev pub FieldsFollow : Option Form → List ℕ → List (Field × ℕ) → Type 0
+FieldsFollow form front fs = (t : List ℕ) → IsLine form (front ++ t) ↔ AreFields fs t
 
 -- the two names of a line
 abbrev pub pair : List (Field × ℕ)
@@ -60,7 +60,7 @@ pub record IsCut (form : Option Form) (text : List ℕ) (at : ℕ) (f : Field) (
   pub start_is : start ≡ at + length front
   pub within : start ≤ length text
   pub text_is : drop at text ≡ front ++ drop start text
-  pub left : AreLeft form front ((f, end) ∷ more)
+  pub left : FieldsFollow form front ((f, end) ∷ more)
   pub is_end : IsEnd f end
   pub cut : (u w : List ℕ) → IsField f u → drop start text ≢ u ++ end ∷ w
 
@@ -70,7 +70,7 @@ pub record AreAt (form : Form) (text : List ℕ) (at start : ℕ) : Type 0 where
   pub front : List ℕ
   pub start_is : start ≡ at + length front
   pub text_is : drop at text ≡ front ++ drop start text
-  pub left : AreLeft (Some form) front pair
+  pub left : FieldsFollow (Some form) front pair
   pub rule : Rule
   pub wave : ℕ
   pub wave_may : wave ≤ 4294967295

@@ -1,7 +1,7 @@
 use Rattle.std.proofs.Common.{ℕ, List, sym, subst}
 use Rattle.std.specs.BTreeSet.{btree_set_len}
 use Rattle.ol_rules.proofs.OneThread.{none_of}
-use Rattle.ol_bench.proofs.ActivePairs.{AreFound, none_yet, one_more, no_more, all_pairs}
+use Rattle.ol_bench.proofs.ActivePairs.{AreTaken, none_yet, one_more, no_more, all_pairs}
 use Rattle.ol_bench.proofs.playing.take_pairs.Goals as goal
 
 pub loop-n-init : goal.loop-n-init
@@ -12,7 +12,7 @@ pub loop-n-preserved-in-Continue-1 : goal.loop-n-preserved-in-Continue-1
 loop-n-preserved-in-Continue-1 c =
     let e = c.in-Some.ensures in
     let p = c.in-Some-greater.ensures.some in
-    subst (λ (ps : List (ℕ × ℕ)). AreFound c.args.net.now c.pop_first.new.self ps) (sym c.in_ok-push.ensures.items)
+    subst (λ (ps : List (ℕ × ℕ)). AreTaken c.args.net.now c.pop_first.new.self ps) (sym c.in_ok-push.ensures.items)
     (one_more c.args.net.now c.loop-n.waiting c.pop_first.new.self c.in-Some.n c.loop-n.pairs.items
     c.loop-n.invariant e.member e.least e.updates c.is_net.ensures.net c.in-Some-greater.other.0 p.0 p.1)
 
