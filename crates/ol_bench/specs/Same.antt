@@ -11,6 +11,7 @@ use Rattle.ol_net.specs.Graph.{Graph, kind_at, partner_of}
 use Rattle.ol_net.specs.Nets.{NamedNet, HasNode, SameNet, net_under}
 use Rattle.ol_net.specs.Numbered.{net_of}
 use Rattle.ol_net.specs.PartTexts.{port_text}
+use Rattle.ol_view.specs.Laws.{IsTable}
 use Rattle.ol_bench.specs.declared.answers.End.{End}
 use Rattle.ol_bench.specs.declared.answers.End.TheVariants.{Yes, No, Refused}
 use Rattle.ol_bench.specs.declared.subjects.Subject.TheVariants.{Net}
@@ -97,10 +98,10 @@ pub data IsComparison (a b : Graph) (text : List ℕ) : End → Type 0 where
   left : {met : List (ℕ × ℕ)} → ReachAlike a b met → text ≡ left_text a b met →
       IsComparison a b text No
 
--- The answer to two files, each with a net.
+-- The answer to two files, each with a net, which its tables have.
 pub data IsSame (first second : List ℕ) (text : List ℕ) : End → Type 0 where
   refused_first : Refuses Net first text → IsSame first second text Refused
   refused_second : {a : Graph} → IsSubject Net first a → Refuses Net second text →
       IsSame first second text Refused
-  compared : {a b : Graph} {e : End} → IsSubject Net first a → IsSubject Net second b →
-      IsComparison a b text e → IsSame first second text e
+  compared : {a b : Graph} {e : End} → IsTable a → IsTable b → IsSubject Net first a →
+      IsSubject Net second b → IsComparison a b text e → IsSame first second text e

@@ -521,12 +521,14 @@ fn same_as(alloc: Global, a: &Net, second: &[u8]) -> Result<Answer, NoMemory>
     ensures { IfOk result (λ x. (first : List ℕ) → IsSubject Subject.Net first a.now →
         IsSame first second.now x.text.items x.end) }
 {
+    a.is_tabled();
     match read_subject(alloc, second, Subject::Net)? {
         NetRead::Refused(text) => {
             let end = End::Refused;
             Ok(Answer { text, end })
         }
         NetRead::Net(b) => {
+            b.is_tabled();
             let answer = compare(alloc, a, &b)?;
             Ok(answer)
         }

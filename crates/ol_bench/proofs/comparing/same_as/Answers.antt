@@ -11,4 +11,4 @@ returns-in-Refused c = λ first i.
 pub returns-in_ok-answer-in-Net : goal.returns-in_ok-answer-in-Net
 returns-in_ok-answer-in-Net c = λ first i.
     let r = subst (IsSubjectRead Net c.args.second.now) c.in-Net.is c.in_ok-text.ensures in
-    compared i r.0 c.in_ok-answer-in-Net.ensures
+    compared c.is_tabled.ensures.tables c.is_tabled-in-Net.ensures.tables i r.0 c.in_ok-answer-in-Net.ensures
