@@ -8,6 +8,7 @@ pub mod Walking
 pub mod OneNet
 pub mod Renumbered
 pub mod Seeking
+pub mod Trying
 pub mod KeptRuns
 pub mod Ways
 pub mod Told

@@ -12,9 +12,7 @@ use Rattle.ol_net.proofs.Numbered.{has_node}
 use Rattle.ol_rules.proofs.Renaming.{node_from}
 use Rattle.ol_bench.specs.Same.{AreOne, IsRenumbered, Meets, GoesOn, Walks}
 use Rattle.ol_bench.specs.Meetings.{met_by, TellPairs, EachMet}
-use Rattle.ol_bench.specs.Walked.{HasWalked, Follow, NoneFollow, NoneTake, Searched}
-use Rattle.ol_bench.specs.declared.comparing.Tried.{Tried}
-use Rattle.ol_bench.specs.declared.comparing.Tried.TheVariants.{One, Apart, Spent}
+use Rattle.ol_bench.specs.Walked.{HasWalked, Follow, NoneFollow, NoneTake}
 use Rattle.ol_bench.proofs.Walking.{seeded}
 use Rattle.ol_bench.proofs.Tables.{are_new}
 use Rattle.ol_bench.proofs.OneNet.{are_one}
@@ -90,12 +88,6 @@ module _ (a b : Graph) (ta : IsTabled a.free a.nodes a.partners) (tb : IsTabled 
     none_taken each names r f =
         let k = (has_node b (names x) h.0 h.1).0 (node_over a b ta tb names r x h.0 h.1 h.2) in
         each (names x) (kind_at-inside b.nodes (names x) (h.0, h.1) k) names r f refl
-
--- what a search found, where another sort of names lacks
-pub searched_so : (a b : Graph) (P Q : Type 0) → (P → Q) → (found : Tried) → Searched a b P found → Searched a b Q found
-searched_so a b P Q f One h = h
-searched_so a b P Q f Apart h = f h
-searched_so a b P Q f Spent h = tt
 
 -- no names follow what a walk from the free ports leaves, so the nets aren't one
 pub none_from_walk : (a b : Graph) → IsTabled a.free a.nodes a.partners → IsTabled b.free b.nodes b.partners →

@@ -87,16 +87,81 @@ left_text a b met = codes "alike from the free ports, which don't reach "
     ++ decimal (length (net_of a).nodes - length met) ++ codes " and "
     ++ decimal (length (net_of b).nodes - length met) ++ codes " nodes\n"
 
+-- the first node of the first net that has met none
+pub record IsFirstAlone (a : Graph) (met : List (ℕ × ℕ)) (x : ℕ) : Type 0 where
+  pub there : (k : Kind) × (i : ℕ) × HasNode (net_of a) x k i
+  pub alone : (y : ℕ) → IsIn (x, y) met → ⊥
+  pub first : (z : ℕ) → z < x → (k : Kind) (i : ℕ) → HasNode (net_of a) z k i →
+      (y : ℕ) × IsIn (z, y) met
+
+-- each node of the first net has met one, and some node of the second has met none
+pub record IsOneLeft (a b : Graph) (met : List (ℕ × ℕ)) : Type 0 where
+  pub first : (x : ℕ) (k : Kind) (i : ℕ) → HasNode (net_of a) x k i → (y : ℕ) × IsIn (x, y) met
+  pub node : ℕ
+  pub there : (k : Kind) × (i : ℕ) × HasNode (net_of b) node k i
+  pub alone : (x : ℕ) → IsIn (x, node) met → ⊥
+
+-- two nodes may meet: they are of one kind and one index, and neither has met another
+abbrev pub MayMeet : Graph → Graph → List (ℕ × ℕ) → ℕ → ℕ → Type 0
+MayMeet a b met x y = AreNew met x y × (kind_at a.nodes x ≡ kind_at b.nodes y)
+
+-- the two meet, and from there a walk goes on to its end: then these have met
+abbrev pub LeadsTo : Graph → Graph → List (ℕ × ℕ) → ℕ → ℕ → List (ℕ × ℕ) → Type 0
+LeadsTo a b met x y met' =
+    Walks a b (a.free + 3 * length met) (met ++ (x, y) ∷ []) (a.free + 3 * length met') met'
+
+-- the two meet, and from there a walk goes on to a place where the nets differ
+abbrev pub LeadsNowhere : Graph → Graph → List (ℕ × ℕ) → ℕ → ℕ → Type 0
+LeadsNowhere a b met x y = (at : ℕ) × (met' : List (ℕ × ℕ))
+    × Walks a b (a.free + 3 * length met) (met ++ (x, y) ∷ []) at met'
+    × (at < a.free + 3 * length met') × ((m : List (ℕ × ℕ)) → GoesOn a b met' at m → ⊥)
+
+-- A search, where these pairs have met: the first node of the first net that has met none is tried
+-- against each node of the second net, by number. Two that may meet are one try; where it leads to
+-- the end of a walk, the search goes on from there before the next try.
+mutual
+  -- all tries are in vain, so many
+  pub data Fails (a b : Graph) : List (ℕ × ℕ) → ℕ → Type 0 where
+    ends : {met : List (ℕ × ℕ)} → IsOneLeft a b met → Fails a b met 0
+    all_fail : {met : List (ℕ × ℕ)} {x n : ℕ} → IsFirstAlone a met x →
+        FailsBelow a b met x (length b.nodes) n → Fails a b met n
+
+  -- those of this node against the nodes of smaller numbers than this one
+  pub data FailsBelow (a b : Graph) : List (ℕ × ℕ) → ℕ → ℕ → ℕ → Type 0 where
+    below_0 : {met : List (ℕ × ℕ)} {x : ℕ} → FailsBelow a b met x 0 0
+    below : {met : List (ℕ × ℕ)} {x y m n : ℕ} → FailsBelow a b met x y m → FailsAt a b met x y n →
+        FailsBelow a b met x (y + 1) (m + n)
+
+  -- that of two nodes, and those of the search from where it leads
+  pub data FailsAt (a b : Graph) : List (ℕ × ℕ) → ℕ → ℕ → ℕ → Type 0 where
+    may_not : {met : List (ℕ × ℕ)} {x y : ℕ} → (MayMeet a b met x y → ⊥) → FailsAt a b met x y 0
+    nowhere : {met : List (ℕ × ℕ)} {x y : ℕ} → MayMeet a b met x y → LeadsNowhere a b met x y →
+        FailsAt a b met x y 1
+    further : {met met' : List (ℕ × ℕ)} {x y n : ℕ} → MayMeet a b met x y →
+        LeadsTo a b met x y met' → Fails a b met' n → FailsAt a b met x y (n + 1)
+
+mutual
+  -- so many tries are in vain, and one more is wanted
+  pub data Spends (a b : Graph) : List (ℕ × ℕ) → ℕ → Type 0 where
+    spends : {met : List (ℕ × ℕ)} {x y m n : ℕ} → IsFirstAlone a met x → FailsBelow a b met x y m →
+        y < length b.nodes → SpendsAt a b met x y n → Spends a b met (m + n)
+
+  -- that one is of these two nodes, or of the search from where they lead
+  pub data SpendsAt (a b : Graph) : List (ℕ × ℕ) → ℕ → ℕ → ℕ → Type 0 where
+    next : {met : List (ℕ × ℕ)} {x y : ℕ} → MayMeet a b met x y → SpendsAt a b met x y 0
+    later : {met met' : List (ℕ × ℕ)} {x y n : ℕ} → MayMeet a b met x y →
+        LeadsTo a b met x y met' → Spends a b met' n → SpendsAt a b met x y (n + 1)
+
 -- The answer to two nets. Where free ports don't reach all nodes, the others are tried against one
--- another, up to a number of tries.
+-- another; the search is given up only where 1,000 tries are in vain and one more is wanted.
 pub data IsComparison (a b : Graph) (text : List ℕ) : End → Type 0 where
   one : AreOne a b → text ≡ codes "same\n" → IsComparison a b text Yes
   differ : {p : Port} → (AreOne a b → ⊥) → DiffersAt a b p →
       text ≡ codes "different at " ++ port_text p ++ codes "\n" → IsComparison a b text No
   parts_differ : {met : List (ℕ × ℕ)} → (AreOne a b → ⊥) → ReachAlike a b met →
       text ≡ codes "different in parts that no free port reaches\n" → IsComparison a b text No
-  left : {met : List (ℕ × ℕ)} → ReachAlike a b met → text ≡ left_text a b met →
-      IsComparison a b text No
+  left : {met : List (ℕ × ℕ)} → ReachAlike a b met → Spends a b met 1000 →
+      text ≡ left_text a b met → IsComparison a b text No
 
 -- The answer to two files, each with a net, which its tables have.
 pub data IsSame (first second : List ℕ) (text : List ℕ) : End → Type 0 where

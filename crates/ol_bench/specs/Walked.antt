@@ -8,6 +8,7 @@ use Rattle.ol_net.specs.Graph.{Graph, kind_at, partner_of}
 use Rattle.ol_net.specs.Nets.{HasNode}
 use Rattle.ol_net.specs.Numbered.{net_of}
 use Rattle.ol_bench.specs.Same.{pair_at, port_on, AreOne, IsRenumbered}
+use Rattle.ol_bench.specs.Same.{Fails, FailsAt, Spends, SpendsAt}
 use Rattle.ol_bench.specs.declared.comparing.Tried.{Tried}
 use Rattle.ol_bench.specs.declared.comparing.Tried.TheVariants as tried
 
@@ -49,8 +50,18 @@ abbrev pub NoneTake : Graph → Graph → List (ℕ × ℕ) → ℕ → ℕ → 
 NoneTake a b met x y =
     (names : ℕ → ℕ) → IsRenumbered names (net_of a) (net_of b) → Follow a names met → names x ≡ y → ⊥
 
--- what a search found: names that take the one net to the other, or that there are none of this sort
-abbrev pub Searched : Graph → Graph → Type 0 → Tried → Type 0
-Searched a b Lack tried.One = AreOne a b
-Searched a b Lack tried.Apart = Lack
-Searched a b Lack tried.Spent = Unit {0}
+-- What a search found: names that take the one net to the other; or that there are none of this
+-- sort, by the tries in vain that are no more among the rest; or nothing, since all tries are made.
+abbrev pub Searched : Graph → Graph → Type 0 → (ℕ → Type 0) → (ℕ → Type 0) → ℕ → ℕ → Tried → Type 0
+Searched a b Lack Vain Spent tries rest tried.One = AreOne a b
+Searched a b Lack Vain Spent tries rest tried.Apart = Lack × ((n : ℕ) × Vain n × (rest + n ≡ tries))
+Searched a b Lack Vain Spent tries rest tried.Spent = Spent tries
+
+-- the same, of all names by which these have met
+abbrev pub SearchedFrom : Graph → Graph → List (ℕ × ℕ) → ℕ → ℕ → Tried → Type 0
+SearchedFrom a b met = Searched a b (NoneFollow a b met) (Fails a b met) (Spends a b met)
+
+-- the same, of those that take x to y
+abbrev pub SearchedAt : Graph → Graph → List (ℕ × ℕ) → ℕ → ℕ → ℕ → ℕ → Tried → Type 0
+SearchedAt a b met x y =
+    Searched a b (NoneTake a b met x y) (FailsAt a b met x y) (SpendsAt a b met x y)

@@ -8,9 +8,10 @@ ghost use Rattle.ol_net.specs.PartTexts.{port_text};
 ghost use Rattle.ol_net.specs.declared.parts.Kind.{Kind};
 ghost use Rattle.ol_net.specs.declared.parts.NodeId.{NodeId};
 ghost use Rattle.ol_net.specs.declared.parts.Port.TheVariants.{Of};
-ghost use Rattle.ol_bench.specs.Same.{pair_at, port_on, left_text, AreAlike, Meets, ReachAlike, IsComparison, IsSame};
+ghost use Rattle.ol_bench.specs.Same.{pair_at, port_on, left_text, AreAlike, Meets, ReachAlike};
+ghost use Rattle.ol_bench.specs.Same.{IsFirstAlone, IsComparison, IsSame};
 ghost use Rattle.ol_bench.specs.Meetings.{met_by, Answers, TellPairs, AreTables, EachMet, Finds};
-ghost use Rattle.ol_bench.specs.Walked.{HasWalked, NoneFollow, NoneTake, Searched};
+ghost use Rattle.ol_bench.specs.Walked.{HasWalked, SearchedFrom, SearchedAt};
 ghost use Rattle.ol_bench.specs.Subjects.{IsSubject};
 
 use crate::answers::{Answer, End};
@@ -234,6 +235,8 @@ fn is_alone(net: &Net, table: &[Option<u32>], node: NodeId) -> bool
 fn first_alone(net: &Net, table: &[Option<u32>]) -> Option<NodeId>
     ensures alone { IfSome result (λ x. (met_by table.now x.0 ≡ None)
         × ((k : Kind) × (i : ℕ) × HasNode (net_of net.now) x.0 k i)) }
+    ensures first { IfSome result (λ x. (z : ℕ) → z < x.0 → (k : Kind) (i : ℕ)
+        → HasNode (net_of net.now) z k i → (y : ℕ) × (met_by table.now z ≡ Some y)) }
     ensures none { IfNone result (EachMet net.now table.now) }
 {
     for n in 0..net.born() {
@@ -279,7 +282,7 @@ fn seek(alloc: Global, a: &Net, b: &Net, met: &Met, tries: &mut u32) -> Result<T
     requires walked { HasWalked a.now b.now
         (a.now.free + 3 * length met.now.pairs.items) met.now.pairs.items }
     ensures found { IfOk result
-        (Searched a.now b.now (NoneFollow a.now b.now met.now.pairs.items)) }
+        (SearchedFrom a.now b.now met.now.pairs.items tries.old tries.new) }
     ensures tries { tries.new ≤ tries.old }
 {
     a.is_tabled();
@@ -312,8 +315,9 @@ fn try_each(
         (a.now.free + 3 * length met.now.pairs.items) met.now.pairs.items }
     requires alone { met_by met.now.there.items x.0 ≡ None }
     requires there { (k : Kind) × (i : ℕ) × HasNode (net_of a.now) x.0 k i }
+    requires first { IsFirstAlone a.now met.now.pairs.items x.0 }
     ensures found { IfOk result
-        (Searched a.now b.now (NoneFollow a.now b.now met.now.pairs.items)) }
+        (SearchedFrom a.now b.now met.now.pairs.items tries.old tries.new) }
     ensures tries { tries.new ≤ tries.old }
 {
     a.is_tabled();
@@ -346,7 +350,7 @@ fn try_pair(
     requires there { (k : Kind) × (i : ℕ) × HasNode (net_of a.now) x.0 k i }
     requires second { y.0 < length b.now.nodes }
     ensures found { IfOk result
-        (Searched a.now b.now (NoneTake a.now b.now met.now.pairs.items x.0 y.0)) }
+        (SearchedAt a.now b.now met.now.pairs.items x.0 y.0 tries.old tries.new) }
     ensures tries { tries.new ≤ tries.old }
 {
     a.is_tabled();
@@ -493,8 +497,9 @@ fn compare(alloc: Global, a: &Net, b: &Net) -> Result<Answer, NoMemory>
 /// - `No`: none does, and the text names the first port, of the first net, whose partner is unlike
 ///   that of the other net's port at the same place of the walk; or the free port that one net lacks.
 ///   Or all that free ports reach is alike, and the text says that the other parts differ. Nodes of
-///   these parts are tried against one another at most 1,000 times; where that doesn't settle it, the
-///   text has how many nodes of each net no free port reaches.
+///   these parts are tried against one another, depth first. The search gives up only where 1,000
+///   tries are in vain and one more is wanted: then the text has how many nodes of each net no free
+///   port reaches.
 /// - `Refused`: `ol` refuses the first file or else the second, by this line.
 ///
 /// `NoMemory`: no memory was found.

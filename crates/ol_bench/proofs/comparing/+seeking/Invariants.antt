@@ -1,5 +1,6 @@
 use Rattle.std.proofs.Common.{ℕ, ◌+◌, ◌*◌, ◌<◌, ◌≤◌}
 use Rattle.ol_bench.specs.Walked.{NoneTake}
+use Rattle.ol_bench.proofs.Trying.{HasFailed}
 use Rattle.ol_bench.proofs.comparing.+seeking.Given as goal
 
 abbrev pub decreases-seek : goal.decreases-seek
@@ -14,3 +15,4 @@ decreases-try_pair l = 3 * l.tries.now
 abbrev pub invariant-try_each-loop-n : goal.invariant-try_each-loop-n
 invariant-try_each-loop-n l =
     (l.tries ≤ l.fn.tries) × ((y : ℕ) → y < l.n → NoneTake l.a l.b l.met.pairs.items l.x.0 y)
+    × HasFailed l.a l.b l.met.pairs.items l.x.0 l.fn.tries l.n l.tries
