@@ -16,7 +16,7 @@ returns-in_ok-answer-in-One c =
     let b = c.args.b.now in
     let answer = c.in_ok-answer-in-One in
     subst (λ (e : End). IsComparison a b answer.answer.text.items e) (sym answer.ensures.end)
-    (one (subst (SearchedFrom a b c.args.met.now.pairs.items 1000 c.seek.new.tries) c.in-One.is
+    (one (subst (SearchedFrom a b c.args.met.now.pairs.items _ c.seek.new.tries) c.in-One.is
     c.in_ok-seek.ensures.found) answer.ensures.text)
 
 pub returns-in_ok-answer-in-Apart : goal.returns-in_ok-answer-in-Apart
@@ -24,7 +24,7 @@ returns-in_ok-answer-in-Apart c =
     let a = c.args.a.now in
     let b = c.args.b.now in
     let answer = c.in_ok-answer-in-Apart in
-    let none = subst (SearchedFrom a b c.args.met.now.pairs.items 1000 c.seek.new.tries) c.in-Apart.is
+    let none = subst (SearchedFrom a b c.args.met.now.pairs.items _ c.seek.new.tries) c.in-Apart.is
     c.in_ok-seek.ensures.found in
     subst (λ (e : End). IsComparison a b answer.answer.text.items e) (sym answer.ensures.end)
     (parts_differ (none_from_walk a b c.is_tabled.ensures.tables c.is_tabled-2.ensures.tables _ _
@@ -36,7 +36,7 @@ returns-in_ok-answer-in-Spent c =
     let b = c.args.b.now in
     let answer = c.in_ok-answer-in-Spent in
     let size : length c.args.met.now.pairs.items ≡ c.len.result = search rules in
-    let spent = subst (SearchedFrom a b c.args.met.now.pairs.items 1000 c.seek.new.tries) c.in-Spent.is
+    let spent = subst (SearchedFrom a b c.args.met.now.pairs.items _ c.seek.new.tries) c.in-Spent.is
     c.in_ok-seek.ensures.found in
     subst (λ (e : End). IsComparison a b answer.answer.text.items e) (sym answer.ensures.no)
     (left c.requires.reach spent (answer.ensures.text c.args.met.now.pairs.items size))
