@@ -120,20 +120,20 @@ LeadsNowhere a b met x y = (at : ℕ) × (met' : List (ℕ × ℕ))
 -- against each node of the second net, by number. Two that may meet are one try; where it leads to
 -- the end of a walk, the search goes on from there before the next try.
 mutual
-  -- all tries are in vain, so many
-  pub data Fails (a b : Graph) : List (ℕ × ℕ) → ℕ → Type 0 where
+  -- all tries are in vain, n of them
+  pub data Fails (a b : Graph) : (met : List (ℕ × ℕ)) (n : ℕ) → Type 0 where
     ends : {met : List (ℕ × ℕ)} → IsOneLeft a b met → Fails a b met 0
     all_fail : {met : List (ℕ × ℕ)} {x n : ℕ} → IsFirstAlone a met x →
         FailsBelow a b met x (length b.nodes) n → Fails a b met n
 
-  -- those of this node against the nodes of smaller numbers than this one
-  pub data FailsBelow (a b : Graph) : List (ℕ × ℕ) → ℕ → ℕ → ℕ → Type 0 where
+  -- those of x against the nodes below y are
+  pub data FailsBelow (a b : Graph) : (met : List (ℕ × ℕ)) (x y n : ℕ) → Type 0 where
     below_0 : {met : List (ℕ × ℕ)} {x : ℕ} → FailsBelow a b met x 0 0
     below : {met : List (ℕ × ℕ)} {x y m n : ℕ} → FailsBelow a b met x y m → FailsAt a b met x y n →
         FailsBelow a b met x (y + 1) (m + n)
 
-  -- that of two nodes, and those of the search from where it leads
-  pub data FailsAt (a b : Graph) : List (ℕ × ℕ) → ℕ → ℕ → ℕ → Type 0 where
+  -- that of x against y is, and so are those of the search from where it leads
+  pub data FailsAt (a b : Graph) : (met : List (ℕ × ℕ)) (x y n : ℕ) → Type 0 where
     may_not : {met : List (ℕ × ℕ)} {x y : ℕ} → (MayMeet a b met x y → ⊥) → FailsAt a b met x y 0
     nowhere : {met : List (ℕ × ℕ)} {x y : ℕ} → MayMeet a b met x y → LeadsNowhere a b met x y →
         FailsAt a b met x y 1
@@ -141,13 +141,13 @@ mutual
         LeadsTo a b met x y met' → Fails a b met' n → FailsAt a b met x y (n + 1)
 
 mutual
-  -- so many tries are in vain, and one more is wanted
-  pub data Spends (a b : Graph) : List (ℕ × ℕ) → ℕ → Type 0 where
+  -- n tries are in vain, and one more is wanted
+  pub data Spends (a b : Graph) : (met : List (ℕ × ℕ)) (n : ℕ) → Type 0 where
     spends : {met : List (ℕ × ℕ)} {x y m n : ℕ} → IsFirstAlone a met x → FailsBelow a b met x y m →
         y < length b.nodes → SpendsAt a b met x y n → Spends a b met (m + n)
 
-  -- that one is of these two nodes, or of the search from where they lead
-  pub data SpendsAt (a b : Graph) : List (ℕ × ℕ) → ℕ → ℕ → ℕ → Type 0 where
+  -- the one more is that of x against y, or it is wanted in the search from where that leads
+  pub data SpendsAt (a b : Graph) : (met : List (ℕ × ℕ)) (x y n : ℕ) → Type 0 where
     next : {met : List (ℕ × ℕ)} {x y : ℕ} → MayMeet a b met x y → SpendsAt a b met x y 0
     later : {met met' : List (ℕ × ℕ)} {x y n : ℕ} → MayMeet a b met x y →
         LeadsTo a b met x y met' → Spends a b met' n → SpendsAt a b met x y (n + 1)
