@@ -1,13 +1,11 @@
--- The commands: what each asks of its files, and what is written.
+-- The commands: what each asks of its files, and what is answered.
 use Rattle.std.specs.Prelude.{◌≡◌, ℕ, ◌≤◌, ◌==◌, if◌then◌else◌, Bool, true, false, List, [], Option}
-use Rattle.std.specs.Prelude.{codes, string_bytes, ◌⊎◌}
-use Rattle.ol_io.specs.Outside.{Rose, Appended, IsAllOf, IsLonger}
+use Rattle.std.specs.Prelude.{codes, length, string_bytes}
+use Rattle.ol_io.specs.Outside.{Rose, IsAllOf, IsLonger}
 use Rattle.ol_bench.specs.declared.answers.End.{End}
 use Rattle.ol_bench.specs.declared.answers.End.TheVariants as end
 use Rattle.ol_bench.specs.declared.top.Asked.{Asked}
 use Rattle.ol_bench.specs.declared.top.Asked.TheVariants as asked
-use Rattle.ol_bench.specs.declared.top.Status.{Status}
-use Rattle.ol_bench.specs.declared.top.Status.TheVariants as status
 use Rattle.ol_bench.specs.Subjects.{most_bytes}
 use Rattle.ol_bench.specs.Places.{IsWhere}
 use Rattle.ol_bench.specs.Steps.{IsStepsOf}
@@ -86,47 +84,31 @@ IsAnswer (asked.Explain subject name journal) bytes more text e =
     IsExplained bytes more text subject e
 IsAnswer (asked.Same name other) bytes more text e = IsSame bytes more text e
 
--- these are the bytes of the second file, where there is one
-abbrev pub IsSecond : Bool → Option (List ℕ) → List ℕ → Type 0
-IsSecond true file bytes = IsAllOf file bytes
-IsSecond false file bytes = Unit {0}
+-- These are all bytes of a file, and no more than so many.
+abbrev pub IsAllWithin : ℕ → Option (List ℕ) → List ℕ → Type 0
+IsAllWithin most file bytes = IsAllOf file bytes × (length bytes ≤ most)
 
--- The answer to files whose bytes are told: that to their bytes; or the line that says that one of
--- them couldn't be read or has too many bytes.
+-- Where there is a second file, these are all its bytes, and no more than so many.
+abbrev pub IsSecond : Bool → ℕ → Option (List ℕ) → List ℕ → Type 0
+IsSecond true most file bytes = IsAllWithin most file bytes
+IsSecond false most file bytes = Unit {0}
+
+-- The answer to files whose bytes are told, by the calls of the source that had failed before and
+-- that now have. A call failed, and the line says so; or none did, and the answer is the line that
+-- says that a file has too many bytes, the first one where both have, or that to the bytes.
 pub data IsCause (asked : Asked) (file second : Option (List ℕ)) (faults faults' : ℕ)
     (text : List ℕ) : End → Type 0 where
   fault : Rose faults faults' → text ≡ codes "read fault\n" →
       IsCause asked file second faults faults' text end.Refused
-  too_long : IsLonger file (most_of asked) → text ≡ limit_line (most_of asked) →
+  too_long : faults' ≡ faults → IsLonger file (most_of asked) →
+      text ≡ limit_line (most_of asked) →
       IsCause asked file second faults faults' text end.Refused
-  second_too_long : has_second asked ≡ true → IsLonger second (second_most asked) →
-      text ≡ limit_line (second_most asked) →
+  second_too_long : (bytes : List ℕ) → faults' ≡ faults →
+      IsAllWithin (most_of asked) file bytes → has_second asked ≡ true →
+      IsLonger second (second_most asked) → text ≡ limit_line (second_most asked) →
       IsCause asked file second faults faults' text end.Refused
-  answered : {e : End} (bytes more : List ℕ) → IsAllOf file bytes →
-      IsSecond (has_second asked) second more → IsAnswer asked bytes more text e →
+  answered : {e : End} (bytes more : List ℕ) → faults' ≡ faults →
+      IsAllWithin (most_of asked) file bytes →
+      IsSecond (has_second asked) (second_most asked) second more →
+      IsAnswer asked bytes more text e →
       IsCause asked file second faults faults' text e
-
--- What is written with each status, where the sink of answers and that of errors had taken and now
--- have taken this, and their calls had failed and now have failed so often.
-pub data WritesAnswer (asked : Asked) (file second : Option (List ℕ)) (faults faults' : ℕ)
-    (of of' : ℕ) (out out' : Option (List ℕ)) (ef ef' : ℕ) (errors errors' : Option (List ℕ))
-    : Status → Type 0 where
-  yes : (text : List ℕ) → IsCause asked file second faults faults' text end.Yes →
-      Appended out text out' → errors' ≡ errors →
-      WritesAnswer asked file second faults faults' of of' out out' ef ef' errors errors' status.Yes
-  no : (text : List ℕ) → IsCause asked file second faults faults' text end.No →
-      Appended out text out' → errors' ≡ errors →
-      WritesAnswer asked file second faults faults' of of' out out' ef ef' errors errors' status.No
-  nothing : (text : List ℕ) → IsCause asked file second faults faults' text end.Nothing →
-      Appended errors text errors' → out' ≡ out →
-      WritesAnswer asked file second faults faults' of of' out out' ef ef' errors errors' status.No
-  refused : (text : List ℕ) → IsCause asked file second faults faults' text end.Refused →
-      Appended errors text errors' → out' ≡ out →
-      WritesAnswer asked file second faults faults' of of' out out' ef ef' errors errors'
-      status.Refused
-  write_fault : Rose of of' ⊎ Rose ef ef' →
-      WritesAnswer asked file second faults faults' of of' out out' ef ef' errors errors'
-      status.WriteFault
-  no_memory : out' ≡ out → errors' ≡ errors →
-      WritesAnswer asked file second faults faults' of of' out out' ef ef' errors errors'
-      status.NoMemory

@@ -13,6 +13,7 @@ pub mod Left
 pub mod Wanted
 pub mod Explained
 pub mod Commands
+pub mod Writing
 pub mod Statuses
 -- What only contracts of private functions and proofs cite.
 pub mod Readied

@@ -10,8 +10,9 @@ pub data IsCauseOnward (asked : Asked) (bytes : List ℕ) (second : Option (List
     (faults faults' : ℕ) (text : List ℕ) : End → Type 0 where
   fault : Rose faults faults' → text ≡ codes "read fault\n" →
       IsCauseOnward asked bytes second faults faults' text end.Refused
-  too_long : has_second asked ≡ true → IsLonger second (second_most asked) →
+  too_long : faults' ≡ faults → has_second asked ≡ true → IsLonger second (second_most asked) →
       text ≡ limit_line (second_most asked) →
       IsCauseOnward asked bytes second faults faults' text end.Refused
-  answered : {e : End} (more : List ℕ) → IsSecond (has_second asked) second more →
+  answered : {e : End} (more : List ℕ) → faults' ≡ faults →
+      IsSecond (has_second asked) (second_most asked) second more →
       IsAnswer asked bytes more text e → IsCauseOnward asked bytes second faults faults' text e

@@ -2,10 +2,11 @@
 
 ghost use Rattle.std.specs.Prelude.{◌≡◌, ℕ, List, Option, ◌≤◌, length, true, codes, IfOk};
 ghost use Rattle.ol_io.specs.Readings.{AreOfSince};
-ghost use Rattle.ol_bench.specs.Commands.{IsAnswer, IsCause, IsWithinBounds, WritesAnswer, has_second, limit_line, most_of, name_of, second_most, second_of};
+ghost use Rattle.ol_bench.specs.Commands.{IsAnswer, IsCause, IsWithinBounds, has_second, limit_line, most_of, name_of, second_most, second_of};
 ghost use Rattle.ol_bench.specs.Seconds.{IsCauseOnward};
 ghost use Rattle.ol_bench.specs.Subjects.{most_bytes};
 ghost use Rattle.ol_bench.specs.Statuses.{status_number};
+ghost use Rattle.ol_bench.specs.Writing.{Told, WritesAnswer, change_of};
 
 use crate::answers::{Answer, End};
 use crate::comparing::same;
@@ -21,26 +22,33 @@ use ol_io::{ReadAll, Sink, Source, Written, read_all, write_all};
 use ol_memory::NoMemory;
 use std::alloc::Global;
 
-/// What is asked: a command, with the names of its files; `-` is standard input.
+/// What is asked: a command, with its numbers and with the names of its files. To the source of a
+/// process `-` is standard input.
+///
+/// `name` is that of the file with the term or the net, and the only one where there is no second
+/// name. Where two files are read, it is read first.
 #[derive(Debug, Drop)]
 pub enum Asked {
-    /// Where a byte stands, counted from 0.
+    /// Where a byte of a file stands, any file. `byte` is its place, counted from 0: any number,
+    /// also one past the end.
     Where {
         byte: u32,
         name: String,
     },
-    /// Leftmost reduction, by at most so many steps.
+    /// Leftmost reduction of a term, by at most `most` steps: any number.
     Steps {
         most: u32,
         name: String,
     },
-    /// Interactions and beta steps of three ways to reduce.
+    /// Interactions and beta steps of three ways to reduce, each within its bound: `fuel` is at
+    /// most 8,000,000, `heads` at least 1, and `steps` any number.
     Counts {
         subject: Subject,
         bounds: Bounds,
         name: String,
     },
-    /// The journal of a run in this order.
+    /// The journal of a run in this order: of at most `fuel` interactions, which are at most
+    /// 8,000,000, and on demand of at most `heads` subterms, at least 1.
     Journal {
         subject: Subject,
         order: Order,
@@ -48,20 +56,24 @@ pub enum Asked {
         heads: u32,
         name: String,
     },
-    /// The net after so many lines of a journal.
+    /// The net after the first `lines` lines of a journal, from 1, its first line, which tells its
+    /// form, to 8,000,001. `name` is the file with the term or the net, `journal` the one with the
+    /// journal.
     After {
         subject: Subject,
         lines: u32,
         name: String,
         journal: String,
     },
-    /// What a journal is found to be, and why.
+    /// What a journal is found to be, and why. `name` is the file with the term or the net,
+    /// `journal` the one with the journal.
     Explain {
         subject: Subject,
         name: String,
         journal: String,
     },
-    /// Whether two nets are one up to the numbers of their nodes.
+    /// Whether two nets are one up to the numbers of their nodes. `name` is the file with the first
+    /// one, `other` that with the second.
     Same {
         name: String,
         other: String,
@@ -71,15 +83,19 @@ pub enum Asked {
 /// How a call of the bench ended.
 #[derive(Clone, Copy, Debug, PartialEq, Eq)]
 pub enum Status {
-    /// The answer is yes, or there was no question of yes and no. It was written.
+    /// The answer is yes, or there was no question of yes and no. It was written, to the sink of
+    /// answers.
     Yes,
-    /// The answer is no. It was written, to the sink of errors where there is nothing to show.
+    /// The answer is no. It was written to the sink of answers; or, where a net after some lines of
+    /// a journal was asked and there is none, the line that says why to the sink of errors.
     No,
-    /// The file was refused or couldn't be read. Why was written to the sink of errors.
+    /// A file couldn't be read, has too many bytes, or isn't one of its grammar: the only one or
+    /// one of two. The line that says so was written to the sink of errors.
     Refused,
-    /// A sink failed, and has taken a prefix of the text.
+    /// The sink to which the text goes failed, and has taken its first bytes: not all of them, and
+    /// maybe none. The other sink has taken nothing.
     WriteFault,
-    /// Memory ran out, and nothing was written.
+    /// Memory ran out, and neither sink has taken anything.
     NoMemory,
 }
 
@@ -309,10 +325,36 @@ fn answer<S: Source>(alloc: Global, asked: &Asked, src: &mut S) -> Result<Answer
     }
 }
 
-/// Reads the files of a command, and writes its answer: to `out`, or to `errors` where a file is
-/// refused or can't be read, or where there is nothing to show. A file with a term has at most
-/// 1,048,576 bytes, one with a net 33,554,432, and one with a journal or in which a place is asked
-/// 402,653,184.
+// Writes a text. This status is told where the sink takes all of it.
+fn told<W: Sink>(sink: &mut W, text: &[u8], status: Status) -> Status
+    ensures { Told text.now status result (change_of W.faults W.taken sink.old sink.new) }
+{
+    match write_all(sink, text) {
+        Written::All => status,
+        Written::Fault { .. } => Status::WriteFault,
+    }
+}
+
+/// Reads the files of a command, and writes its answer or why there is none: to `out`, or to
+/// `errors` where a file is refused or can't be read, or where there is nothing to show. The source
+/// has to know the names of the files, and the numbers are within their bounds (`Asked`).
+///
+/// A file with a term has at most 1,048,576 bytes, one with a net 33,554,432, and one with a
+/// journal or in which a place is asked 402,653,184.
+///
+/// - `Yes`: the answer is yes, or the command asks nothing that has a no. The answer was written to
+///   `out`.
+/// - `No`: the answer is no. It was written to `out`; or, where there is nothing to show, the line
+///   that says why to `errors`: that a journal has fewer lines than were asked for, or that one of
+///   these isn't one of a run.
+/// - `Refused`: a line was written to `errors`, and nothing to `out`. The line is `read fault`
+///   where the source failed; `limit bytes 1048576`, `limit net 33554432` or
+///   `limit journal 402653184` where a file has more bytes than that; or the one by which `ol`
+///   refuses a file with a term or a net. Where both of two files have too many bytes, the limit
+///   of the first one is told.
+/// - `WriteFault`: the sink to which the text goes failed. It has taken the text's first bytes, not
+///   all of them and maybe none, and the other sink nothing.
+/// - `NoMemory`: no memory was found, and neither sink has taken anything.
 pub fn bench<S: Source, W: Sink, E: Sink>(
     alloc: Global,
     asked: &Asked,
@@ -325,36 +367,27 @@ pub fn bench<S: Source, W: Sink, E: Sink>(
     requires second { has_second asked.now ≡ true → S.knows src.old (second_of asked.now) ≡ true }
     requires bounds { IsWithinBounds asked.now }
 
-    // Each status comes with the answer to the files, and the answer was written whole; or a sink
-    // failed, or nothing was written. This holds of any files that the readings of this call are
-    // of, and they are of those whose bytes the source tells.
+    // The text is the answer to the files, or the line that refuses them. It was told to the sink
+    // to which it goes: the whole of it, and the status says how the command ended; or a front of
+    // it, and the sink failed. The other sink was left alone, and so were both where memory ran
+    // out. This holds of any files that the readings of this call are of, and they are of those
+    // whose bytes the source tells.
     ensures answered { (files : ℕ → List ℕ → Option (List ℕ))
         → AreOfSince files (S.readings src.old) (S.readings src.new)
-        → WritesAnswer asked.now (files 0 (name_of asked.now)) (files 1 (second_of asked.now))
-        (S.faults src.old) (S.faults src.new) (W.faults out.old) (W.faults out.new)
-        (W.taken out.old) (W.taken out.new) (E.faults errors.old) (E.faults errors.new)
-        (E.taken errors.old) (E.taken errors.new) result }
+        → WritesAnswer (IsCause asked.now
+        (files 0 (name_of asked.now)) (files 1 (second_of asked.now))
+        (S.faults src.old) (S.faults src.new))
+        (change_of W.faults W.taken out.old out.new)
+        (change_of E.faults E.taken errors.old errors.new) result }
     ensures told { AreOfSince (λ _. S.contents src.old) (S.readings src.old) (S.readings src.new) }
 {
     let Ok(Answer { text, end }) = answer(alloc, asked, src) else {
         return Status::NoMemory;
     };
     match end {
-        End::Yes => match write_all(out, &text) {
-            Written::All => Status::Yes,
-            Written::Fault { .. } => Status::WriteFault,
-        },
-        End::No => match write_all(out, &text) {
-            Written::All => Status::No,
-            Written::Fault { .. } => Status::WriteFault,
-        },
-        End::Nothing => match write_all(errors, &text) {
-            Written::All => Status::No,
-            Written::Fault { .. } => Status::WriteFault,
-        },
-        End::Refused => match write_all(errors, &text) {
-            Written::All => Status::Refused,
-            Written::Fault { .. } => Status::WriteFault,
-        },
+        End::Yes => told(out, &text, Status::Yes),
+        End::No => told(out, &text, Status::No),
+        End::Nothing => told(errors, &text, Status::No),
+        End::Refused => told(errors, &text, Status::Refused),
     }
 }
