@@ -38,18 +38,29 @@ pub struct Column {
     pub stuck: u32,
 }
 
-/// The rows of the table.
+/// The rows of the table. Each of the first eight tells how often a rule was applied.
 #[derive(Clone, Copy)]
 pub enum Row {
+    /// An application and an abstraction of one index. Of leftmost reduction, its steps: that has
+    /// no other row.
     Beta,
+    /// Two fans of one index.
     Fan,
+    /// Two croissants of one index.
     Croissant,
+    /// Two brackets of one index.
     Bracket,
+    /// A fan and a node of a greater index, which is no eraser.
     CrossFan,
+    /// A croissant and a node of a greater index, which is no eraser.
     CrossCroissant,
+    /// A bracket and a node of a greater index, which is no eraser.
     CrossBracket,
+    /// An eraser and any node.
     Erase,
+    /// All eight rules together.
     Interactions,
+    /// How many pairs are left that have no rule.
     Stuck,
 }
 

@@ -135,10 +135,11 @@ fn of_net(alloc: Global, net: &Net, journal: &[u8]) -> Result<Answer, NoMemory>
 ///   them, in the order of their first names, and a last line tells how many more there are.
 /// - `No`: the number of the first bad line. Where that is none of the grammar, the byte from which
 ///   on no text is, and what is wanted there; where only its names aren't in order, that a greater
-///   one is. Where it is a line of the grammar, its cause: a name
-///   of a node that isn't born yet, that is gone, with the line by which it went, or that never was
-///   one; what the first node faces, where it isn't the second one; that the two have no rule; or
-///   which rule or which wave is the pair's, where the line tells another.
+///   one is; and where it comes behind as many lines as a journal may have, the byte at which it
+///   begins, and that `the end, after 8000000 entries` is wanted. Where it is a line of the
+///   grammar, its cause: a name of a node that isn't born yet, that is gone, with the line by which
+///   it went, or that never was one; what the first node faces, where it isn't the second one; that
+///   the two have no rule; or which rule or which wave is the pair's, where the line tells another.
 /// - `Refused`: `ol` refuses the file with the term or the net, by this line.
 ///
 /// The file has at most 1,048,576 bytes with a term, and 33,554,432 with a net. `NoMemory`: no

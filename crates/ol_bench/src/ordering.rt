@@ -147,9 +147,10 @@ fn of_net(alloc: Global, net: &Net, order: Order, fuel: u32, heads: u32) -> Resu
     }
 }
 
-/// The journal of a run in this order, of at most `fuel` interactions, with its rules and waves. The
-/// run on demand asks for the first `heads` subterms; where the net has no free port, it asks for
-/// nothing, and its journal has no entry.
+/// The journal of a run in this order, of at most `fuel` interactions, with its rules and waves.
+/// The run on demand asks for the first `heads` subterms; where the net has no free port, it asks
+/// for nothing, and its journal has no entry. `fuel` is at most 8,000,000, and `heads` at least 1;
+/// in the other two orders nothing depends on `heads`.
 ///
 /// - `Yes`: the order has come to its end.
 /// - `No`: it goes on beyond the fuel.
