@@ -1,4 +1,4 @@
--- What comes of two files, by what comes of the second one where the first is known; and what is written of it.
+-- What comes of two files, by what comes of the second one where the first is known; and what is written.
 use Rattle.std.proofs.Common.{◌≡◌, ℕ, ◌<◌, ◌≤◌, ◌↔◌, ◌⊎◌, inl, inr, List, Option, length, subst, sym, ◌∙◌, Vec, Global, Ok, arith}
 use Rattle.std.specs.Result.{IsErrOf}
 use Rattle.ol_io.specs.declared.calls.ReadAll.{ReadAll}
@@ -36,9 +36,9 @@ of_both asked file second faults mid faults' bytes text e m all (answered more s
     cause.IsCause.answered bytes more (s ∙ m) all two a
 
 -- An answer of this text and end was told to the sink to which it goes.
-pub told_to : (Cause : List ℕ → End → Type 0) (out errors : Change) (result : Status)
-    (text text' : List ℕ) (e e' : End) → Cause text e → text' ≡ text → e ≡ e' →
+pub told_to : {Cause : List ℕ → End → Type 0} {out errors : Change} {result : Status}
+    {text text' : List ℕ} {e : End} (e' : End) → Cause text e → text' ≡ text → e ≡ e' →
     GoesTo e' out errors (Told text' (status_of e') result) → WritesAnswer Cause out errors result
-told_to Cause out errors result text text' e e' c t i goes =
+told_to {out = out} {errors = errors} {result = result} {text = text} {e = e} e' c t i goes =
     told text e c (subst (λ e. GoesTo e out errors (Told text (status_of e) result)) (sym i)
     (subst (λ text. GoesTo e' out errors (Told text (status_of e') result)) t goes))
