@@ -9,6 +9,7 @@ use Rattle.ol_view.specs.declared.line_reading.Line.{Line}
 use Rattle.ol_view.specs.Forms.{header_of}
 use Rattle.ol_view.specs.Checks.{start_net_of_graph, IsFound, BeginsWithRun, HasNoLine}
 use Rattle.ol_view.specs.Checks as found
+use Rattle.ol_view.specs.Laws.{IsTable}
 use Rattle.ol_bench.specs.declared.replaying.Replay.{Replay}
 use Rattle.ol_bench.specs.Afters.{shown_text, IsNetAfter, HasLines}
 use Rattle.ol_bench.specs.Replays.{names_of, IsReplay}
@@ -17,10 +18,10 @@ use Rattle.ol_bench.specs.Followed.{net_here, IsTold, Stops, no_header, good, no
 
 module _ (old : Graph) (r : Replay) (u : IsReplay old r) (journal : List ℕ) (end : ℕ)
     (form : Form) (waves : List ℕ) (told : IsTold form waves old r journal end) (lines : ℕ) where
-  pub net_after : length r.journal + 1 ≡ lines → (text : List ℕ) →
+  pub net_after : length r.journal + 1 ≡ lines → IsTable r.net → (text : List ℕ) →
       text ≡ shown_text (names_of r) (length r.journal) r.net →
       IsNetAfter old journal lines text
-  net_after count text e = record {
+  net_after count tabled text e = record {
     form = form;
     entries = r.journal;
     waves = waves;
@@ -29,6 +30,7 @@ module _ (old : Graph) (r : Replay) (u : IsReplay old r) (journal : List ℕ) (e
     rest = drop end journal;
     begins = told;
     count = count;
+    tabled = tabled;
     rising = λ j k l b.
         let i = u.listed j (omega arith) in
         let i' = u.listed k b in

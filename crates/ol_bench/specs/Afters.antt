@@ -11,6 +11,7 @@ use Rattle.ol_rules.specs.Names.{comes_before}
 use Rattle.ol_view.specs.declared.forms.Form.{Form}
 use Rattle.ol_view.specs.declared.answers.Check.TheVariants.{BadText, NotARun}
 use Rattle.ol_view.specs.Checks.{start_net_of_graph, BeginsWithRun, IsFound}
+use Rattle.ol_view.specs.Laws.{IsTable}
 use Rattle.ol_bench.specs.declared.answers.End.{End}
 use Rattle.ol_bench.specs.declared.answers.End.TheVariants.{Yes, Nothing, Refused}
 use Rattle.ol_bench.specs.declared.subjects.Subject.{Subject}
@@ -37,6 +38,7 @@ pub record IsNetAfter (g : Graph) (journal : List ℕ) (lines : ℕ) (text : Lis
   pub begins : BeginsWithRun form (start_net_of_graph g) journal entries waves
       (net_under names (net_of last)) rest
   pub count : length entries + 1 ≡ lines
+  pub tabled : IsTable last
   pub rising : (j k : ℕ) → j < k → k < length last.nodes → comes_before (names j) (names k) ≡ true
   pub text_is : text ≡ shown_text names (length entries) last
 

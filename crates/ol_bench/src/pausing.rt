@@ -1,6 +1,7 @@
 //! The command `after`: the net after the first lines of a journal.
 
 ghost use Rattle.std.specs.Prelude.{◌≡◌, ◌≤◌, length, IfOk};
+ghost use Rattle.ol_view.specs.Laws.{IsTable};
 ghost use Rattle.ol_bench.specs.Afters.{IsAfter, IsAfterOf, line_with, shown_text};
 ghost use Rattle.ol_bench.specs.Replays.{names_of};
 ghost use Rattle.ol_bench.specs.Subjects.{most_bytes};
@@ -33,7 +34,9 @@ fn shown(alloc: Global, replay: &Replay) -> Result<Answer, NoMemory>
     ensures text { IfOk result (λ a. a.text.items ≡ shown_text (names_of replay.now)
         (length replay.now.journal) replay.now.net) }
     ensures end { IfOk result (λ a. a.end ≡ End.Yes) }
+    ensures tabled { IsTable replay.now.net }
 {
+    replay.net.is_tabled();
     let net = named_net(alloc, replay)?;
     let mut text = Vec::new(alloc);
     put(&mut text, b"step ")?;

@@ -44,7 +44,7 @@ returns-then-has-lines c =
     let e = c.if-has-lines.true in omega arith) in
     subst (λ e. IsAfterOf c.args.net.now c.args.journal.now c.args.lines a.answer.text.items e) (sym a.ensures.end)
     (of.IsAfterOf.shown (net_after c.args.net.now f.replay c.in_ok-followed.ensures.replay c.args.journal.now f.at
-    g.form g.waves g.told c.args.lines count a.answer.text.items a.ensures.text))
+    g.form g.waves g.told c.args.lines count a.ensures.tabled a.answer.text.items a.ensures.text))
 
 pub returns-in-Good : goal.returns-in-Good
 returns-in-Good c =
