@@ -11,8 +11,30 @@ use std::test::Fail;
 
 const TERM: &str = "(\\x. x) (\\y. y)";
 
+// An eraser and a fan that it erases.
+const NET: &str =
+    "ol net 1\nfree 2\nnode eraser -\nnode fan 1\nlink f0 1.2\nlink f1 1.1\nlink 0.0 1.0\n";
+
 const JOURNAL: &str =
     "ol trace 2\nbeta 1 0 1\ncross-croissant 2 2 3\ncross-croissant 3 4 1.1\ncroissant 4 1.0 2.0\n";
+
+// The net of the term after one line of a run, and after two.
+const AFTER_ONE: &str = "step 1
+nodes 3
+f0 2.1
+2 croissant 0 3.0 f0
+3 lam 1 2.0 4.1 4.0
+4 croissant 1 3.2 3.1
+";
+
+const AFTER_TWO: &str = "step 2
+nodes 4
+f0 1.2.0
+4 croissant 1 1.1.0 1.0.0
+1.0 croissant 0 4.1 1.2.1
+1.1 croissant 0 4.0 1.2.2
+1.2 lam 0 f0 1.0.1 1.1.1
+";
 
 fn file(alloc: Global, name: &str, bytes: &str) -> Result<MemFile, AllocError> {
     Ok(MemFile {
@@ -21,28 +43,34 @@ fn file(alloc: Global, name: &str, bytes: &str) -> Result<MemFile, AllocError> {
     })
 }
 
-// What is asked of the term and a journal.
-fn asked(alloc: Global, lines: u32) -> Result<Asked, AllocError>
+// What is asked of the file and a journal.
+fn asked(alloc: Global, subject: Subject, lines: u32) -> Result<Asked, AllocError>
     requires { (1 ≤ lines) × (lines ≤ 8000001) }
     ensures { IfOk result IsWithinBounds }
 {
     Ok(Asked::After {
-        subject: Subject::Term(Translation::Two),
+        subject,
         lines,
-        name: String::from_str(alloc, "term")?,
+        name: String::from_str(alloc, "file")?,
         journal: String::from_str(alloc, "journal")?,
     })
 }
 
 // Asserts the status after so many lines of a journal, and what is written to the one sink and to
 // the other.
-fn assert_after(rt: &impl Abort, alloc: Global, row: (u32, &str, Status, &str)) -> Result<(), Fail>
+fn assert_after(
+    rt: &impl Abort,
+    alloc: Global,
+    of: (Subject, &str),
+    row: (u32, &str, Status, &str),
+) -> Result<(), Fail>
     requires { (1 ≤ row.0) × (row.0 ≤ 8000001) }
 {
+    let (subject, text) = of;
     let (lines, journal, status, wanted) = row;
-    let asked = asked(alloc, lines)?;
+    let asked = asked(alloc, subject, lines)?;
     let mut files = Vec::new(alloc);
-    files.push(file(alloc, "term", TERM)?)?;
+    files.push(file(alloc, "file", text)?)?;
     files.push(file(alloc, "journal", journal)?)?;
     let mut src = MemSource::new(files, 65_536, Vec::new(alloc));
     let mut out = MemSink::new(alloc, 1_048_576, 65_536, Vec::new(alloc))
@@ -64,24 +92,9 @@ fn assert_after(rt: &impl Abort, alloc: Global, row: (u32, &str, Status, &str)) 
 
 #[test]
 fn nets_after_lines_are_told(rt: HostRuntime) -> Result<(), Fail> {
-    let second = "step 1
-nodes 3
-f0 2.1
-2 croissant 0 3.0 f0
-3 lam 1 2.0 4.1 4.0
-4 croissant 1 3.2 3.1
-";
-    let third = "step 2
-nodes 4
-f0 1.2.0
-4 croissant 1 1.1.0 1.0.0
-1.0 croissant 0 4.1 1.2.1
-1.1 croissant 0 4.0 1.2.2
-1.2 lam 0 f0 1.0.1 1.1.1
-";
     let rows: [(u32, &str, Status, &str); 7] = [
-        (3, JOURNAL, Status::Yes, third),
-        (2, "ol trace 1\n0 1\nno line", Status::Yes, second),
+        (3, JOURNAL, Status::Yes, AFTER_TWO),
+        (2, "ol trace 1\n0 1\nno line", Status::Yes, AFTER_ONE),
         (6, JOURNAL, Status::No, "the last line is line 5\n"),
         (
             3,
@@ -103,8 +116,32 @@ f0 1.2.0
         ),
         (1, "", Status::No, "bad text at line 1\n"),
     ];
+    let of = (Subject::Term(Translation::Two), TERM);
     for row in rows {
-        assert_after(&rt, rt.alloc(), row)?;
+        assert_after(&rt, rt.alloc(), of, row)?;
     }
     Ok(())
+}
+
+#[test]
+fn nets_after_lines_are_told_of_a_net_file(rt: HostRuntime) -> Result<(), Fail> {
+    let none = "step 0\nnodes 2\nf0 1.2\nf1 1.1\n0 eraser - 1.0\n1 fan 1 0.0 f1 f0\n";
+    let one = "step 1\nnodes 2\nf0 0.1.0\nf1 0.0.0\n0.0 eraser - f1\n0.1 eraser - f0\n";
+    let rows: [(u32, &str, Status, &str); 2] = [
+        (1, "ol trace 1\n", Status::Yes, none),
+        (2, "ol trace 2\nerase 1 0 1\n", Status::Yes, one),
+    ];
+    for row in rows {
+        assert_after(&rt, rt.alloc(), (Subject::Net, NET), row)?;
+    }
+    Ok(())
+}
+
+#[test]
+fn a_file_is_refused_before_its_journal(rt: HostRuntime) -> Result<(), Fail> {
+    let alloc = rt.alloc();
+    let term = (1, "", Status::Refused, "syntax at byte 2\n");
+    assert_after(&rt, alloc, (Subject::Term(Translation::Two), "(x"), term)?;
+    let net = (1, "", Status::Refused, "bad net at line 1\n");
+    assert_after(&rt, alloc, (Subject::Net, "x"), net)
 }

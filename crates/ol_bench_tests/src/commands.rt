@@ -13,6 +13,77 @@ const ONCE: &[u8] = b"(\\x. x x) (\\y. y)";
 
 const NET: &[u8] = b"ol net 1\nfree 2\nnode eraser -\nnode eraser -\nlink f0 f1\nlink 0.0 1.0\n";
 
+// A net without free ports.
+const CLOSED: &[u8] = b"ol net 1\nfree 0\nnode eraser -\nnode eraser -\nlink 0.0 1.0\n";
+
+const ONCE_COUNTS: &str = "                         run      demand    leftmost
+beta                       2           2           2
+fan                        1           1           -
+croissant                  2           2           -
+bracket                    0           0           -
+cross-fan                  2           2           -
+cross-croissant            4           4           -
+cross-bracket              0           0           -
+erase                      0           0           -
+interactions              11          11           -
+stuck                      0           0           -
+";
+
+const NET_COUNTS: &str = "                         run      demand    leftmost
+beta                       0           0           -
+fan                        0           0           -
+croissant                  0           0           -
+bracket                    0           0           -
+cross-fan                  0           0           -
+cross-croissant            0           0           -
+cross-bracket              0           0           -
+erase                      1           0           -
+interactions               1           0           -
+stuck                      0           0           -
+";
+
+// The run goes on, where the two other ways take one beta step.
+const RUN_GOES_ON: &str = "                         run      demand    leftmost
+beta                       -           1           1
+fan                        -           0           -
+croissant                  -           0           -
+bracket                    -           0           -
+cross-fan                  -           0           -
+cross-croissant            -           0           -
+cross-bracket              -           0           -
+erase                      -           0           -
+interactions               -           1           -
+stuck                      -           0           -
+";
+
+// Leftmost reduction takes three steps, and may take two.
+const LEFTMOST_GOES_ON: &str = "                         run      demand    leftmost
+beta                       3           3           -
+fan                        0           0           -
+croissant                  0           0           -
+bracket                    0           0           -
+cross-fan                  0           0           -
+cross-croissant            0           0           -
+cross-bracket              0           0           -
+erase                      0           0           -
+interactions               3           3           -
+stuck                      0           0           -
+";
+
+// There is no free port to read from.
+const CLOSED_COUNTS: &str = "                         run      demand    leftmost
+beta                       0           -           -
+fan                        0           -           -
+croissant                  0           -           -
+bracket                    0           -           -
+cross-fan                  0           -           -
+cross-croissant            0           -           -
+cross-bracket              0           -           -
+erase                      1           -           -
+interactions               1           -           -
+stuck                      0           -           -
+";
+
 fn counts(subject: Subject, fuel: u32, name: String) -> Asked
     requires { fuel ≤ 8000000 }
     ensures { IsWithinBounds result }
@@ -29,12 +100,12 @@ fn counts(subject: Subject, fuel: u32, name: String) -> Asked
     }
 }
 
-fn journal(order: Order, fuel: u32, name: String) -> Asked
+fn journal(subject: Subject, order: Order, fuel: u32, name: String) -> Asked
     requires { fuel ≤ 8000000 }
     ensures { IsWithinBounds result }
 {
     Asked::Journal {
-        subject: Subject::Term(Translation::Two),
+        subject,
         order,
         fuel,
         heads: 10,
@@ -48,19 +119,24 @@ fn asked(alloc: Global, command: &str, number: u32) -> Result<Asked, AllocError>
     ensures { IfOk result IsWithinBounds }
 {
     let name = String::from_str(alloc, "-")?;
+    let term = Subject::Term(Translation::Two);
+    let first = Subject::Term(Translation::One);
     match command {
         "where" => Ok(Asked::Where { byte: number, name }),
         "steps" => Ok(Asked::Steps { most: number, name }),
-        "counts" => Ok(counts(Subject::Term(Translation::Two), number, name)),
+        "counts" => Ok(counts(term, number, name)),
         "counts --net" => Ok(counts(Subject::Net, number, name)),
-        "least" => Ok(journal(Order::Least, number, name)),
-        "rounds" => Ok(journal(Order::Rounds, number, name)),
-        _ => Ok(journal(Order::Demand, number, name)),
+        "least" => Ok(journal(term, Order::Least, number, name)),
+        "least --translation 1" => Ok(journal(first, Order::Least, number, name)),
+        "least --net" => Ok(journal(Subject::Net, Order::Least, number, name)),
+        "rounds" => Ok(journal(term, Order::Rounds, number, name)),
+        "demand --net" => Ok(journal(Subject::Net, Order::Demand, number, name)),
+        _ => Ok(journal(term, Order::Demand, number, name)),
     }
 }
 
 // Asserts of a row the status, and what is written to the one sink and to the other.
-fn assert_row(
+pub fn assert_row(
     rt: &impl Abort,
     alloc: Global,
     row: (&str, u32, &[u8], Status, &str),
@@ -143,33 +219,9 @@ fn steps_are_told(rt: HostRuntime) -> Result<(), Fail> {
 
 #[test]
 fn ways_are_counted(rt: HostRuntime) -> Result<(), Fail> {
-    let once = "                         run      demand    leftmost
-beta                       2           2           2
-fan                        1           1           -
-croissant                  2           2           -
-bracket                    0           0           -
-cross-fan                  2           2           -
-cross-croissant            4           4           -
-cross-bracket              0           0           -
-erase                      0           0           -
-interactions              11          11           -
-stuck                      0           0           -
-";
-    let net = "                         run      demand    leftmost
-beta                       0           0           -
-fan                        0           0           -
-croissant                  0           0           -
-bracket                    0           0           -
-cross-fan                  0           0           -
-cross-croissant            0           0           -
-cross-bracket              0           0           -
-erase                      1           0           -
-interactions               1           0           -
-stuck                      0           0           -
-";
     let rows: [(&str, u32, &[u8], Status, &str); 3] = [
-        ("counts", 11, ONCE, Status::Yes, once),
-        ("counts --net", 9, NET, Status::Yes, net),
+        ("counts", 11, ONCE, Status::Yes, ONCE_COUNTS),
+        ("counts --net", 9, NET, Status::Yes, NET_COUNTS),
         (
             "counts --net",
             9,
@@ -177,6 +229,21 @@ stuck                      0           0           -
             Status::Refused,
             "bad net at line 1\n",
         ),
+    ];
+    for row in rows {
+        assert_row(&rt, rt.alloc(), row)?;
+    }
+    Ok(())
+}
+
+#[test]
+fn ways_that_go_on_have_hyphens(rt: HostRuntime) -> Result<(), Fail> {
+    let unused = b"(\\x. y) ((\\x. x x) (\\x. x x))".as_slice();
+    let three = b"(\\x. x) ((\\y. y) ((\\z. z) w))".as_slice();
+    let rows: [(&str, u32, &[u8], Status, &str); 3] = [
+        ("counts", 9, unused, Status::No, RUN_GOES_ON),
+        ("counts", 9, three, Status::No, LEFTMOST_GOES_ON),
+        ("counts --net", 9, CLOSED, Status::No, CLOSED_COUNTS),
     ];
     for row in rows {
         assert_row(&rt, rt.alloc(), row)?;
@@ -206,6 +273,29 @@ croissant 5 2.0 6.0\ncross-croissant 6 3.2 7.1\ncroissant 7 7.0 9.0\n";
         ("rounds", 0, ONCE, Status::No, "ol trace 2\n"),
         ("rounds", 0, b"x", Status::Yes, "ol trace 2\n"),
         ("demand", 9, b"", Status::Refused, "syntax at byte 0\n"),
+    ];
+    for row in rows {
+        assert_row(&rt, rt.alloc(), row)?;
+    }
+    Ok(())
+}
+
+#[test]
+fn orders_of_nets_and_of_translation_1_are_traced(rt: HostRuntime) -> Result<(), Fail> {
+    let applied = b"(\\x. x z) (\\y. y)".as_slice();
+    let first = "ol trace 2\nbeta 1 0 1\ncross-croissant 2 3 6\nbeta 3 2 1.2
+cross-croissant 3 7 1.1\ncroissant 4 1.0 3.0\n";
+    let begun = "ol trace 2\nbeta 1 0 1\ncross-fan 2 4 5\n";
+    let none = "ol trace 2\n";
+    let erased = "ol trace 2\nerase 1 0 1\n";
+    let rows: [(&str, u32, &[u8], Status, &str); 7] = [
+        ("least --translation 1", 9, applied, Status::Yes, first),
+        ("demand", 2, ONCE, Status::No, begun),
+        ("demand", 0, ONCE, Status::No, none),
+        ("least --net", 9, NET, Status::Yes, erased),
+        ("demand --net", 9, NET, Status::Yes, none),
+        ("least --net", 9, CLOSED, Status::Yes, erased),
+        ("demand --net", 9, CLOSED, Status::Yes, none),
     ];
     for row in rows {
         assert_row(&rt, rt.alloc(), row)?;

@@ -68,8 +68,12 @@ fn assert_explained(
         .ok_or("no memory")?;
     let ended = bench(alloc, &asked, &mut src, &mut out, &mut errors);
     assert_eq!(rt; ended, status, "{wanted}");
-    assert!(rt; out.bytes() == wanted.as_bytes(), "{wanted}");
-    assert!(rt; errors.bytes().is_empty(), "{wanted}");
+    let (written, empty) = match status {
+        Status::Refused => (errors.bytes(), out.bytes()),
+        _ => (out.bytes(), errors.bytes()),
+    };
+    assert!(rt; written == wanted.as_bytes(), "{wanted}");
+    assert!(rt; empty.is_empty(), "{wanted}");
     Ok(())
 }
 
@@ -192,4 +196,29 @@ fn pairs_that_are_left_are_told(rt: HostRuntime) -> Result<(), Fail> {
             "run 2\ncross-croissant 3 4 1.1\n",
         ),
     )
+}
+
+#[test]
+fn a_cause_is_one_of_the_translation(rt: HostRuntime) -> Result<(), Fail> {
+    let text = "(\\x. x z) (\\y. y)";
+    let journal = "ol trace 2\nbeta 1 0 1\ncross-croissant 2 3 4\n";
+    let faces = "not a run at line 3\n3 faces slot 0 of 6\n";
+    let first = (Subject::Term(Translation::One), text);
+    assert_explained(&rt, rt.alloc(), first, (journal, Status::No, faces))?;
+    let left = "run 2\nbeta 3 2 1.2\ncross-croissant 3 5 1.1\n";
+    let second = (Subject::Term(Translation::Two), text);
+    assert_explained(&rt, rt.alloc(), second, (journal, Status::Yes, left))
+}
+
+#[test]
+fn a_file_is_refused_before_its_journal(rt: HostRuntime) -> Result<(), Fail> {
+    let term = ("", Status::Refused, "syntax at byte 2\n");
+    assert_explained(
+        &rt,
+        rt.alloc(),
+        (Subject::Term(Translation::One), "(x"),
+        term,
+    )?;
+    let net = ("", Status::Refused, "bad net at line 1\n");
+    assert_explained(&rt, rt.alloc(), (Subject::Net, "x"), net)
 }

@@ -6,6 +6,8 @@
 //! - `after`: rows of `after` over the fakes
 //! - `explain`: rows of `explain` over the fakes
 //! - `comparing`: two nets that are one up to numbers, and two that aren't
+//! - `limits`: rows of `steps` at the limits of terms
+//! - `outside`: `same` through `bench`, where a call of the source or of a sink fails
 #![tactic(auto)]
 
 #[cfg(test)]
@@ -16,3 +18,7 @@ mod commands;
 mod comparing;
 #[cfg(test)]
 mod explain;
+#[cfg(test)]
+mod limits;
+#[cfg(test)]
+mod outside;
