@@ -2,8 +2,9 @@
 ghost use Rattle.std.specs.Prelude.{◌≤◌, IfOk};
 ghost use Rattle.ol_bench.specs.Commands.{IsWithinBounds};
 
+use crate::fakes::file;
 use ol_bench::{Asked, Status, Subject, bench};
-use ol_io::{MemFile, MemSink, MemSource};
+use ol_io::{MemSink, MemSource};
 use ol_term::Translation;
 use std::alloc::{AllocError, Global};
 use std::process::Abort;
@@ -35,13 +36,6 @@ f0 1.2.0
 1.1 croissant 0 4.0 1.2.2
 1.2 lam 0 f0 1.0.1 1.1.1
 ";
-
-fn file(alloc: Global, name: &str, bytes: &str) -> Result<MemFile, AllocError> {
-    Ok(MemFile {
-        name: String::from_str(alloc, name)?,
-        bytes: Vec::from_slice(alloc, bytes.as_bytes())?,
-    })
-}
 
 // What is asked of the file and a journal.
 fn asked(alloc: Global, subject: Subject, lines: u32) -> Result<Asked, AllocError>

@@ -2,8 +2,9 @@
 ghost use Rattle.std.specs.Prelude.{IfOk};
 ghost use Rattle.ol_bench.specs.Commands.{IsWithinBounds};
 
+use crate::fakes::file;
 use ol_bench::{Asked, Status, Subject, bench};
-use ol_io::{MemFile, MemSink, MemSource};
+use ol_io::{MemSink, MemSource};
 use ol_term::Translation;
 use std::alloc::{AllocError, Global};
 use std::process::Abort;
@@ -27,13 +28,6 @@ const MANY_TOLD: &str =
 
 const JOURNAL: &str =
     "ol trace 2\nbeta 1 0 1\ncross-croissant 2 2 3\ncross-croissant 3 4 1.1\ncroissant 4 1.0 2.0\n";
-
-fn file(alloc: Global, name: &str, bytes: &str) -> Result<MemFile, AllocError> {
-    Ok(MemFile {
-        name: String::from_str(alloc, name)?,
-        bytes: Vec::from_slice(alloc, bytes.as_bytes())?,
-    })
-}
 
 // What is asked of the file and a journal.
 fn asked(alloc: Global, subject: Subject) -> Result<Asked, AllocError>

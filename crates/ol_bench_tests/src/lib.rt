@@ -5,6 +5,7 @@
 //! - `commands`: rows of each command over the fakes
 //! - `after`: rows of `after` over the fakes
 //! - `explain`: rows of `explain` over the fakes
+//! - `fakes`: files in memory
 //! - `comparing`: two nets that are one up to numbers, and two that aren't
 //! - `limits`: rows of `steps` at the limits of terms
 //! - `outside`: `same` through `bench`, where a call of the source or of a sink fails
@@ -18,6 +19,8 @@ mod commands;
 mod comparing;
 #[cfg(test)]
 mod explain;
+#[cfg(test)]
+mod fakes;
 #[cfg(test)]
 mod limits;
 #[cfg(test)]

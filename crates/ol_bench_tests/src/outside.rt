@@ -2,8 +2,9 @@
 ghost use Rattle.std.specs.Prelude.{IfOk};
 ghost use Rattle.ol_bench.specs.Commands.{IsWithinBounds};
 
+use crate::fakes::file;
 use ol_bench::{Asked, Status, bench};
-use ol_io::{MemFile, MemSink, MemSource};
+use ol_io::{MemSink, MemSource};
 use std::alloc::{AllocError, Global};
 use std::process::Abort;
 use std::test::Fail;
@@ -12,13 +13,6 @@ const WIRE: &str = "ol net 1\nfree 2\nlink f0 f1\n";
 
 // No call has this number.
 const NONE: u64 = 1_000;
-
-fn file(alloc: Global, name: &str, bytes: &str) -> Result<MemFile, AllocError> {
-    Ok(MemFile {
-        name: String::from_str(alloc, name)?,
-        bytes: Vec::from_slice(alloc, bytes.as_bytes())?,
-    })
-}
 
 fn asked(alloc: Global) -> Result<Asked, AllocError>
     ensures { IfOk result IsWithinBounds }
