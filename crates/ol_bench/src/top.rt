@@ -345,8 +345,8 @@ fn told<W: Sink>(sink: &mut W, text: &[u8], status: Status) -> Status
 /// - `Yes`: the answer is yes, or the command asks nothing that has a no. The answer was written to
 ///   `out`.
 /// - `No`: the answer is no. It was written to `out`; or, where there is nothing to show, the line
-///   that says why to `errors`: that a journal has fewer lines than were asked for, or that one of
-///   these isn't one of a run.
+///   that says why to `errors`: that a journal has fewer lines than were asked for, or a bad one
+///   among these.
 /// - `Refused`: a line was written to `errors`, and nothing to `out`. The line is `read fault`
 ///   where the source failed; `limit bytes 1048576`, `limit net 33554432` or
 ///   `limit journal 402653184` where a file has more bytes than that; or the one by which `ol`
