@@ -1,5 +1,6 @@
--- What comes of two files, by what comes of the second one where the first is known; and what is written.
-use Rattle.std.proofs.Common.{◌≡◌, ℕ, ◌<◌, ◌≤◌, ◌↔◌, ◌⊎◌, inl, inr, List, Option, length, subst, sym, ◌∙◌, Vec, Global, Ok, arith}
+-- What comes of two files, by what comes of the second one; and what is written of that.
+use Rattle.std.proofs.Common.{◌≡◌, ℕ, ◌<◌, ◌≤◌, ◌↔◌, ◌⊎◌, inl, inr, List, Option, length}
+use Rattle.std.proofs.Common.{subst, sym, ◌∙◌, Vec, Global, Ok, arith}
 use Rattle.std.specs.Result.{IsErrOf}
 use Rattle.ol_io.specs.declared.calls.ReadAll.{ReadAll}
 use Rattle.ol_io.specs.declared.calls.ReadAll.TheVariants.{TooLong}
@@ -17,7 +18,8 @@ pub is_short : (bytes : Vec ℕ Global) (given asked most : ℕ) → length byte
     IsErrOf {T = Vec ℕ Global} {E = ReadAll} (Ok bytes) TooLong ↔ (asked < given) → asked ≡ most →
     length bytes.items ≤ most
 is_short bytes given asked most counted h a =
-    elim (which asked given) [ inl past ↦ absurd (no (h.1 past)) | inr w ↦ omega (arith, counted, w, a) ]
+    elim (which asked given)
+    [ inl past ↦ absurd (no (h.1 past)) | inr w ↦ omega (arith, counted, w, a) ]
   where
     which : (asked given : ℕ) → (asked < given) ⊎ (given ≤ asked)
     which asked given = grind arith
@@ -27,7 +29,8 @@ is_short bytes given asked most counted h a =
 
 pub of_both : (asked : Asked) (file second : Option (List ℕ)) (faults mid faults' : ℕ)
     (bytes text : List ℕ) (e : End) → mid ≡ faults → IsAllWithin (most_of asked) file bytes →
-    IsCauseOnward asked bytes second mid faults' text e → IsCause asked file second faults faults' text e
+    IsCauseOnward asked bytes second mid faults' text e →
+    IsCause asked file second faults faults' text e
 of_both asked file second faults mid faults' bytes text e m all (fault r t) =
     cause.IsCause.fault (subst (λ f. Rose f faults') m r) t
 of_both asked file second faults mid faults' bytes text e m all (too_long s h l t) =

@@ -1,4 +1,4 @@
--- Private: words of private contracts alone: the answer where the bytes of the first file are known.
+-- Private: words of private contracts alone: the answer where the first file's bytes are known.
 use Rattle.std.specs.Prelude.{◌≡◌, ℕ, true, List, Option, codes}
 use Rattle.ol_io.specs.Outside.{Rose, IsLonger}
 use Rattle.ol_bench.specs.declared.answers.End.{End}

@@ -90,7 +90,8 @@ pub enum Status {
     /// a journal was asked and there is none, the line that says why to the sink of errors.
     No,
     /// A file couldn't be read, the only one or either of two; or it has too many bytes; or `ol`
-    /// refuses a file with a term or a net. The line that says so was written to the sink of errors.
+    /// refuses a file with a term or a net. The line that says so was written to the sink of
+    /// errors.
     Refused,
     /// The sink to which the text goes failed, and has taken its first bytes: not all of them, and
     /// maybe none. The other sink has taken nothing.

@@ -37,7 +37,8 @@ returns-in_ok-answer-in-Ok-clause-caused g c = λ files of.
     (g.S.Source.faults c.args.src.now) (g.S.Source.faults c.read_all.new.src)
     (g.S.Source.faults c.onward.new.src) c.in-Ok.bytes.items a.answer.text.items a.answer.end
     e.cause (
-      subst (λ name. IsAllOf (files 0 name) c.in-Ok.bytes.items) c.name_of.ensures (e.whole_of files both.0),
+      subst (λ name. IsAllOf (files 0 name) c.in-Ok.bytes.items) c.name_of.ensures
+          (e.whole_of files both.0),
       is_short c.in-Ok.bytes (g.S.Source.given c.read_all.new.src) c.most_of.result
           (most_of c.args.asked.now) e.counted e.too_long c.most_of.ensures,
     )
