@@ -85,9 +85,10 @@ def prove_all(names, lanes, count, start):
         stop("not every crate is proved: above is what `rt` printed last; `rt check` in a crate's folder says more.")
 
 
-def build(crate, lanes):
-    """Builds the program over what is proved. Without words it prints how it is used, and fails."""
-    ran = subprocess.run(['rt', 'run', '--jobs', str(lanes)], cwd=f'{TOP}/crates/{crate}', stdin=subprocess.DEVNULL, stdout=subprocess.PIPE,
+def build(crate):
+    """Builds the program over what is proved, by one process: most of the time is reading the libraries, which each process would do.
+    Without words the program prints how it is used, and fails."""
+    ran = subprocess.run(['rt', 'run', '--jobs', '1'], cwd=f'{TOP}/crates/{crate}', stdin=subprocess.DEVNULL, stdout=subprocess.PIPE,
                          stderr=subprocess.STDOUT, text=True, errors='replace')
     if ran.returncode != 0 and not re.search(r'(?im)^usage: ', ran.stdout):
         print(ran.stdout)
@@ -104,7 +105,7 @@ def main():
     count = len(below) + 1
     tell(f'{count} crates, by at most {lanes} processes.')
     prove_all(below, lanes, count, start)
-    build(crate, lanes)
+    build(crate)
     program = f'{TOP}/crates/{crate}/out/{crate}'
     os.utime(program)
     tell(f'{count:2} of {count} {clock(start)}  {crate}')
