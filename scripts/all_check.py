@@ -4,7 +4,8 @@ As it is, `rt all check` first reads the sources of each program and of each cra
 with them before any proof, which takes over five minutes here from nothing; a crate that waits for those below it holds one of the
 places; and each crate is proved by one process. Here other crates than those that are named aren't proved; at most JOBS processes prove
 at one time; of the crates that could be proved that one comes first which has the longest chain of others behind it; and where fewer
-crates could be proved than there are processes left, each gets a part of these. Of a crate that several processes prove nothing is kept
+crates could be proved than there are processes left, each gets a part of these, and at most two where less than 12 GB of memory are free
+(`ol_cli` by four takes 8.5 GB, by two 6.2). Of a crate that several processes prove nothing is kept
 but the whole, since keeping what each proved costs more than it saves. What is proved, and how, is `rt`'s.
 """
 import contextlib
@@ -18,6 +19,7 @@ path, jobs, names = os.path.realpath(sys.argv[1]), int(sys.argv[2]), sys.argv[3:
 main = runpy.run_path(path, run_name='rt')['main']
 rt = main.__globals__
 crate, share_work = rt['rtlib'].Crate, rt['share_work']
+ROOMY = 12  # GB of free memory, with which more than two processes may prove one crate
 OWN = threading.local()  # how many processes prove the crate that this thread is about
 
 
@@ -28,6 +30,12 @@ def chains():
     for it in sorted(crates, key=lambda it: -len(it.below())):
         behind[it.name] = it.count(rb'\n') + max((behind[other.name] for other in crates if it in other.below()), default=0)
     return behind
+
+
+def is_roomy():
+    with open('/proc/meminfo', encoding='ascii') as file:
+        sizes = dict(line.split(':') for line in file)
+    return int(sizes['MemAvailable'].split()[0]) >= ROOMY * 10**6
 
 
 class Places:
@@ -44,6 +52,7 @@ class Places:
         with self.turn:
             self.turn.wait_for(lambda: self.free > 0 and name == max(self.ready, key=self.behind.get))
             mine = max(1, self.free // len(self.ready))
+            mine = mine if is_roomy() else min(mine, 2)
             self.ready.remove(name)
             self.free -= mine
             self.turn.notify_all()
