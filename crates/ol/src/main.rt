@@ -2,20 +2,15 @@
 #![tactic(auto)]
 
 ghost use Rattle.std.specs.Prelude.{◌≡◌, ◌≢◌, ◌<◌, ◌≤◌, ◌⊎◌, ◌∷◌, ℕ, true, List, [], Some, codes};
-ghost use Rattle.ol_io.specs.Readings.{handed, reading};
+ghost use Rattle.ol_io.specs.Readings.{AreOfSince, handed, reading};
 ghost use Rattle.ol_parse.specs.Grammar.{Named};
 ghost use Rattle.ol_parse.specs.Texts.{IsText};
 ghost use Rattle.ol_lines.specs.NormalForms.{BeginsReduced};
-ghost use Rattle.ol_cli.specs.NormalForms.{PlainDemandSays, FirstLine, IsFoundWithin};
-ghost use Rattle.ol_cli.specs.NormalForms.{CountsSay, IsNoMoreThanLeftmost, AreFamilies};
-ghost use Rattle.ol_cli.specs.Jobs.{OfReadFiles, TellsTerm, TellsFiles, files_of};
-ghost use Rattle.ol_cli.specs.NormalForms.{LineSays, IsItsNormalForm, TellsOfNone};
-ghost use Rattle.ol_cli.specs.NormalForms.{IsFoundOnDemand, LineSaysOfTwo};
+ghost use Rattle.ol_cli.specs.Jobs.{Files, files_of};
 ghost use Rattle.ol_cli.specs.NormalForms.{ArePlain};
-ghost use Rattle.ol_cli.specs.NormalForms.{PlainEqualSays, PlainLineSays};
-ghost use Rattle.ol_cli.specs.Answers.{IsAnswer};
-ghost use Rattle.ol_cli.specs.Completeness.{AskForWhatCanBeDone, IsDoneOrNothing};
-ghost use Rattle.ol_cli.specs.Sources.{EveryRunTells, WritesTree};
+ghost use Rattle.ol_cli.specs.Answers.{Ends, HasCause, IsAnswer};
+ghost use Rattle.ol_cli.specs.Called.{first_seen};
+ghost use Rattle.ol_cli.specs.Says.{SaysWhenDone, SaysOfAnswer};
 
 use ol_cli::{Status, ol};
 use ol_io::{OpenGate, Sink, Source, StdSink, StdSource};
@@ -51,64 +46,40 @@ fn run<'a, R: Files + Input + Print + Threads + Wait + Sync>(
         → (taken : List ℕ) → ⟦<StdSink<'a, R> as Sink>⟧.taken result.out ≡ Some taken
         → (source : Named) → IsText bytes source → BeginsReduced source taken }
 
-    // What is said of files holds of any files that the readings of this call are of: a reading has
-    // all bytes of the file of its name where its end was seen, and else its first.
+    // What is said of files below holds of any files that the readings of this call are of: a
+    // reading has all bytes of the file of its name where its end was seen, and else its first.
     //
-    // In the words of terms alone, where the status is `Done`: the first line that standard output
-    // accepted is, where it is a text of a term, the normal form of the term in the file; and where
-    // `run` or `demand` has put a `?` in it, that term has none.
-    ensures plain { result.status ≡ Status.Done
-        → OfReadFiles [] (⟦<StdSource<'a, R> as Source>⟧.readings result.src) (λ files.
-        PlainLineSays words.now.items files (Some [])
-        (⟦<StdSink<'a, R> as Sink>⟧.taken result.out)) }
+    // Where the status is `Done`, all that `SaysWhenDone` lists holds of what standard output
+    // accepted: `plain` and four more in the words of terms alone, then the same of all words.
+    ensures done_says { result.status ≡ Status.Done
+        → (files : Files) → AreOfSince files [] (⟦<StdSource<'a, R> as Source>⟧.readings result.src)
+        → SaysWhenDone words.now.items files
+        (Some []) (⟦<StdSink<'a, R> as Sink>⟧.taken result.out) }
 
-    // After `ol demand NAME` it is a text of the normal form, where there is one and variables
-    // stand in at most 4,096 places of it, and the `beta` is no more than the redexes that leftmost
-    // reduction contracts on its way to it, nor than the families among these, told by Lévy's
-    // labels. And where the line is a text of a term it is the number of these families. After
-    // `ol equal A B` the line is `equal` only where the two terms are convertible, and begins with
-    // `different` only where they aren't.
-    ensures plain_demand { result.status ≡ Status.Done
-        → OfReadFiles [] (⟦<StdSource<'a, R> as Source>⟧.readings result.src) (λ files.
-        PlainDemandSays (λ source. FirstLine (IsFoundWithin 4096 source))
-        words.now.items files (Some [])
-        (⟦<StdSink<'a, R> as Sink>⟧.taken result.out)) }
-    ensures plain_frugal { result.status ≡ Status.Done
-        → OfReadFiles [] (⟦<StdSource<'a, R> as Source>⟧.readings result.src) (λ files.
-        PlainDemandSays (λ source. CountsSay (λ line. IsNoMoreThanLeftmost source))
-        words.now.items files (Some [])
-        (⟦<StdSink<'a, R> as Sink>⟧.taken result.out)) }
-    ensures plain_optimal { result.status ≡ Status.Done
-        → OfReadFiles [] (⟦<StdSource<'a, R> as Source>⟧.readings result.src) (λ files.
-        PlainDemandSays (λ source. CountsSay (AreFamilies source))
-        words.now.items files (Some [])
-        (⟦<StdSink<'a, R> as Sink>⟧.taken result.out)) }
-    ensures plain_equal { result.status ≡ Status.Done
-        → OfReadFiles [] (⟦<StdSource<'a, R> as Source>⟧.readings result.src) (λ files.
-        PlainEqualSays words.now.items files (Some [])
-        (⟦<StdSink<'a, R> as Sink>⟧.taken result.out)) }
+    // Where nothing failed, whatever the status: what was accepted is the answer, a job that can be
+    // done is done, and each complete run tells the same (`exact`, `completeness`, `every_run`).
+    ensures answer_says { ⟦<StdSource<'a, R> as Source>⟧.faults result.src ≡ 0
+        → ⟦<StdSink<'a, R> as Sink>⟧.faults result.out ≡ 0
+        → (files : Files) → AreOfSince files [] (⟦<StdSource<'a, R> as Source>⟧.readings result.src)
+        → SaysOfAnswer words.now.items files result.status
+        (Some []) (⟦<StdSink<'a, R> as Sink>⟧.taken result.out) }
 
-    // The same with any options.
-    ensures normal_form { result.status ≡ Status.Done
-        → OfReadFiles [] (⟦<StdSource<'a, R> as Source>⟧.readings result.src) (λ files.
-        (bytes : List ℕ) → TellsTerm (files 0) words.now.items bytes
-        → LineSays IsItsNormalForm words.now.items bytes (Some [])
-        (⟦<StdSink<'a, R> as Sink>⟧.taken result.out)) }
-    ensures no_normal_form { result.status ≡ Status.Done
-        → OfReadFiles [] (⟦<StdSource<'a, R> as Source>⟧.readings result.src) (λ files.
-        (bytes : List ℕ) → TellsTerm (files 0) words.now.items bytes
-        → LineSays TellsOfNone words.now.items bytes (Some [])
-        (⟦<StdSink<'a, R> as Sink>⟧.taken result.out)) }
-    ensures demanded { result.status ≡ Status.Done
-        → OfReadFiles [] (⟦<StdSource<'a, R> as Source>⟧.readings result.src) (λ files.
-        (bytes : List ℕ) → TellsTerm (files 0) words.now.items bytes
-        → LineSays IsFoundOnDemand words.now.items bytes (Some [])
-        (⟦<StdSink<'a, R> as Sink>⟧.taken result.out)) }
-    ensures two_terms { result.status ≡ Status.Done
-        → OfReadFiles [] (⟦<StdSource<'a, R> as Source>⟧.readings result.src) (λ files.
-        TellsFiles files words.now.items
-        → LineSaysOfTwo words.now.items files (Some [])
-        (⟦<StdSink<'a, R> as Sink>⟧.taken result.out)) }
+    // The answer is that to the bytes that were handed over, whatever any file holds.
+    ensures handed { ⟦<StdSource<'a, R> as Source>⟧.faults result.src ≡ 0
+        → ⟦<StdSink<'a, R> as Sink>⟧.faults result.out ≡ 0 → result.status ≢ Status.NoMemory
+        → (text : List ℕ)
+        × IsAnswer words.now.items (handed (⟦<StdSource<'a, R> as Source>⟧.readings result.src))
+        result.status text
+        × (⟦<StdSink<'a, R> as Sink>⟧.taken result.out ≡ Some text) }
+
+    // Whatever failed: each status has its cause, and standard output accepted its text, or a prefix
+    // of it where it failed. With `NoMemory` it accepted nothing.
+    ensures ends { (files : Files)
+        → AreOfSince files [] (⟦<StdSource<'a, R> as Source>⟧.readings result.src)
+        → Ends (HasCause words.now.items
+        (first_seen ⟦<StdSource<'a, R> as Source>⟧ files result.src)) result.status
+        0 (⟦<StdSink<'a, R> as Sink>⟧.faults result.out)
+        (Some []) (⟦<StdSink<'a, R> as Sink>⟧.taken result.out) }
 
     // `Done` of a job with a file comes after the end of the input was seen, and no call failed. As
     // many names are begun at most as the job has files.
@@ -117,41 +88,6 @@ fn run<'a, R: Files + Input + Print + Threads + Wait + Sync>(
         × (⟦<StdSink<'a, R> as Sink>⟧.faults result.out ≡ 0)
         × (0 < files_of words.now.items → ⟦<StdSource<'a, R> as Source>⟧.ended result.src ≡ true) }
     ensures begins { ⟦<StdSource<'a, R> as Source>⟧.begins result.src ≤ files_of words.now.items }
-
-    // Where nothing failed, what was accepted is the answer: to any files that the readings are of,
-    // where their bytes are told, and to what was handed over.
-    ensures exact { ⟦<StdSource<'a, R> as Source>⟧.faults result.src ≡ 0
-        → ⟦<StdSink<'a, R> as Sink>⟧.faults result.out ≡ 0 → result.status ≢ Status.NoMemory
-        → OfReadFiles [] (⟦<StdSource<'a, R> as Source>⟧.readings result.src) (λ files.
-        TellsFiles files words.now.items → (text : List ℕ)
-        × IsAnswer words.now.items files result.status text
-        × (⟦<StdSink<'a, R> as Sink>⟧.taken result.out ≡ Some text)) }
-    ensures handed { ⟦<StdSource<'a, R> as Source>⟧.faults result.src ≡ 0
-        → ⟦<StdSink<'a, R> as Sink>⟧.faults result.out ≡ 0 → result.status ≢ Status.NoMemory
-        → (text : List ℕ)
-        × IsAnswer words.now.items (handed (⟦<StdSource<'a, R> as Source>⟧.readings result.src))
-        result.status text
-        × (⟦<StdSink<'a, R> as Sink>⟧.taken result.out ≡ Some text) }
-
-    // And what holds of an answer's text holds of it: what the job's own term says of it, what
-    // every complete run tells of it, and that what can be done is done.
-    ensures tree { result.status ≡ Status.Done
-        → OfReadFiles [] (⟦<StdSource<'a, R> as Source>⟧.readings result.src) (λ files.
-        (bytes : List ℕ) → TellsTerm (files 0) words.now.items bytes
-        → WritesTree words.now.items bytes (Some [])
-        (⟦<StdSink<'a, R> as Sink>⟧.taken result.out)) }
-    ensures every_run { ⟦<StdSource<'a, R> as Source>⟧.faults result.src ≡ 0
-        → ⟦<StdSink<'a, R> as Sink>⟧.faults result.out ≡ 0 → result.status ≢ Status.NoMemory
-        → OfReadFiles [] (⟦<StdSource<'a, R> as Source>⟧.readings result.src) (λ files.
-        (bytes : List ℕ) → TellsTerm (files 0) words.now.items bytes
-        → EveryRunTells words.now.items bytes result.status (Some [])
-        (⟦<StdSink<'a, R> as Sink>⟧.taken result.out)) }
-    ensures completeness { ⟦<StdSource<'a, R> as Source>⟧.faults result.src ≡ 0
-        → ⟦<StdSink<'a, R> as Sink>⟧.faults result.out ≡ 0
-        → OfReadFiles [] (⟦<StdSource<'a, R> as Source>⟧.readings result.src) (λ files.
-        AskForWhatCanBeDone words.now.items files
-        → IsDoneOrNothing words.now.items files result.status (Some [])
-        (⟦<StdSink<'a, R> as Sink>⟧.taken result.out)) }
 {
     let mut src = StdSource::new(rt);
     let mut out = StdSink::new(rt);

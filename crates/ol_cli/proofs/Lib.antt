@@ -31,6 +31,8 @@ mod MadeJobs
 mod TwoFiles
 mod FilesRead
 mod Called
+mod Frame
+mod Saying
 mod JournalFound
 mod Traced
 mod WavesKept

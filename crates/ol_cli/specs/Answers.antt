@@ -93,21 +93,6 @@ pub record Seen : Type 0 where
   pub given : ℕ
   pub ended : Bool
 
--- the same, by what a source tells of itself before the call and after, where the files have these bytes
-abbrev pub seen_of : {S : Type 0} → (faults : S → ℕ) → Files → (given : S → ℕ) →
-    (ended : S → Bool) → (old new : S) → Seen
-seen_of faults files given ended old new = record {
-  faults = faults old;
-  faults' = faults new;
-  contents = files;
-  given = given new;
-  ended = ended new;
-}
-
--- this holds where neither the source nor the sink failed, by their counts of faults
-abbrev pub IfNoneFailed : (source source' sink sink' : ℕ) → Type 0 → Type 0
-IfNoneFailed source source' sink sink' P = (Rose source source' → ⊥) → (Rose sink sink' → ⊥) → P
-
 -- These are all bytes of the name at its place, where the source tells them. It gave them last, to
 -- their end and at most so many; or it gave more than so many, as there are more.
 abbrev pub Gave : Seen → (place : ℕ) → Text → (most : ℕ) → List ℕ → Type 0

@@ -3,7 +3,6 @@ use Rattle.std.specs.Prelude.{◌≡◌, ℕ, true, false, Bool, Option, None, S
 use Rattle.std.specs.Prelude.{slice_index_or}
 use Rattle.std.specs.declared.alloc.Global.{Global}
 use Rattle.std.specs.Option.{option_map_or}
-use Rattle.ol_io.specs.Readings.{Reading, AreOfSince}
 use Rattle.ol_term.specs.declared.translations.Translation.{Translation}
 use Rattle.ol_term.specs.Generated.{doubled_text}
 use Rattle.ol_words.specs.Texts.{Text}
@@ -63,10 +62,6 @@ IsKnownTo knows words = (asked : Asked) → AskFor words asked → EachName aske
 -- the bytes that names have at each reading of a call, the first of which has the number 0
 abbrev pub Files : Type 0
 Files = ℕ → Text → Option (List ℕ)
-
--- this holds of any files of which the readings are that were made between these two moments
-abbrev pub OfReadFiles : (old new : List Reading) → (Files → Type 0) → Type 0
-OfReadFiles old new Says = (files : Files) → AreOfSince files old new → Says files
 
 -- the bytes of each file of a job are told, those of its second file at the second reading
 abbrev pub AreTold : Files → Asked → Type 0

@@ -18,6 +18,7 @@ pub mod Check
 pub mod Equal
 pub mod Generate
 pub mod Answers
+pub mod Called
 pub mod Sources
 pub mod SourceLaws
 pub mod NormalForms
@@ -25,6 +26,7 @@ pub mod DemandFuel
 pub mod Laws
 pub mod Handed
 pub mod Completeness
+pub mod Says
 -- What only contracts of private functions and proofs cite.
 pub mod RefusalTexts
 pub mod Cases

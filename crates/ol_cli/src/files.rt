@@ -1,8 +1,7 @@
 //! One file read to its end, under the limit of its kind, or the answer that refuses it.
-ghost use Rattle.std.specs.Prelude.{◌≡◌, ◌≤◌, ◌+◌, ◌∷◌, true, IfOk};
-ghost use Rattle.ol_io.specs.Readings.{Reading, AreOfSince};
-ghost use Rattle.ol_cli.specs.Jobs.{OfReadFiles};
-ghost use Rattle.ol_cli.specs.Answers.{seen_of};
+ghost use Rattle.std.specs.Prelude.{◌≡◌, ◌∷◌, true, IfOk};
+ghost use Rattle.ol_io.specs.Readings.{Reading};
+ghost use Rattle.ol_cli.specs.Called.{ReadsAtMost, OfFilesRead, seen_of};
 ghost use Rattle.ol_cli.specs.Files.{most_bytes, limit_text, ComesOfFile, IsShort};
 
 use crate::answer::{Answer, refusal};
@@ -66,15 +65,12 @@ pub fn read_file<S: Source>(
     src: &mut S,
 ) -> Result<File, NoMemory>
     requires known { S.knows src.old name.now ≡ true }
-    ensures comes { OfReadFiles (S.readings src.old) (S.readings src.new) (λ files.
+    ensures comes { OfFilesRead S.Source src.old src.new (λ files.
         IfOk result (ComesOfFile kind
-        (seen_of S.faults files S.given S.ended src.old src.new) name.now)) }
+        (seen_of S.Source files src.old src.new) name.now)) }
     ensures short { IfOk result (IsShort kind) }
     ensures one { (r : Reading) × (S.readings src.new ≡ r ∷ S.readings src.old) }
-    ensures begins { S.begins src.new ≤ S.begins src.old + 1 }
-    ensures knows { S.knows src.new ≡ S.knows src.old }
-    ensures contents { S.contents src.new ≡ S.contents src.old }
-    ensures told { AreOfSince (λ _. S.contents src.old) (S.readings src.old) (S.readings src.new) }
+    ensures source { ReadsAtMost S.Source 1 src.old src.new }
 {
     match read_all(alloc, src, name, kind.most() as usize) {
         Err(ReadAll::NoMemory) => Err(NoMemory),

@@ -1,5 +1,5 @@
 //! The limits of what is read, made ready and printed, and the numbers of `run` without options.
-//! Clauses have them from here, by specs/Limits.antt.
+//! Clauses have these numbers from specs/Limits.antt, where they stand as numerals.
 
 /// The greatest number of bytes of a term file.
 pub const MOST_TERM_BYTES: u32 = 1_048_576;

@@ -1,9 +1,8 @@
 //! A term file made ready: from its name, or its bytes, to the net of its term.
-ghost use Rattle.std.specs.Prelude.{◌≡◌, List, ℕ, ◌≤◌, ◌+◌, ◌∷◌, length, true, IfOk};
-ghost use Rattle.ol_io.specs.Readings.{Reading, AreOfSince};
+ghost use Rattle.std.specs.Prelude.{◌≡◌, List, ℕ, ◌≤◌, ◌∷◌, length, true, IfOk};
+ghost use Rattle.ol_io.specs.Readings.{Reading};
 ghost use Rattle.ol_term.specs.declared.translations.Translation.{Translation};
-ghost use Rattle.ol_cli.specs.Jobs.{OfReadFiles};
-ghost use Rattle.ol_cli.specs.Answers.{seen_of};
+ghost use Rattle.ol_cli.specs.Called.{ReadsAtMost, OfFilesRead, seen_of};
 ghost use Rattle.ol_cli.specs.Ready.{ComesOfTerm, IsMadeReady, IsNetReady, Refuses};
 ghost use Rattle.ol_cli.specs.Limits.{most_term_bytes};
 
@@ -37,15 +36,12 @@ pub fn read_term<S: Source>(
     src: &mut S,
 ) -> Result<Ready, NoMemory>
     requires known { S.knows src.old name.now ≡ true }
-    ensures comes { OfReadFiles (S.readings src.old) (S.readings src.new) (λ files.
+    ensures comes { OfFilesRead S.Source src.old src.new (λ files.
         IfOk result (ComesOfTerm translation
-        (seen_of S.faults files S.given S.ended src.old src.new) name.now)) }
+        (seen_of S.Source files src.old src.new) name.now)) }
     ensures net { IfOk result (IsNetReady translation) }
     ensures one { (r : Reading) × (S.readings src.new ≡ r ∷ S.readings src.old) }
-    ensures begins { S.begins src.new ≤ S.begins src.old + 1 }
-    ensures knows { S.knows src.new ≡ S.knows src.old }
-    ensures contents { S.contents src.new ≡ S.contents src.old }
-    ensures told { AreOfSince (λ _. S.contents src.old) (S.readings src.old) (S.readings src.new) }
+    ensures source { ReadsAtMost S.Source 1 src.old src.new }
 {
     let file = read_file(alloc, FileKind::Term, name, src)?;
     match file {

@@ -1,21 +1,14 @@
 //! The top call.
 ghost use Rattle.std.specs.Prelude.{List, ◌++◌, ℕ, ◌≢◌, ◌≤◌, ◌+◌, ◌≡◌, ◌<◌, ◌⊎◌, true, IfOk};
 ghost use Rattle.ol_io.specs.Outside.{Rose, Appended};
-ghost use Rattle.ol_io.specs.Readings.{Reading, AreOfSince, handed};
+ghost use Rattle.ol_io.specs.Readings.{Reading, handed};
 ghost use Rattle.ol_words.specs.declared.jobs.Job.{Job as Asked};
-ghost use Rattle.ol_cli.specs.NormalForms.{PlainDemandSays, FirstLine, IsFoundWithin};
-ghost use Rattle.ol_cli.specs.NormalForms.{CountsSay, IsNoMoreThanLeftmost, AreFamilies};
-ghost use Rattle.ol_cli.specs.Jobs.{AskFor, AskForNothing, EachName, IsKnownTo, OfReadFiles};
-ghost use Rattle.ol_cli.specs.Jobs.{TellsTerm, TellsFiles, count_of_files, files_of};
+ghost use Rattle.ol_cli.specs.Jobs.{AskFor, AskForNothing, EachName, IsKnownTo};
+ghost use Rattle.ol_cli.specs.Jobs.{count_of_files, files_of};
 ghost use Rattle.ol_cli.specs.Inside.{ComesOf, ComesOfWords, IsWithinLimits, Writes};
-ghost use Rattle.ol_cli.specs.Answers.{IfNoneFailed, seen_of, Ends, HasCause};
-ghost use Rattle.ol_cli.specs.Answers.{IsAnswer, RefusesFirst};
-ghost use Rattle.ol_cli.specs.Completeness.{AskForWhatCanBeDone, IsDoneOrNothing};
-ghost use Rattle.ol_cli.specs.Sources.{EveryRunTells, WritesTree};
-ghost use Rattle.ol_cli.specs.NormalForms.{LineSays, IsItsNormalForm, TellsOfNone, IsFoundOnDemand, LineSaysOfTwo};
-ghost use Rattle.ol_cli.specs.NormalForms.{PlainEqualSays};
-ghost use Rattle.ol_cli.specs.NormalForms.{PlainLineSays};
-ghost use Rattle.ol_cli.specs.SourceLaws.{WritesOfSources};
+ghost use Rattle.ol_cli.specs.Answers.{Ends, HasCause, IsAnswer, RefusesFirst};
+ghost use Rattle.ol_cli.specs.Called.{ReadsAtMost, OfFilesRead, IfNoneFailed, WhereNoneFailed, seen_of};
+ghost use Rattle.ol_cli.specs.Says.{SaysWhenDone, SaysOfAnswer};
 ghost use Rattle.ol_cli.specs.Handed.{Hands};
 
 use crate::answer::Answer;
@@ -154,168 +147,43 @@ pub fn ol<R: Threads + Wait + Sync, S: Source, W: Sink, G: Gate + Sync>(
     // The source knows the names of the job's files.
     requires known { IsKnownTo (S.knows src.old) words.now.items }
 
+    // It begins as many names at most as the job has files. The source knows the names that it knew
+    // and has the bytes that it had, so `ol` can be called again.
+    ensures source { ReadsAtMost S.Source (files_of words.now.items) src.old src.new }
+
     // What is said of files below holds of any files that the readings of this call are of: of
     // those whose bytes the source tells, and of those that the readings make (`handed`).
-    ensures told { AreOfSince (λ _. S.contents src.old) (S.readings src.old) (S.readings src.new) }
+    //
+    // Where nothing fails and the status is `Done`, all that `SaysWhenDone` lists holds of what was
+    // written: `plain` and four more in the words of terms alone, then the same of all words.
+    ensures done_says { WhereNoneFailed S.Source W.Sink src.old src.new out.old out.new
+        (λ files old new. result.status ≡ Status.Done → SaysWhenDone words.now.items files old new) }
 
-    // In the words of terms alone, for the words `ol run NAME`, `ol demand NAME` and `ol walk
-    // NAME`: where the first line that is written is a text of a term, that term is the normal form
-    // of the term in the file; and where `run` or `demand` has put a `?` in it, the latter has none.
-    ensures plain { OfReadFiles (S.readings src.old) (S.readings src.new) (λ files.
-        IfNoneFailed (S.faults src.old) (S.faults src.new) (W.faults out.old) (W.faults out.new)
-        (result.status ≡ Status.Done
-        → PlainLineSays words.now.items files (W.taken out.old) (W.taken out.new))) }
+    // Where nothing fails, whatever the status: what was written is the answer, a job that can be
+    // done is done, and each complete run tells the same (`exact`, `completeness`, `every_run`).
+    ensures answer_says { WhereNoneFailed S.Source W.Sink src.old src.new out.old out.new
+        (λ files. SaysOfAnswer words.now.items files result.status) }
 
-    // And after `ol demand NAME` that line is a text of the normal form of the term in the file,
-    // where there is one and variables stand in at most 4,096 places of it.
-    ensures plain_demand { OfReadFiles (S.readings src.old) (S.readings src.new) (λ files.
-        IfNoneFailed (S.faults src.old) (S.faults src.new) (W.faults out.old) (W.faults out.new)
-        (result.status ≡ Status.Done
-        → PlainDemandSays (λ source. FirstLine (IsFoundWithin 4096 source))
-        words.now.items files (W.taken out.old) (W.taken out.new))) }
-
-    // And its `beta` is no more than the number of redexes that leftmost reduction of the term in
-    // the file contracts on its way to a normal form.
-    ensures plain_frugal { OfReadFiles (S.readings src.old) (S.readings src.new) (λ files.
-        IfNoneFailed (S.faults src.old) (S.faults src.new) (W.faults out.old) (W.faults out.new)
-        (result.status ≡ Status.Done
-        → PlainDemandSays (λ source. CountsSay (λ line. IsNoMoreThanLeftmost source))
-        words.now.items files (W.taken out.old) (W.taken out.new))) }
-
-    // Nor is it more than the number of families among these redexes, told by Lévy's labels. And
-    // where the line is a text of a term it is that number. (By a theorem of Lévy's, which isn't
-    // proved here, no way of contracting whole families at once leads to the normal form by fewer.)
-    ensures plain_optimal { OfReadFiles (S.readings src.old) (S.readings src.new) (λ files.
-        IfNoneFailed (S.faults src.old) (S.faults src.new) (W.faults out.old) (W.faults out.new)
-        (result.status ≡ Status.Done
-        → PlainDemandSays (λ source. CountsSay (AreFamilies source))
-        words.now.items files (W.taken out.old) (W.taken out.new))) }
-
-    // After `ol equal A B` the line is `equal` only where the terms in the two files are
-    // convertible, and begins with `different` only where they aren't. Beta reduction alone counts,
-    // and free names are the same where their bytes are.
-    ensures plain_equal { OfReadFiles (S.readings src.old) (S.readings src.new) (λ files.
-        IfNoneFailed (S.faults src.old) (S.faults src.new) (W.faults out.old) (W.faults out.new)
-        (result.status ≡ Status.Done
-        → PlainEqualSays words.now.items files (W.taken out.old) (W.taken out.new))) }
-
-    // The same of all words: where `run`, `walk`, `demand` or `gen --run` is done, and the first
-    // line that is written is a text of a term, that term is the normal form of the job's own term.
-    ensures normal_form { OfReadFiles (S.readings src.old) (S.readings src.new) (λ files.
-        (bytes : List ℕ) → TellsTerm (files 0) words.now.items bytes
-        → IfNoneFailed (S.faults src.old) (S.faults src.new) (W.faults out.old) (W.faults out.new)
-        (result.status ≡ Status.Done → LineSays IsItsNormalForm words.now.items bytes
-        (W.taken out.old) (W.taken out.new))) }
-
-    // Where a `?` stands on the line that `run`, `demand` or `gen --run` writes, the job's own term
-    // has no normal form.
-    ensures no_normal_form { OfReadFiles (S.readings src.old) (S.readings src.new) (λ files.
-        (bytes : List ℕ) → TellsTerm (files 0) words.now.items bytes
-        → IfNoneFailed (S.faults src.old) (S.faults src.new) (W.faults out.old) (W.faults out.new)
-        (result.status ≡ Status.Done → LineSays TellsOfNone words.now.items bytes
-        (W.taken out.old) (W.taken out.new))) }
-
-    // And where the job's own term has a normal form, with no more variables than there are heads
-    // that `demand` was asked for, that is the term that `demand` writes.
-    ensures demanded { OfReadFiles (S.readings src.old) (S.readings src.new) (λ files.
-        (bytes : List ℕ) → TellsTerm (files 0) words.now.items bytes
-        → IfNoneFailed (S.faults src.old) (S.faults src.new) (W.faults out.old) (W.faults out.new)
-        (result.status ≡ Status.Done → LineSays IsFoundOnDemand words.now.items bytes
-        (W.taken out.old) (W.taken out.new))) }
-
-    // Where `equal` writes `equal`, the terms of its two files are convertible, and where it writes
-    // `different`, they aren't. Free names are the same where their bytes are.
-    ensures two_terms { OfReadFiles (S.readings src.old) (S.readings src.new) (λ files.
-        TellsFiles files words.now.items
-        → IfNoneFailed (S.faults src.old) (S.faults src.new) (W.faults out.old) (W.faults out.new)
-        (result.status ≡ Status.Done → LineSaysOfTwo words.now.items files
-        (W.taken out.old) (W.taken out.new))) }
-
-    // Each status has its cause, and its text is appended whole, or a prefix of it where the sink
-    // failed.
-    ensures ends { OfReadFiles (S.readings src.old) (S.readings src.new) (λ files.
-        Ends (HasCause words.now.items
-        (seen_of S.faults files S.given S.ended src.old src.new)) result.status
-        (W.faults out.old) (W.faults out.new) (W.taken out.old) (W.taken out.new)) }
-
-    // Where the bytes of the job's files are told and nothing fails, the status and the text are
-    // those of the answer.
-    ensures exact { OfReadFiles (S.readings src.old) (S.readings src.new) (λ files.
-        TellsFiles files words.now.items
-        → IfNoneFailed (S.faults src.old) (S.faults src.new) (W.faults out.old) (W.faults out.new)
-        (result.status ≢ Status.NoMemory
-        → (text : List ℕ) × IsAnswer words.now.items files result.status text
-        × Appended (W.taken out.old) text (W.taken out.new))) }
-
-    // So it is of the bytes that were handed over, whatever any file holds: some readings were
-    // made, and where nothing fails, the status and the text are those of the answer to them.
+    // The answer is that to the bytes that were handed over, whatever any file holds: some readings
+    // were made, and where nothing fails, the status and the text are those of the answer to them.
     ensures handed { (rs : List Reading) × (S.readings src.new ≡ rs ++ S.readings src.old)
-        × IfNoneFailed (S.faults src.old) (S.faults src.new) (W.faults out.old) (W.faults out.new)
+        × IfNoneFailed S.Source W.Sink src.old src.new out.old out.new
         (result.status ≢ Status.NoMemory
         → (text : List ℕ) × IsAnswer words.now.items (handed rs) result.status text
         × Appended (W.taken out.old) text (W.taken out.new)) }
 
-    // Where the words ask for a job that can be done, its files being within the limits and in the
-    // grammar and its run ending within the fuel, and where nothing fails, the job is done and its
-    // answer's text written, or no memory was found and nothing was written.
-    ensures completeness { OfReadFiles (S.readings src.old) (S.readings src.new) (λ files.
-        AskForWhatCanBeDone words.now.items files
-        → IfNoneFailed (S.faults src.old) (S.faults src.new) (W.faults out.old) (W.faults out.new)
-        (IsDoneOrNothing words.now.items files
-        result.status (W.taken out.old) (W.taken out.new))) }
-
-    // And where `run`, `walk`, `demand` or `gen --run` is done, this holds of the job's own term
-    // and the tree whose text is written, each place of which has a head, is a `?` or is a `...`.
-    //
-    // - Each head is the one that paths of any length give in the untouched net of the term. Where
-    //   `run`, `demand` or `gen --run` prints a `...` in a place that was asked for, no path gives
-    //   one: so a place that has a head is cut by `--heads` alone.
-    // - Beta reduction leads from the term to the tree's term, with some term in the place of each
-    //   `?` and each `...`.
-    // - Where each place has a head, leftmost reduction leads from the term to the tree's term,
-    //   which is a beta-normal form: the only one, to which each reduct of the term leads. Its text
-    //   is in the grammar, and read back it is the tree's term, which has no redex.
-    // - Where `run`, `demand` or `gen --run` prints a `?`, whatever pairs are stuck, paths of any
-    //   length give no head in the untouched net in its place, head reduction of the term there has
-    //   no end, and the whole term has no normal form. Of a `?` of `walk` nothing more is said.
-    // - From the net that `demand` leaves the asked places can be read by walks that meet no active
-    //   pair. A run, of any pairs in any order, leads to such a net exactly where it has rewritten
-    //   each pair that `demand` rewrites, by birth names, and then it is no shorter. Each complete
-    //   run leads to one.
-    ensures tree { OfReadFiles (S.readings src.old) (S.readings src.new) (λ files.
-        (bytes : List ℕ) → TellsTerm (files 0) words.now.items bytes
-        → IfNoneFailed (S.faults src.old) (S.faults src.new) (W.faults out.old) (W.faults out.new)
-        (result.status ≡ Status.Done
-        → WritesTree words.now.items bytes (W.taken out.old) (W.taken out.new))) }
-
-    // Where `equal` is done, the line that is written tells of the terms of its files: `equal`,
-    // that they have one normal form, and `different at`, that they aren't convertible, whatever is
-    // reduced. A free name of the one is one of the other where the bytes are the same. And the
-    // verdict that `certify` writes is never `differs`.
-    ensures sources { OfReadFiles (S.readings src.old) (S.readings src.new) (λ files.
-        TellsFiles files words.now.items
-        → IfNoneFailed (S.faults src.old) (S.faults src.new) (W.faults out.old) (W.faults out.new)
-        (result.status ≡ Status.Done
-        → WritesOfSources words.now.items files (W.taken out.old) (W.taken out.new))) }
-
-    // And each complete run of the own term of `run` or `gen --run`, whatever pairs it takes first,
-    // prints what is written, or is longer than the fuel where that is spent. It is longer too
-    // where the fuel of `demand` is spent, and so is each run that leads to a net from which the
-    // asked places can be read by walks that meet no active pair. This fuel is then less than the
-    // number of inversions that the term's own net tells, before any step, of as many places as were
-    // asked for, or of all, if each of these places has a head.
-    ensures every_run { OfReadFiles (S.readings src.old) (S.readings src.new) (λ files.
-        (bytes : List ℕ) → TellsTerm (files 0) words.now.items bytes
-        → IfNoneFailed (S.faults src.old) (S.faults src.new) (W.faults out.old) (W.faults out.new)
-        (result.status ≢ Status.NoMemory → EveryRunTells words.now.items bytes
-        result.status (W.taken out.old) (W.taken out.new))) }
+    // Each status has its cause, and its text is appended whole, or a prefix of it where the sink
+    // failed. With `NoMemory` nothing is taken.
+    ensures ends { OfFilesRead S.Source src.old src.new (λ files.
+        Ends (HasCause words.now.items (seen_of S.Source files src.old src.new)) result.status
+        (W.faults out.old) (W.faults out.new) (W.taken out.old) (W.taken out.new)) }
 
     // Where `run`, `trace` or `gen --run` was done or its fuel was spent, the closed words are
     // those of a table that was made from the net of the job's term, with the job's fuel and as
     // many seats as the job has workers, which for `gen --run` are those of `run` without options,
     // and the text is what their journal tells. In every other case there are none.
-    ensures closed { OfReadFiles (S.readings src.old) (S.readings src.new) (λ files.
-        Hands words.now.items (seen_of S.faults files S.given S.ended src.old src.new)
+    ensures closed { OfFilesRead S.Source src.old src.new (λ files.
+        Hands words.now.items (seen_of S.Source files src.old src.new)
         result.status result.closed (W.taken out.old) (W.taken out.new)) }
 
     // A fault that is told has risen, and one that has risen is told.
@@ -338,19 +206,10 @@ pub fn ol<R: Threads + Wait + Sync, S: Source, W: Sink, G: Gate + Sync>(
     ensures done { 0 < files_of words.now.items → result.status ≡ Status.Done
         → S.ended src.new ≡ true }
 
-    // It begins as many names at most as the job has files. It knows of no name but those of its
-    // job's files.
-    ensures begins { S.begins src.new ≤ S.begins src.old + files_of words.now.items }
-
     // Where the first of two files is refused for its bytes, the second isn't begun.
-    ensures first_alone { OfReadFiles (S.readings src.old) (S.readings src.new) (λ files.
+    ensures first_alone { OfFilesRead S.Source src.old src.new (λ files.
         (asked : Asked) → AskFor words.now.items asked
         → RefusesFirst (files 0) asked → S.begins src.new ≤ S.begins src.old + 1) }
-
-    // The source knows the names that it knew and has the bytes that it had, so `ol` can be called
-    // again.
-    ensures knows { S.knows src.new ≡ S.knows src.old }
-    ensures contents { S.contents src.new ≡ S.contents src.old }
 {
     let made = answer_words(rt, alloc, words, src, gate);
     write(out, made)
@@ -394,16 +253,13 @@ fn answer_words<R: Threads + Wait + Sync, S: Source, G: Gate + Sync>(
     gate: &G,
 ) -> Result<Answer, NoMemory>
     requires known { IsKnownTo (S.knows src.old) words.now.items }
-    ensures comes { OfReadFiles (S.readings src.old) (S.readings src.new) (λ files.
+    ensures comes { OfFilesRead S.Source src.old src.new (λ files.
         IfOk result (ComesOfWords words.now.items
-        (seen_of S.faults files S.given S.ended src.old src.new))) }
-    ensures begins { S.begins src.new ≤ S.begins src.old + files_of words.now.items }
-    ensures first_alone { OfReadFiles (S.readings src.old) (S.readings src.new) (λ files.
+        (seen_of S.Source files src.old src.new))) }
+    ensures first_alone { OfFilesRead S.Source src.old src.new (λ files.
         (asked : Asked) → AskFor words.now.items asked
         → RefusesFirst (files 0) asked → S.begins src.new ≤ S.begins src.old + 1) }
-    ensures knows { S.knows src.new ≡ S.knows src.old }
-    ensures contents { S.contents src.new ≡ S.contents src.old }
-    ensures told { AreOfSince (λ _. S.contents src.old) (S.readings src.old) (S.readings src.new) }
+    ensures source { ReadsAtMost S.Source (files_of words.now.items) src.old src.new }
 {
     match job(alloc, words) {
         Err(UsageFault::NoMemory) => Err(NoMemory),
@@ -428,15 +284,12 @@ fn answer_job<R: Threads + Wait + Sync, S: Source, G: Gate + Sync>(
 ) -> Result<Answer, NoMemory>
     requires known { EachName job.now (λ name. S.knows src.old name ≡ true) }
     requires within { IsWithinLimits job.now }
-    ensures comes { OfReadFiles (S.readings src.old) (S.readings src.new) (λ files.
+    ensures comes { OfFilesRead S.Source src.old src.new (λ files.
         IfOk result (ComesOf job.now
-        (seen_of S.faults files S.given S.ended src.old src.new))) }
-    ensures begins { S.begins src.new ≤ S.begins src.old + count_of_files job.now }
-    ensures first_alone { OfReadFiles (S.readings src.old) (S.readings src.new) (λ files.
+        (seen_of S.Source files src.old src.new))) }
+    ensures first_alone { OfFilesRead S.Source src.old src.new (λ files.
         RefusesFirst (files 0) job.now → S.begins src.new ≤ S.begins src.old + 1) }
-    ensures knows { S.knows src.new ≡ S.knows src.old }
-    ensures contents { S.contents src.new ≡ S.contents src.old }
-    ensures told { AreOfSince (λ _. S.contents src.old) (S.readings src.old) (S.readings src.new) }
+    ensures source { ReadsAtMost S.Source (count_of_files job.now) src.old src.new }
 {
     match job {
         Job::Run {

@@ -1,9 +1,7 @@
 //! The command `certify`: a term's own reduction beside that of its net.
 ghost use Rattle.std.specs.Prelude.{◌≡◌, ◌≤◌, ◌+◌, true, IfOk, None};
-ghost use Rattle.ol_io.specs.Readings.{AreOfSince};
 ghost use Rattle.ol_term.specs.Trees.{tree_of};
-ghost use Rattle.ol_cli.specs.Jobs.{OfReadFiles};
-ghost use Rattle.ol_cli.specs.Answers.{seen_of};
+ghost use Rattle.ol_cli.specs.Called.{ReadsAtMost, OfFilesRead, seen_of};
 ghost use Rattle.ol_cli.specs.Inside.{AnswersTerm, ComesOf, certify_on, certify_by};
 ghost use Rattle.ol_cli.specs.Ready.{IsNetOf, IsReducible};
 ghost use Rattle.ol_cli.specs.Limits.{most_fuel, most_workers};
@@ -38,13 +36,10 @@ pub fn answer_certify<R: Threads + Wait + Sync, S: Source, G: Gate + Sync>(
     requires workers { (1 ≤ numbers.workers) × (numbers.workers ≤ most_workers) }
     requires fuel { numbers.fuel ≤ most_fuel }
     requires heads { 1 ≤ numbers.heads }
-    ensures comes { OfReadFiles (S.readings src.old) (S.readings src.new) (λ files.
+    ensures comes { OfFilesRead S.Source src.old src.new (λ files.
         IfOk result (ComesOf (certify_on numbers steps name.now)
-        (seen_of S.faults files S.given S.ended src.old src.new))) }
-    ensures begins { S.begins src.new ≤ S.begins src.old + 1 }
-    ensures knows { S.knows src.new ≡ S.knows src.old }
-    ensures contents { S.contents src.new ≡ S.contents src.old }
-    ensures told { AreOfSince (λ _. S.contents src.old) (S.readings src.old) (S.readings src.new) }
+        (seen_of S.Source files src.old src.new))) }
+    ensures source { ReadsAtMost S.Source 1 src.old src.new }
 {
     let ready = read_term(alloc, numbers.translation, name, src)?;
     match ready {

@@ -1,10 +1,9 @@
 //! The command `check`: the text of a journal against a term.
 ghost use Rattle.std.specs.Prelude.{◌≡◌, ◌≤◌, ◌+◌, true, IfOk, None};
-ghost use Rattle.ol_io.specs.Readings.{AreOfSince};
 ghost use Rattle.ol_wire.specs.Sizes.{IsSmallNet};
 ghost use Rattle.ol_words.specs.declared.jobs.Job.TheVariants.{Check as check};
-ghost use Rattle.ol_cli.specs.Jobs.{OfReadFiles};
-ghost use Rattle.ol_cli.specs.Answers.{RefusesFirst, seen_of};
+ghost use Rattle.ol_cli.specs.Called.{ReadsAtMost, OfFilesRead, seen_of};
+ghost use Rattle.ol_cli.specs.Answers.{RefusesFirst};
 ghost use Rattle.ol_cli.specs.Cases.{CauseOf};
 ghost use Rattle.ol_cli.specs.Inside.{ComesOf};
 ghost use Rattle.ol_cli.specs.Check.{JournalAnswer};
@@ -35,16 +34,13 @@ pub fn answer_check<S: Source>(
 ) -> Result<Answer, NoMemory>
     requires term { S.knows src.old term.now ≡ true }
     requires journal { S.knows src.old journal.now ≡ true }
-    ensures comes { OfReadFiles (S.readings src.old) (S.readings src.new) (λ files.
+    ensures comes { OfFilesRead S.Source src.old src.new (λ files.
         IfOk result (ComesOf (check translation term.now journal.now)
-        (seen_of S.faults files S.given S.ended src.old src.new))) }
-    ensures first_alone { OfReadFiles (S.readings src.old) (S.readings src.new) (λ files.
+        (seen_of S.Source files src.old src.new))) }
+    ensures first_alone { OfFilesRead S.Source src.old src.new (λ files.
         RefusesFirst (files 0) (check translation term.now journal.now)
         → S.begins src.new ≤ S.begins src.old + 1) }
-    ensures begins { S.begins src.new ≤ S.begins src.old + 2 }
-    ensures knows { S.knows src.new ≡ S.knows src.old }
-    ensures contents { S.contents src.new ≡ S.contents src.old }
-    ensures told { AreOfSince (λ _. S.contents src.old) (S.readings src.old) (S.readings src.new) }
+    ensures source { ReadsAtMost S.Source 2 src.old src.new }
 {
     let ready = read_term(alloc, translation, term, src)?;
     match ready {
@@ -65,16 +61,13 @@ fn answer_journal<S: Source>(
 ) -> Result<Answer, NoMemory>
     requires known { S.knows src.old name.now ≡ true }
     requires small { IsSmallNet net.now }
-    ensures caused { OfReadFiles (S.readings src.old) (S.readings src.new) (λ files.
+    ensures caused { OfFilesRead S.Source src.old src.new (λ files.
         IfOk result (λ a. HoldsOfTerms net.now (λ translation t names.
-        CauseOf (seen_of S.faults files S.given S.ended src.old src.new)
+        CauseOf (seen_of S.Source files src.old src.new)
         most_journal_bytes journal_text name.now (JournalAnswer translation t names)
         a.status a.text.items))) }
     ensures closed { IfOk result (λ a. a.closed ≡ None) }
-    ensures begins { S.begins src.new ≤ S.begins src.old + 1 }
-    ensures knows { S.knows src.new ≡ S.knows src.old }
-    ensures contents { S.contents src.new ≡ S.contents src.old }
-    ensures told { AreOfSince (λ _. S.contents src.old) (S.readings src.old) (S.readings src.new) }
+    ensures source { ReadsAtMost S.Source 1 src.old src.new }
 {
     let file = read_file(alloc, FileKind::Journal, name, src)?;
     match file {

@@ -1,11 +1,9 @@
 //! The command `demand`: a term's net is read back, and only the pairs that the reading meets are
 //! rewritten.
-ghost use Rattle.std.specs.Prelude.{◌≡◌, ◌≤◌, ◌+◌, true, IfOk, None};
-ghost use Rattle.ol_io.specs.Readings.{AreOfSince};
+ghost use Rattle.std.specs.Prelude.{◌≡◌, ◌≤◌, true, IfOk, None};
 ghost use Rattle.ol_term.specs.Trees.{tree_of};
 ghost use Rattle.ol_words.specs.declared.jobs.Job.TheVariants.{Demand as demand};
-ghost use Rattle.ol_cli.specs.Jobs.{OfReadFiles};
-ghost use Rattle.ol_cli.specs.Answers.{seen_of};
+ghost use Rattle.ol_cli.specs.Called.{ReadsAtMost, OfFilesRead, seen_of};
 ghost use Rattle.ol_cli.specs.Inside.{AnswersTerm, ComesOf, IsReadByNames, demand_by};
 ghost use Rattle.ol_cli.specs.Ready.{IsNetOf};
 ghost use Rattle.ol_cli.specs.Limits.{most_fuel};
@@ -36,13 +34,10 @@ pub fn answer_demand<S: Source>(
     requires known { S.knows src.old name.now ≡ true }
     requires fuel { fuel ≤ most_fuel }
     requires heads { 1 ≤ heads }
-    ensures comes { OfReadFiles (S.readings src.old) (S.readings src.new) (λ files.
+    ensures comes { OfFilesRead S.Source src.old src.new (λ files.
         IfOk result (ComesOf (demand translation fuel heads name.now)
-        (seen_of S.faults files S.given S.ended src.old src.new))) }
-    ensures begins { S.begins src.new ≤ S.begins src.old + 1 }
-    ensures knows { S.knows src.new ≡ S.knows src.old }
-    ensures contents { S.contents src.new ≡ S.contents src.old }
-    ensures told { AreOfSince (λ _. S.contents src.old) (S.readings src.old) (S.readings src.new) }
+        (seen_of S.Source files src.old src.new))) }
+    ensures source { ReadsAtMost S.Source 1 src.old src.new }
 {
     let ready = read_term(alloc, translation, name, src)?;
     match ready {

@@ -1,9 +1,9 @@
 //! The command `equal`: two terms, each read back from the net that its workers leave.
 ghost use Rattle.std.specs.Prelude.{◌≡◌, ◌≤◌, ◌+◌, ◌∷◌, length, true, IfOk, None};
-ghost use Rattle.ol_io.specs.Readings.{Reading, AreOfSince};
+ghost use Rattle.ol_io.specs.Readings.{Reading};
 ghost use Rattle.ol_readback.specs.Texts.{AreNamed};
-ghost use Rattle.ol_cli.specs.Jobs.{OfReadFiles};
-ghost use Rattle.ol_cli.specs.Answers.{RefusesFirst, seen_of};
+ghost use Rattle.ol_cli.specs.Called.{ReadsAtMost, OfFilesRead, seen_of};
+ghost use Rattle.ol_cli.specs.Answers.{RefusesFirst};
 ghost use Rattle.ol_cli.specs.Inside.{ComesOf, equal_on};
 ghost use Rattle.ol_cli.specs.Sides.{ComesOfSide, EndsSecond};
 ghost use Rattle.ol_cli.specs.Limits.{most_fuel, most_workers};
@@ -47,16 +47,13 @@ pub fn answer_equal<R: Threads + Wait + Sync, S: Source, G: Gate + Sync>(
     requires workers { (1 ≤ numbers.workers) × (numbers.workers ≤ most_workers) }
     requires fuel { numbers.fuel ≤ most_fuel }
     requires heads { 1 ≤ numbers.heads }
-    ensures comes { OfReadFiles (S.readings src.old) (S.readings src.new) (λ files.
+    ensures comes { OfFilesRead S.Source src.old src.new (λ files.
         IfOk result (ComesOf (equal_on numbers first.now second.now)
-        (seen_of S.faults files S.given S.ended src.old src.new))) }
-    ensures first_alone { OfReadFiles (S.readings src.old) (S.readings src.new) (λ files.
+        (seen_of S.Source files src.old src.new))) }
+    ensures first_alone { OfFilesRead S.Source src.old src.new (λ files.
         RefusesFirst (files 0) (equal_on numbers first.now second.now)
         → S.begins src.new ≤ S.begins src.old + 1) }
-    ensures begins { S.begins src.new ≤ S.begins src.old + 2 }
-    ensures knows { S.knows src.new ≡ S.knows src.old }
-    ensures contents { S.contents src.new ≡ S.contents src.old }
-    ensures told { AreOfSince (λ _. S.contents src.old) (S.readings src.old) (S.readings src.new) }
+    ensures source { ReadsAtMost S.Source 2 src.old src.new }
 {
     let side = read_side(rt, alloc, numbers, first, src, gate)?;
     match side {
@@ -84,15 +81,12 @@ fn answer_second<R: Threads + Wait + Sync, S: Source, G: Gate + Sync>(
     requires workers { (1 ≤ numbers.workers) × (numbers.workers ≤ most_workers) }
     requires fuel { numbers.fuel ≤ most_fuel }
     requires heads { 1 ≤ numbers.heads }
-    ensures caused { OfReadFiles (S.readings src.old) (S.readings src.new) (λ files.
+    ensures caused { OfFilesRead S.Source src.old src.new (λ files.
         IfOk result (λ a. EndsSecond numbers tree.now names.now
-        (seen_of S.faults files S.given S.ended src.old src.new)
+        (seen_of S.Source files src.old src.new)
         second.now a.status a.text.items)) }
     ensures closed { IfOk result (λ a. a.closed ≡ None) }
-    ensures begins { S.begins src.new ≤ S.begins src.old + 1 }
-    ensures knows { S.knows src.new ≡ S.knows src.old }
-    ensures contents { S.contents src.new ≡ S.contents src.old }
-    ensures told { AreOfSince (λ _. S.contents src.old) (S.readings src.old) (S.readings src.new) }
+    ensures source { ReadsAtMost S.Source 1 src.old src.new }
 {
     let side = read_side(rt, alloc, numbers, second, src, gate)?;
     match side {
@@ -122,14 +116,11 @@ fn read_side<R: Threads + Wait + Sync, S: Source, G: Gate + Sync>(
     requires workers { (1 ≤ numbers.workers) × (numbers.workers ≤ most_workers) }
     requires fuel { numbers.fuel ≤ most_fuel }
     requires heads { 1 ≤ numbers.heads }
-    ensures comes { OfReadFiles (S.readings src.old) (S.readings src.new) (λ files.
+    ensures comes { OfFilesRead S.Source src.old src.new (λ files.
         IfOk result (ComesOfSide numbers
-        (seen_of S.faults files S.given S.ended src.old src.new) name.now)) }
+        (seen_of S.Source files src.old src.new) name.now)) }
     ensures one { (r : Reading) × (S.readings src.new ≡ r ∷ S.readings src.old) }
-    ensures begins { S.begins src.new ≤ S.begins src.old + 1 }
-    ensures knows { S.knows src.new ≡ S.knows src.old }
-    ensures contents { S.contents src.new ≡ S.contents src.old }
-    ensures told { AreOfSince (λ _. S.contents src.old) (S.readings src.old) (S.readings src.new) }
+    ensures source { ReadsAtMost S.Source 1 src.old src.new }
 {
     let ready = read_term(alloc, numbers.translation, name, src)?;
     match ready {

@@ -1,12 +1,10 @@
 //! The command `net`: the net of a file is rewritten and written, or the net of a term is written.
-ghost use Rattle.std.specs.Prelude.{◌≡◌, ◌≤◌, ◌<◌, ◌+◌, ◌++◌, List, ℕ, Bool, true, false, length, count_by, is_some, IfOk, None};
-ghost use Rattle.ol_io.specs.Readings.{AreOfSince};
+ghost use Rattle.std.specs.Prelude.{◌≡◌, ◌≤◌, ◌<◌, ◌+◌, ℕ, true, false, length, count_by, is_some, IfOk, None};
 ghost use Rattle.ol_net.specs.Numbered.{net_of};
 ghost use Rattle.ol_wire.specs.Sizes.{IsSmallNet};
 ghost use Rattle.ol_term.specs.declared.translations.Translation.{Translation};
 ghost use Rattle.ol_words.specs.declared.jobs.Job.TheVariants as jobs;
-ghost use Rattle.ol_cli.specs.Jobs.{OfReadFiles};
-ghost use Rattle.ol_cli.specs.Answers.{seen_of};
+ghost use Rattle.ol_cli.specs.Called.{ReadsAtMost, OfFilesRead, seen_of};
 ghost use Rattle.ol_cli.specs.Inside.{ComesOf};
 ghost use Rattle.ol_cli.specs.Net.{NetAnswer, NetFileAnswer, WritesNet};
 ghost use Rattle.ol_cli.specs.NetLines.{AreLinesOf};
@@ -39,14 +37,11 @@ pub fn answer_net_of_term<S: Source>(
     src: &mut S,
 ) -> Result<Answer, NoMemory>
     requires known { S.knows src.old name.now ≡ true }
-    ensures comes { OfReadFiles (S.readings src.old) (S.readings src.new) (λ files.
+    ensures comes { OfFilesRead S.Source src.old src.new (λ files.
         IfOk result (λ a. (workers fuel : ℕ) →
         ComesOf (jobs.Net translation true workers fuel name.now)
-        (seen_of S.faults files S.given S.ended src.old src.new) a)) }
-    ensures begins { S.begins src.new ≤ S.begins src.old + 1 }
-    ensures knows { S.knows src.new ≡ S.knows src.old }
-    ensures contents { S.contents src.new ≡ S.contents src.old }
-    ensures told { AreOfSince (λ _. S.contents src.old) (S.readings src.old) (S.readings src.new) }
+        (seen_of S.Source files src.old src.new) a)) }
+    ensures source { ReadsAtMost S.Source 1 src.old src.new }
 {
     let ready = read_term(alloc, translation, name, src)?;
     match ready {
@@ -83,14 +78,11 @@ pub fn answer_net<R: Threads + Wait + Sync, S: Source, G: Gate + Sync>(
     requires known { S.knows src.old name.now ≡ true }
     requires workers { (1 ≤ workers) × (workers ≤ most_workers) }
     requires fuel { fuel ≤ most_fuel }
-    ensures comes { OfReadFiles (S.readings src.old) (S.readings src.new) (λ files.
+    ensures comes { OfFilesRead S.Source src.old src.new (λ files.
         IfOk result (λ a. (translation : Translation) →
         ComesOf (jobs.Net translation false workers fuel name.now)
-        (seen_of S.faults files S.given S.ended src.old src.new) a)) }
-    ensures begins { S.begins src.new ≤ S.begins src.old + 1 }
-    ensures knows { S.knows src.new ≡ S.knows src.old }
-    ensures contents { S.contents src.new ≡ S.contents src.old }
-    ensures told { AreOfSince (λ _. S.contents src.old) (S.readings src.old) (S.readings src.new) }
+        (seen_of S.Source files src.old src.new) a)) }
+    ensures source { ReadsAtMost S.Source 1 src.old src.new }
 {
     let file = read_file(alloc, FileKind::Net, name, src)?;
     match file {

@@ -1,10 +1,8 @@
 //! The command `trace`: a term's net is rewritten by workers, and their journal is told.
 ghost use Rattle.std.specs.Prelude.{◌≡◌, ◌≤◌, ◌+◌, true, length, count_by, is_some, IfOk};
-ghost use Rattle.ol_io.specs.Readings.{AreOfSince};
 ghost use Rattle.ol_wire.specs.Sizes.{IsSmallNet};
 ghost use Rattle.ol_words.specs.declared.jobs.Job.TheVariants.{Trace as trace};
-ghost use Rattle.ol_cli.specs.Jobs.{OfReadFiles};
-ghost use Rattle.ol_cli.specs.Answers.{seen_of};
+ghost use Rattle.ol_cli.specs.Called.{ReadsAtMost, OfFilesRead, seen_of};
 ghost use Rattle.ol_cli.specs.Trace.{Traces};
 ghost use Rattle.ol_cli.specs.Trace.{TraceHands};
 ghost use Rattle.ol_cli.specs.Inside.{ComesOf};
@@ -39,13 +37,10 @@ pub fn answer_trace<R: Threads + Wait + Sync, S: Source, G: Gate + Sync>(
     requires known { S.knows src.old name.now ≡ true }
     requires workers { (1 ≤ workers) × (workers ≤ most_workers) }
     requires fuel { fuel ≤ most_fuel }
-    ensures comes { OfReadFiles (S.readings src.old) (S.readings src.new) (λ files.
+    ensures comes { OfFilesRead S.Source src.old src.new (λ files.
         IfOk result (ComesOf (trace translation workers fuel name.now)
-        (seen_of S.faults files S.given S.ended src.old src.new))) }
-    ensures begins { S.begins src.new ≤ S.begins src.old + 1 }
-    ensures knows { S.knows src.new ≡ S.knows src.old }
-    ensures contents { S.contents src.new ≡ S.contents src.old }
-    ensures told { AreOfSince (λ _. S.contents src.old) (S.readings src.old) (S.readings src.new) }
+        (seen_of S.Source files src.old src.new))) }
+    ensures source { ReadsAtMost S.Source 1 src.old src.new }
 {
     let ready = read_term(alloc, translation, name, src)?;
     match ready {

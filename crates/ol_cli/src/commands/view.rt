@@ -1,10 +1,8 @@
 //! The command `view`: a term's net is rewritten by some leads, and shown.
-ghost use Rattle.std.specs.Prelude.{◌≡◌, ◌≤◌, ◌+◌, true, IfOk};
-ghost use Rattle.ol_io.specs.Readings.{AreOfSince};
+ghost use Rattle.std.specs.Prelude.{◌≡◌, ◌≤◌, true, IfOk};
 ghost use Rattle.ol_wire.specs.Sizes.{IsSmallNet};
 ghost use Rattle.ol_words.specs.declared.jobs.Job.TheVariants.{View as view};
-ghost use Rattle.ol_cli.specs.Jobs.{OfReadFiles};
-ghost use Rattle.ol_cli.specs.Answers.{seen_of};
+ghost use Rattle.ol_cli.specs.Called.{ReadsAtMost, OfFilesRead, seen_of};
 ghost use Rattle.ol_cli.specs.View.{Views};
 ghost use Rattle.ol_cli.specs.Inside.{ComesOf};
 ghost use Rattle.ol_cli.specs.Ready.{HoldsOfTerms};
@@ -31,13 +29,10 @@ pub fn answer_view<S: Source>(
 ) -> Result<Answer, NoMemory>
     requires known { S.knows src.old name.now ≡ true }
     requires leads { leads ≤ most_fuel }
-    ensures comes { OfReadFiles (S.readings src.old) (S.readings src.new) (λ files.
+    ensures comes { OfFilesRead S.Source src.old src.new (λ files.
         IfOk result (ComesOf (view translation leads name.now)
-        (seen_of S.faults files S.given S.ended src.old src.new))) }
-    ensures begins { S.begins src.new ≤ S.begins src.old + 1 }
-    ensures knows { S.knows src.new ≡ S.knows src.old }
-    ensures contents { S.contents src.new ≡ S.contents src.old }
-    ensures told { AreOfSince (λ _. S.contents src.old) (S.readings src.old) (S.readings src.new) }
+        (seen_of S.Source files src.old src.new))) }
+    ensures source { ReadsAtMost S.Source 1 src.old src.new }
 {
     let ready = read_term(alloc, translation, name, src)?;
     match ready {

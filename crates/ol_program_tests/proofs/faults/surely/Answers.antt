@@ -9,5 +9,8 @@ never_rose rose = let risen : 1 ≤ 0 = rose.risen in absurd (omega (arith, rise
 
 pub returns-clause-done : goal.returns-clause-done
 returns-clause-done g c = λ can.
-    c.ol.ensures.completeness (λ _ name.
-    Some (bytes_of c.args.src.now.files name)) c.ol.ensures.told can never_rose never_rose
+    (c.ol.ensures.answer_says (λ _ name. Some (bytes_of c.args.src.now.files name))
+    c.ol.ensures.source.told never_rose never_rose).completeness can
+
+pub returns-clause-contents : goal.returns-clause-contents
+returns-clause-contents g c = c.ol.ensures.source.contents

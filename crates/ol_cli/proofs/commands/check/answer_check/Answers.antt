@@ -5,9 +5,10 @@ use Rattle.ol_words.specs.declared.jobs.Job.TheVariants.{Check as check}
 use Rattle.ol_cli.specs.Answers.{Seen}
 use Rattle.ol_cli.specs.Cases.{by_journal, seen}
 use Rattle.ol_cli.specs.Check.{JournalAnswer}
-use Rattle.ol_io.proofs.Readings.{AreOfSince-parts, AreOfSince-then}
+use Rattle.ol_io.proofs.Readings.{AreOfSince-parts}
 use Rattle.ol_cli.proofs.Exact.{after_term}
 use Rattle.ol_cli.proofs.FirstAlone.{term_first}
+use Rattle.ol_cli.proofs.Frame.{reads_then}
 use Rattle.ol_cli.proofs.TermJobs.{refused_comes}
 use Rattle.ol_cli.proofs.TwoFiles.{check_comes}
 use Rattle.ol_cli.proofs.commands.check.answer_check.Goals as goal
@@ -28,7 +29,7 @@ returns-clause-comes g c = λ files of.
     let both = AreOfSince-parts files (g.S.Source.contents c.read_term.new.src)
     c.in_ok-ready.ensures.one.0 (g.S.Source.readings c.args.src.now)
     (g.S.Source.readings c.read_term.new.src)
-    (g.S.Source.readings c.answer_journal.new.src) c.in_ok-ready.ensures.one.1 c.answer_journal.ensures.told of in
+    (g.S.Source.readings c.answer_journal.new.src) c.in_ok-ready.ensures.one.1 c.answer_journal.ensures.source.told of in
     let r = rw c.in-Net.is at (c.in_ok-ready.ensures.comes files both.0) in
     let ended = after_term s.faults (g.S.Source.faults c.read_term.new.src) s.faults' s.given
     (λ n. files (n + 1)) s.ended _ _ c.args.journal.now
@@ -42,7 +43,7 @@ returns-clause-first_alone g c = λ files of refused.
     let both = AreOfSince-parts files (g.S.Source.contents c.read_term.new.src)
     c.in_ok-ready.ensures.one.0 (g.S.Source.readings c.args.src.now)
     (g.S.Source.readings c.read_term.new.src)
-    (g.S.Source.readings c.answer_journal.new.src) c.in_ok-ready.ensures.one.1 c.answer_journal.ensures.told of in
+    (g.S.Source.readings c.answer_journal.new.src) c.in_ok-ready.ensures.one.1 c.answer_journal.ensures.source.told of in
     let r = rw c.in-Net.is at (c.in_ok-ready.ensures.comes files both.0) in
     absurd (term_first c.args.translation c.args.term.now c.args.journal.now (files 0) r.1.0
     (tree_of c.in-Net.file.term) c.in-Net.file.names r.1.1.whole r.1.2.term refused)
@@ -52,19 +53,15 @@ returns-in_err-answer-in-Net-clause-first_alone g c = λ files of refused.
     let both = AreOfSince-parts files (g.S.Source.contents c.read_term.new.src)
     c.in_ok-ready.ensures.one.0 (g.S.Source.readings c.args.src.now)
     (g.S.Source.readings c.read_term.new.src)
-    (g.S.Source.readings c.answer_journal.new.src) c.in_ok-ready.ensures.one.1 c.answer_journal.ensures.told of in
+    (g.S.Source.readings c.answer_journal.new.src) c.in_ok-ready.ensures.one.1 c.answer_journal.ensures.source.told of in
     let r = rw c.in-Net.is at (c.in_ok-ready.ensures.comes files both.0) in
     absurd (term_first c.args.translation c.args.term.now c.args.journal.now (files 0) r.1.0
     (tree_of c.in-Net.file.term) c.in-Net.file.names r.1.1.whole r.1.2.term refused)
 
-pub returns-clause-told : goal.returns-clause-told
-returns-clause-told g c =
-    AreOfSince-then (g.S.Source.contents c.args.src.now) (g.S.Source.readings c.args.src.now)
-    (g.S.Source.readings c.read_term.new.src) (g.S.Source.readings c.answer_journal.new.src)
-    c.in_ok-ready.ensures.told (rw c.in_ok-ready.ensures.contents at c.answer_journal.ensures.told)
+pub returns-clause-source : goal.returns-clause-source
+returns-clause-source g c = reads_then g.S.Source 1 1 c.args.src.now c.read_term.new.src
+    c.answer_journal.new.src c.in_ok-ready.ensures.source c.answer_journal.ensures.source
 
-pub returns-in_err-answer-in-Net-clause-told : goal.returns-in_err-answer-in-Net-clause-told
-returns-in_err-answer-in-Net-clause-told g c =
-    AreOfSince-then (g.S.Source.contents c.args.src.now) (g.S.Source.readings c.args.src.now)
-    (g.S.Source.readings c.read_term.new.src) (g.S.Source.readings c.answer_journal.new.src)
-    c.in_ok-ready.ensures.told (rw c.in_ok-ready.ensures.contents at c.answer_journal.ensures.told)
+pub returns-in_err-answer-in-Net-clause-source : goal.returns-in_err-answer-in-Net-clause-source
+returns-in_err-answer-in-Net-clause-source g c = reads_then g.S.Source 1 1 c.args.src.now c.read_term.new.src
+    c.answer_journal.new.src c.in_ok-ready.ensures.source c.answer_journal.ensures.source

@@ -15,7 +15,7 @@ returns-in-Refused-clause-caused g c = λ files of tr t names n.
 pub returns-in-Refused-clause-closed : goal.returns-in-Refused-clause-closed
 returns-in-Refused-clause-closed g c =
     let r = rw c.in-Refused.is at (c.in_ok-file.ensures.comes
-    (λ _. g.S.Source.contents c.args.src.now) c.in_ok-file.ensures.told) in
+    (λ _. g.S.Source.contents c.args.src.now) c.in_ok-file.ensures.source.told) in
     r.1
 
 pub returns-in_ok-text-in-Bytes-clause-caused : goal.returns-in_ok-text-in-Bytes-clause-caused

@@ -13,7 +13,7 @@ returns-in_ok-text-in-Read-clause-caused g c = λ files of.
 pub same_tree-requires-clause-b_named : goal.same_tree-requires-clause-b_named
 same_tree-requires-clause-b_named g c =
     let r = rw c.in-Read.is at (c.in_ok-side.ensures.comes
-    (λ _. g.S.Source.contents c.args.src.now) c.in_ok-side.ensures.told) in
+    (λ _. g.S.Source.contents c.args.src.now) c.in_ok-side.ensures.source.told) in
     r.2
 
 pub returns-in-Refused-clause-caused : goal.returns-in-Refused-clause-caused
@@ -24,5 +24,5 @@ returns-in-Refused-clause-caused g c = λ files of.
 pub returns-in-Refused-clause-closed : goal.returns-in-Refused-clause-closed
 returns-in-Refused-clause-closed g c =
     let r = rw c.in-Refused.is at (c.in_ok-side.ensures.comes
-    (λ _. g.S.Source.contents c.args.src.now) c.in_ok-side.ensures.told) in
+    (λ _. g.S.Source.contents c.args.src.now) c.in_ok-side.ensures.source.told) in
     r.2
