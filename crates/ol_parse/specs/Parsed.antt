@@ -12,13 +12,17 @@ pub record IsFileOf (bytes : List ℕ) (t : Tree) (names : List (List ℕ)) : Ty
   pub tree : t ≡ number named
   pub free_names : names ≡ names_of named
 
+-- the greatest depth of a term that is parsed
+abbrev pub most_depth : ℕ
+most_depth = 1000
+
 -- the bytes are a text of a term of this depth, which is above 1,000
 pub record IsTooDeep (bytes : List ℕ) (d : ℕ) : Type 0 where
   pub tree : Tree
   pub names : List (List ℕ)
   pub file : IsFileOf bytes tree names
   pub is : d ≡ depth tree
-  pub above : 1000 < d
+  pub above : most_depth < d
 
 abbrev pub AreNames : List (List ℕ) → Type 0
 AreNames [] = Unit {0}

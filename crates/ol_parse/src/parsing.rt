@@ -3,7 +3,7 @@
 ghost use Rattle.std.specs.Prelude.{◌≡◌, ◌≢◌, ℕ, ◌≤◌, ◌<◌, ◌↔◌, true, length, List, Err, IsOk, IfOk, IfErr};
 ghost use Rattle.ol_term.specs.Trees.{Tree, tree_of, depth, EachOccurs};
 ghost use Rattle.ol_parse.specs.Texts.{IsRefusedAt};
-ghost use Rattle.ol_parse.specs.Parsed.{AreNames, IsFileOf, IsTooDeep};
+ghost use Rattle.ol_parse.specs.Parsed.{AreNames, IsFileOf, IsTooDeep, most_depth};
 ghost use Rattle.ol_parse.specs.Refusals.{IsFault};
 
 use crate::bytes::read;
@@ -19,7 +19,7 @@ pub const MOST_DEPTH: u64 = 1000;
 fn read_file(alloc: Global, text: &[u8]) -> Result<TermFile, ParseFault>
     requires { length text.now ≤ 1073741824 }
     ensures file { IfOk result (λ file. IsFileOf text.now (tree_of file.term) file.names) }
-    ensures shallow { IfOk result (λ file. depth (tree_of file.term) ≤ MOST_DEPTH) }
+    ensures shallow { IfOk result (λ file. depth (tree_of file.term) ≤ most_depth) }
     ensures refused { IfErr result (λ e. IsFault text.now e) }
 {
     let steps = read(alloc, text)?;
@@ -53,11 +53,11 @@ fn read_file(alloc: Global, text: &[u8]) -> Result<TermFile, ParseFault>
 pub fn parse(alloc: Global, text: &[u8]) -> Result<TermFile, ParseFault>
     requires { length text.now ≤ 1073741824 }
     ensures file { IfOk result (λ file. IsFileOf text.now (tree_of file.term) file.names) }
-    ensures shallow { IfOk result (λ file. depth (tree_of file.term) ≤ MOST_DEPTH) }
+    ensures shallow { IfOk result (λ file. depth (tree_of file.term) ≤ most_depth) }
     ensures each_name { IfOk result (λ file. EachOccurs (length file.names) (tree_of file.term)) }
     ensures names { IfOk result (λ file. AreNames file.names) }
     ensures taken { result ≢ Err ParseFault.NoMemory → (t : Tree) (names : List (List ℕ)) →
-        IsFileOf text.now t names → depth t ≤ MOST_DEPTH → IsOk result }
+        IsFileOf text.now t names → depth t ≤ most_depth → IsOk result }
     ensures syntax { result ≢ Err ParseFault.NoMemory → (at : ℕ) →
         (result ≡ Err (ParseFault.Syntax at)) ↔ IsRefusedAt text.now at }
     ensures too_deep { result ≢ Err ParseFault.NoMemory → (d : ℕ) →
