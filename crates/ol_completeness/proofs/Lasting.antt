@@ -30,7 +30,8 @@ use Rattle.ol_completeness.specs.Least.{Clean, starts, crosses, MeetsNone}
 use Rattle.ol_completeness.specs.Least.{IsEnough, done, past, place, unknown, headless}
 use Rattle.ol_completeness.proofs.Chaining.{chain_ends}
 use Rattle.ol_completeness.proofs.Ending.{path_port}
-use Rattle.ol_completeness.proofs.Frozen.{clean_stays, link_stays, node_was, alone_stays, pair_link}
+use Rattle.ol_demand.proofs.Staying.{link_stays, node_was, alone_stays}
+use Rattle.ol_completeness.proofs.Frozen.{clean_stays, pair_link}
 use Rattle.ol_completeness.proofs.Frozen.{meets_of, leaves_of, not_both}
 use Rattle.ol_completeness.proofs.Tracing.{chain_is_on_path}
 

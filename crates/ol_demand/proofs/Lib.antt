@@ -1,7 +1,9 @@
 pub mod Pairs
 pub mod Chains
 pub mod OnChains
-pub mod Dropping
+pub mod StepBacks
+pub mod Staying
+pub mod Resuming
 pub mod Paired
 pub mod UnderNames
 pub mod LiveNodes

@@ -6,16 +6,47 @@ ghost use Rattle.ol_readback.specs.Askers.{IsHeldIfSome, IsKnownIfSome};
 ghost use Rattle.ol_readback.specs.Frames.{frames_of, ParentsFirst, AreHeldFrames, AreAtPorts};
 ghost use Rattle.ol_readback.specs.Heads.{IsHeldHead};
 ghost use Rattle.ol_readback.specs.Skipping.{AreSkipsOf};
+ghost use Rattle.ol_demand.specs.Chaining.{IsKeptOrCut, GoesOnOrBegins};
 ghost use Rattle.ol_demand.specs.Asking.{IsRunning, IsAnswered, IsSpentIfNone, IsStopped};
 
-use crate::answers::End;
-use crate::chaining::ask_once;
+use crate::answers::{End, Walker};
+use crate::chaining::{begin, chain, step_back};
 use crate::rewriting::Run;
-use ol_context::Values;
+use ol_context::{Val, Values};
 use ol_memory::NoMemory;
 use ol_net::Net;
-use ol_readback::{Asked, Asks, Head, leave_by};
+use ol_readback::{Asked, Asks, Frame, Head, leave_by};
 use std::alloc::Global;
+
+// The chain in the net after the step of the pair that it met: it has come as far as before this
+// pair, unless these are more crossings than its new budget. Then it begins anew, and the values
+// from number `count` on are taken away. So they are where they have become many more than the
+// crossings that it has made.
+fn resume(
+    alloc: Global,
+    net: &Net,
+    values: &mut Values,
+    frame: &Frame,
+    mark: Val,
+    count: u32,
+    before: Walker,
+) -> Result<Walker, NoMemory>
+    requires some { 0 < count }
+    requires counted { count ≤ length values.old }
+    ensures kept { IsKeptOrCut count values.old values.new }
+    ensures resumes { IfOk result (λ w.
+        GoesOnOrBegins net.now frame.now.port frame.now.levels mark before values.old w values.new) }
+{
+    if before.made <= 2 * net.nodes() as u64 {
+        let since = (values.count() - count) as u64;
+        if since <= 8 * before.made + 64 {
+            return Ok(before);
+        }
+    }
+    values.cut(count);
+    let anew = begin(alloc, frame.port, &frame.levels, mark)?;
+    Ok(anew)
+}
 
 // What the last frame is asked for, by chains for 0 abstractions, for 1, and so on. Each pair that
 // a chain meets is rewritten and written down, and the same is asked again.
@@ -51,28 +82,42 @@ fn ask(
     let frame = &asked.frames[asked.at as usize];
     let mut lams: u32 = 0;
     let mut mark = values.empty();
+    let mut count = values.count();
+    let mut walker = begin(alloc, frame.port, &frame.levels, mark)?;
     loop {
         net.is_net();
-        let end = ask_once(alloc, net, values, frame.port, &frame.levels, mark)?;
+        let end = chain(net, values, walker)?;
         match end {
-            End::Met { first, second } => {
+            End::Met {
+                first,
+                second,
+                walker: met,
+            } => {
                 if run.journal.len() == fuel {
                     return Ok(None);
                 }
+                let before = step_back(net, values, met)?;
                 run.rewrite_pair(net, first, second)?;
+                walker = resume(alloc, net, values, frame, mark, count, before)?;
             }
             End::Left { port, context } => {
                 let left = leave_by(alloc, values, asked, lams, port, &context)?;
                 return Ok(Some(left));
             }
             End::Undefined => {
+                values.cut(count);
                 if lams >= net.nodes() {
                     return Ok(Some(Head::NoHead));
                 }
                 mark = values.put_o(mark)?;
                 lams += 1;
+                count = values.count();
+                walker = begin(alloc, frame.port, &frame.levels, mark)?;
             }
-            End::Budget => return Ok(Some(Head::Budget)),
+            End::Budget => {
+                values.cut(count);
+                return Ok(Some(Head::Budget));
+            }
         }
     }
 }

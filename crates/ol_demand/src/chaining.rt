@@ -1,13 +1,12 @@
 //! Chains: walks up to the first active pair.
 
-ghost use Rattle.std.specs.Prelude.{◌≡◌, ◌<◌, ◌+◌, IfOk, length, take};
-ghost use Rattle.ol_net.specs.Numbered.{net_of, PortsLinked};
-ghost use Rattle.ol_context.specs.Asked.{os};
-ghost use Rattle.ol_context.specs.Contexts.{empty};
-ghost use Rattle.ol_context.specs.Shapes.{value, AreHeld, IsNumberOf, Extends, context_of};
-ghost use Rattle.ol_demand.specs.Chaining.{FindsPair, IsEndOf, IsHeldEnd, KeepsIfLeft, question_of, IsUnchangedUnlessLeft};
+ghost use Rattle.std.specs.Prelude.{◌≡◌, ◌<◌, ◌+◌, IfOk, length};
+ghost use Rattle.ol_net.specs.Nets.{IsPort};
+ghost use Rattle.ol_net.specs.Numbered.{net_of, numbered_port, PortsLinked};
+ghost use Rattle.ol_context.specs.Shapes.{AreHeld, Extends};
+ghost use Rattle.ol_demand.specs.Chaining.{FindsPair, GoesOnTo, IsHeldEnd, IsQuestion, IsAtPrincipal, StepsBack};
 
-use crate::answers::End;
+use crate::answers::{End, Walker};
 use ol_context::{Context, Cross, Val, Values, cross};
 use ol_memory::NoMemory;
 use ol_net::{Facing, Net, NodeId, Port};
@@ -42,27 +41,32 @@ fn pair_at(net: &Net, at: Port, next: Port) -> Option<(NodeId, NodeId)>
     Some((first, second))
 }
 
-// The chain from the free port `from`, which the net has, with a context whose levels are of this
-// holder.
-fn chain(net: &Net, values: &mut Values, from: u32, context: Context) -> Result<End, NoMemory>
-    requires port { from < net.now.free }
-    requires held { AreHeld values.old context }
+/// The chain goes on to its end. Its port is one of the net's, and its context is of this holder.
+///
+/// `NoMemory`: no memory was found. Earlier values stay.
+pub fn chain(net: &Net, values: &mut Values, walker: Walker) -> Result<End, NoMemory>
+    requires port { IsPort (net_of net.now) (numbered_port walker.at) }
+    requires held { AreHeld values.old walker.context }
     ensures extends { Extends values.old values.new }
     ensures held { IfOk result (λ e. IsHeldEnd values.new e) }
-    ensures ends { IfOk result (λ e.
-        IsEndOf net.now from (context_of values.old context) values.new e) }
+    ensures ends { IfOk result (λ e. GoesOnTo net.now values.old walker values.new e) }
 {
     net.is_net();
     let most = 2 * net.nodes() as u64;
-    let mut context = context;
-    let mut at = Port::Free(from);
-    let mut made: u64 = 0;
+    let mut at = walker.at;
+    let mut made = walker.made;
+    let mut context = walker.context;
     loop {
         let Some(next) = net.partner(at) else {
             unreachable!()
         };
         if let Some((first, second)) = pair_at(net, at, next) {
-            return Ok(End::Met { first, second });
+            let walker = Walker { at, context, made };
+            return Ok(End::Met {
+                first,
+                second,
+                walker,
+            });
         }
         if let Port::Free(port) = next {
             return Ok(End::Left { port, context });
@@ -81,53 +85,37 @@ fn chain(net: &Net, values: &mut Values, from: u32, context: Context) -> Result<
     }
 }
 
-// The question to these levels whose next level is `mark`.
-fn question(alloc: Global, levels: &Levels, mark: Val) -> Result<Context, NoMemory>
-    ensures { IfOk result (λ c. c ≡ question_of levels.now mark) }
+/// The chain that asks the free port `from` and these levels for as many abstractions as `mark` has
+/// `o` before the empty value, before its first crossing.
+pub fn begin(alloc: Global, from: u32, levels: &Levels, mark: Val) -> Result<Walker, NoMemory>
+    ensures { IfOk result (λ w. IsQuestion from levels.now mark w) }
 {
     let mut levels = levels.copied(alloc)?;
     levels.push(mark)?;
-    Ok(Context::of(levels))
+    Ok(Walker {
+        at: Port::Free(from),
+        context: Context::of(levels),
+        made: 0,
+    })
 }
 
-// Takes the values from number `count` on away, unless the chain has left the net.
-fn drop_unused(values: &mut Values, count: u32, end: &End)
-    requires { 0 < count }
-    ensures { KeepsIfLeft count values.old values.new end.now }
-{
-    match end {
-        End::Left { .. } => {}
-        End::Met { .. } => values.cut(count),
-        End::Undefined => values.cut(count),
-        End::Budget => values.cut(count),
-    }
-}
-
-/// The chain that asks the free port `from` and these levels for as many abstractions as `mark` has
-/// `o` before the empty value. The port is one of the net's, and the values are of this holder.
-///
-/// Unless it has left the net, the holder is unchanged. `NoMemory`: no memory was found. Earlier
-/// values stay.
-pub fn ask_once(
-    alloc: Global,
-    net: &Net,
-    values: &mut Values,
-    from: u32,
-    levels: &Levels,
-    mark: Val,
-) -> Result<End, NoMemory>
-    requires port { from < net.now.free }
-    requires levels { AreHeld values.old levels.now }
-    requires mark { mark < length values.old }
+/// The chain that stands at an active pair's link, before its last crossing: it enters the pair's
+/// first node next, by an auxiliary port. The step of the pair leaves all that came before.
+pub fn step_back(net: &Net, values: &mut Values, walker: Walker) -> Result<Walker, NoMemory>
+    requires held { AreHeld values.old walker.context }
+    requires at { IsAtPrincipal net.now values.old walker }
     ensures extends { Extends values.old values.new }
-    ensures held { IfOk result (λ e. IsHeldEnd values.new e) }
-    ensures ends { IfOk result (λ e.
-        IsEndOf net.now from (context_of values.old (question_of levels.now mark)) values.new e) }
-    ensures unchanged { IfOk result (λ e. IsUnchangedUnlessLeft values.old values.new e) }
+    ensures back { IfOk result (λ w. StepsBack net.now values.old walker values.new w) }
 {
-    let count = values.count();
-    let context = question(alloc, levels, mark)?;
-    let end = chain(net, values, from, context)?;
-    drop_unused(values, count, &end);
-    Ok(end)
+    net.is_net();
+    let mut context = walker.context;
+    let crossed = cross(net, values, walker.at, &mut context)?;
+    let Cross::Out(port) = crossed else {
+        unreachable!()
+    };
+    let Some(at) = net.partner(port) else {
+        unreachable!()
+    };
+    let made = walker.made - 1;
+    Ok(Walker { at, context, made })
 }

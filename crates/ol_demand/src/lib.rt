@@ -9,8 +9,9 @@
 //! is that of the net before, since steps keep paths (Gonthier, Abadi and Lévy, The Geometry of
 //! Optimal Lambda Reduction, 1992).
 //!
-//! A chain is walked for one number of abstractions at a time, and from its start after each
-//! rewrite: an open walk asks for all numbers at once, but it doesn't stop at an active pair.
+//! After the step of a pair the chain goes on where it met the pair: all that it crossed before is
+//! still there. A chain is walked for one number of abstractions at a time, from its start for each:
+//! an open walk asks for all numbers at once, but it doesn't stop at an active pair.
 //!
 //! - `demanding`: the whole demand run
 //! - `asking`: chains that ask frames, while the pairs that they meet are rewritten
