@@ -1,0 +1,36 @@
+-- A number of family steps than which no reduction to a normal form has fewer: what it is to leftmost
+-- reduction.
+use Rattle.std.specs.Prelude.{◌≡◌, ℕ, ◌≤◌, List, length}
+use Rattle.ol_beta.specs.Leftmost.{IsNormal}
+use Rattle.ol_edges.specs.Edges.{IsIn}
+use Rattle.ol_frugal.specs.Steps.{steps_of}
+use Rattle.ol_meaning.specs.Shows.{LeftmostReduces}
+use Rattle.ol_optimal.specs.Labels.{Label, Labelled, erased, LeftmostContracts}
+use Rattle.ol_term.specs.Trees.{Tree}
+use Rattle.ol_families.specs.Families.{HaveOwnLetters}
+use Rattle.ol_families.specs.Readings.{AreDifferent}
+use Rattle.ol_levy.specs.Reductions.{FamilyReduces}
+
+-- no reduction of T to a normal form by family steps has fewer than n of them
+abbrev pub NoneHasFewer : Labelled → ℕ → Type 0
+NoneHasFewer T n = (V : Labelled) (ds : List Label) → FamilyReduces T ds V → IsNormal (erased V) →
+    n ≤ length ds
+
+-- one has just n
+abbrev pub OneHasAsMany : Labelled → ℕ → Type 0
+OneHasAsMany T n = (V : Labelled) × (ds : List Label) × FamilyReduces T ds V × IsNormal (erased V)
+    × (n ≡ length ds)
+
+-- Let each subterm of a term have a letter of its own, and let leftmost reduction lead to a normal
+-- form. If no reduction by family steps has fewer than n, then n is the number of some different
+-- degrees that leftmost reduction contracts. And if one has just n, these degrees are all.
+abbrev pub FewestAreFamilies : Type 0
+FewestAreFamilies = (T v : Labelled) (ws : List Label) → HaveOwnLetters T →
+    LeftmostContracts T ws v → IsNormal (erased v) → (n : ℕ) → NoneHasFewer T n →
+    (es : List Label) × AreDifferent es × ((e : Label) → IsIn e es → IsIn e ws) × (n ≡ length es)
+    × (OneHasAsMany T n → (e : Label) → IsIn e ws → IsIn e es)
+
+-- Then n is no more than the number of redexes that leftmost reduction contracts.
+abbrev pub FewestIsFrugal : Type 0
+FewestIsFrugal = (t v : Tree) (r : LeftmostReduces t v) → IsNormal v → (n : ℕ) →
+    ((T : Labelled) → erased T ≡ t → HaveOwnLetters T → NoneHasFewer T n) → n ≤ steps_of r
