@@ -50,7 +50,7 @@ fn run<'a, R: Files + Input + Print + Threads + Wait + Sync>(
     // reading has all bytes of the file of its name where its end was seen, and else its first.
     //
     // Where the status is `Done`, all that `SaysWhenDone` lists holds of what standard output
-    // accepted: `plain` and four more in the words of terms alone, then the same of all words.
+    // accepted: `plain` and three more in the words of terms alone, then the same of all words.
     ensures done_says { result.status ≡ Status.Done
         → (files : Files) → AreOfSince files [] (⟦<StdSource<'a, R> as Source>⟧.readings result.src)
         → SaysWhenDone words.now.items files

@@ -19,6 +19,7 @@ mod SourceTrees
 mod NormalLines
 mod DemandedLines
 mod ComparedLines
+mod CountedLines
 mod PlainLines
 mod DemandedFuel
 mod Within

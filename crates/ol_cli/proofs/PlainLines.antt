@@ -22,35 +22,11 @@ use Rattle.ol_cli.specs.Jobs.{AskFor, AreTold, TellsFiles, TellsTerm, term_bytes
 use Rattle.ol_cli.specs.Sources.{WritesTree}
 use Rattle.ol_cli.specs.NormalForms.{ArePlain, LineIsOf, PlainLineSays}
 use Rattle.ol_cli.specs.NormalForms.{ArePlainTwo, PlainEqualSays, LineSaysOfTwo}
-use Rattle.ol_cli.specs.NormalForms.{CountsSay}
-use Rattle.ol_cli.specs.NormalForms.{IsNoMoreThanLeftmost, AreFamilies}
-use Rattle.ol_cli.specs.Demand.{Demands}
-use Rattle.ol_families.proofs.AllFamilies.{runs_are_of_families}
-use Rattle.ol_families.proofs.Betas.{runs_have_families}
-use Rattle.ol_lines.proofs.Lines.{holes_are_no_text}
-use Rattle.ol_net.specs.declared.parts.Rule.TheVariants as rule
-use Rattle.ol_parse.specs.Grammar.{Named}
-use Rattle.ol_parse.specs.Parsed.{AreNames}
-use Rattle.ol_parse.specs.Texts.{IsText}
-use Rattle.ol_parse.proofs.Words.{names_good}
-use Rattle.ol_readback.specs.Terms.{HasAllHeads}
-use Rattle.ol_readback.specs.declared.answers.ReadNode.{ReadNode}
-use Rattle.ol_readback.specs.declared.answers.ReadNode.TheVariants as node
-use Rattle.ol_rules.specs.Counting.{times_applied}
-use Rattle.ol_translate.specs.Names.{HasNames}
-use Rattle.ol_cli.proofs.DemandRuns.{is_start}
-use Rattle.ol_cli.proofs.OneAnswer.{file_names}
-use Rattle.ol_frugal.proofs.Never.{never_more}
-use Rattle.ol_io.specs.Outside.{Appended}
-use Rattle.ol_meaning.proofs.Endings.{no_redex}
-use Rattle.ol_rules.proofs.Relation.{same_refl}
-use Rattle.ol_rules.specs.Counting.{counts_of}
-use Rattle.ol_translate.specs.Translation.{translation_of}
-use Rattle.ol_translate.proofs.Whole.{translation_net}
+use Rattle.ol_cli.specs.NormalForms.{CountsSay, AreFewest}
+use Rattle.ol_cli.proofs.CountedLines.{writes_fewest}
 use Rattle.ol_cli.proofs.OneAnswer.{one_job}
 use Rattle.ol_cli.proofs.NormalLines.{run_printed, walk_printed, demand_printed, first_line}
 use Rattle.ol_cli.proofs.NormalLines.{file_of}
-use Rattle.ol_lines.proofs.Read.{one_line}
 use Rattle.ol_cli.proofs.DemandedLines.{writes_demanded}
 
 -- ---- one name
@@ -195,80 +171,12 @@ plain_demand words files old new w name p bytes has source is =
     let told = tells_of words (files 0) (demand Two 200000 4096 name) bytes j has in
     writes_demanded words bytes old new (w bytes told) (demand Two 200000 4096 name) j tt source is
 
--- The counts of `demand`: what holds of the line and of the beta steps of the demand run of the source's own net.
-abbrev HoldsOfRuns : (Named → List ℕ → ℕ → Type 0) → Type 0
-HoldsOfRuns Says = (source : Named) → AreNames (names_of source) → HasNames (number source) (length (names_of source)) →
-    (text : List ℕ) (d : Demands Two (number source) (names_of source) 200000 4096 text) →
-    Says source d.term (times_applied rule.Beta d.ends.journal)
-
-counts_say : (Says : Named → List ℕ → ℕ → Type 0) → HoldsOfRuns Says → (words : List (String Global)) (files : Files)
-    (old new : Option (List ℕ)) → Writes words files old new → (name : Text) →
-    ArePlain words (codes "demand") name → (bytes : List ℕ) → files 0 name ≡ Some bytes → (source : Named) →
-    IsText bytes source → CountsSay (Says source) old new
-unfolding demand_printed
-counts_say Says holds words files old new w name p bytes has source is =
+pub plain_fewest : (words : List (String Global)) (files : Files) (old new : Option (List ℕ)) →
+    Writes words files old new → PlainDemandSays (λ source. CountsSay (AreFewest source)) words files old new
+plain_fewest words files old new w name p bytes has source is =
     let j = asks_demand p refl in
     let told = tells_of words (files 0) (demand Two 200000 4096 name) bytes j has in
-    let r =
-    w bytes told (demand Two 200000 4096 name) (number source) (names_of source) j (file_of is) in
-    let d = r.1.demands in
-    record {
-      line = d.term;
-      counts = counts_of d.ends.journal;
-      stuck = d.stuck;
-      one = one_line is (demand_printed r.1);
-      written = subst (λ t. Appended old t new) d.written r.2;
-      says = holds source (names_good bytes source is) (file_names bytes (number source) (names_of source) (file_of is))
-          r.0 d;
-    }
-
-pub plain_frugal : (words : List (String Global)) (files : Files) (old new : Option (List ℕ)) →
-    Writes words files old new →
-    PlainDemandSays (λ source. CountsSay (λ line. IsNoMoreThanLeftmost source)) words files old new
-plain_frugal words files old new w = counts_say (λ source line. IsNoMoreThanLeftmost source) frugal words files old new w
-  where
-    frugal : HoldsOfRuns (λ source line. IsNoMoreThanLeftmost source)
-    frugal source good h text d v l n =
-        let names = names_of source in
-        let N = translation_of Two (number source) (length names) in
-        let is_net = translation_net Two (number source) (length names) h in
-        never_more Two (number source) (length names) h N is_net (same_refl N)
-        (is_start Two (number source) names is_net) l (no_redex v n) d.ends.run.run
-
-all_or_not : (ns : List ReadNode) → HasAllHeads ns ⊎ (HasAllHeads ns → ⊥)
-all_or_not [] = inl tt
-all_or_not (node.Head l v k ∷ ns) = all_or_not ns
-all_or_not (node.NoHead ∷ ns) = inr (λ h. h)
-all_or_not (node.Cut ∷ ns) = inr (λ h. h)
-
-pub plain_optimal : (words : List (String Global)) (files : Files) (old new : Option (List ℕ)) →
-    Writes words files old new →
-    PlainDemandSays (λ source. CountsSay (AreFamilies source)) words files old new
-plain_optimal words files old new w = counts_say AreFamilies optimal words files old new w
-  where
-    optimal : HoldsOfRuns AreFamilies
-    optimal source good h text d T v ws e own l n =
-        let names = names_of source in
-        let N = translation_of Two (number source) (length names) in
-        let is_net = translation_net Two (number source) (length names) h in
-        let start = is_start Two (number source) names is_net in
-        let r = d.ends.run in
-        elim (all_or_not d.ends.tree) [
-          | inl all ↦
-              let x = runs_are_of_families Two T v ws l n own (number source) e (length names) h N is_net (same_refl N)
-              start 4096 d.ends.journal d.ends.tree d.ends.net r all in
-              (x.0, x.1, λ e. (x.2 e).0, x.3, λ result is e. (x.2 e).1)
-          | inr holes ↦
-              let x = runs_have_families Two T v ws l n own (number source) e (length names) h N is_net (same_refl N)
-              start 4096 r.turns d.ends.journal r.asked_places d.ends.net r.last r.run in (
-                x.0,
-                x.1,
-                x.2,
-                x.3,
-                λ result is. absurd (holes
-                    (holes_are_no_text names d.ends.tree d.term good d.shown result is)),
-              )
-        ]
+    writes_fewest words bytes old new (w bytes told) Two 200000 4096 name j source is
 
 -- the bytes of two files are those of the job's files
 two_told : (files : Files) (a b : Text) (m n : List ℕ) → files 0 a ≡ Some m → files 1 b ≡ Some n →

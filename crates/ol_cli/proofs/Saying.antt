@@ -20,7 +20,8 @@ use Rattle.ol_cli.proofs.SourceTrees.{writes_of_sources}
 use Rattle.ol_cli.proofs.NormalLines.{writes_normal_form, writes_no_normal_form}
 use Rattle.ol_cli.proofs.DemandedLines.{writes_demanded}
 use Rattle.ol_cli.proofs.ComparedLines.{writes_of_two}
-use Rattle.ol_cli.proofs.PlainLines.{plain_demand, plain_equal, plain_frugal, plain_optimal, plain_writes}
+use Rattle.ol_cli.proofs.CountedLines.{writes_fewest, writes_no_stuck}
+use Rattle.ol_cli.proofs.PlainLines.{plain_demand, plain_equal, plain_fewest, plain_writes}
 
 module _ (words : List (String Global)) (f f' given : ℕ) (ended : Bool) (g g' : ℕ) (old new : Option (List ℕ))
     (made : Result Answer no_memory.NoMemory) (o : Outcome) (w : Writes made o g g' old new) (files : Files)
@@ -54,12 +55,13 @@ module _ (words : List (String Global)) (f f' given : ℕ) (ended : Bool) (g g' 
   says_when_done is = record {
     plain = plain_writes words files old new (tree is);
     plain_demand = plain_demand words files old new (tree is);
-    plain_frugal = plain_frugal words files old new (tree is);
-    plain_optimal = plain_optimal words files old new (tree is);
+    plain_fewest = plain_fewest words files old new (tree is);
     plain_equal = plain_equal words files old new (λ tells. writes_of_two words files old new (sources is tells));
     normal_form = λ bytes tells. writes_normal_form words bytes old new (tree is bytes tells);
     no_normal_form = λ bytes tells. writes_no_normal_form words bytes old new (tree is bytes tells);
     demanded = λ bytes tells. writes_demanded words bytes old new (tree is bytes tells);
+    fewest = λ bytes tells. writes_fewest words bytes old new (tree is bytes tells);
+    no_stuck = λ bytes tells. writes_no_stuck words bytes old new (tree is bytes tells);
     two_terms = λ tells. writes_of_two words files old new (sources is tells);
     tree = tree is;
     sources = sources is;

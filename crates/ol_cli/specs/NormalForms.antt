@@ -8,12 +8,10 @@ use Rattle.ol_term.specs.Trees.{Tree, var, free, lam, app}
 use Rattle.ol_parse.specs.Grammar.{Named}
 use Rattle.ol_parse.specs.Texts.{IsLine, IsText}
 use Rattle.ol_beta.specs.Leftmost.{IsNormal}
-use Rattle.ol_meaning.specs.Shows.{BetaReduces, LeftmostReduces}
-use Rattle.ol_edges.specs.Edges.{IsIn}
-use Rattle.ol_frugal.specs.Steps.{steps_of}
-use Rattle.ol_optimal.specs.Labels.{Label, Labelled, erased, LeftmostContracts}
-use Rattle.ol_families.specs.Readings.{AreDifferent}
+use Rattle.ol_meaning.specs.Shows.{BetaReduces}
+use Rattle.ol_optimal.specs.Labels.{Labelled, erased}
 use Rattle.ol_families.specs.Families.{HaveOwnLetters}
+use Rattle.ol_levy.specs.Fewest.{NoneHasFewer, OneHasAsMany}
 use Rattle.ol_rules.specs.declared.journal.Counts.{Counts}
 use Rattle.ol_lines.specs.NormalForms.{by_names_of, IsNormalFormOf, HasNoNormalForm}
 use Rattle.ol_lines.specs.NormalForms.{AreConvertible}
@@ -87,6 +85,44 @@ LineSaysOfTwo words files old new = (translation : Translation) (workers fuel he
     (bytes bytes' : List ℕ) → files 0 a ≡ Some bytes → files 1 b ≡ Some bytes' →
     (t u : Named) → IsText bytes t → IsText bytes' u → FirstLine (SaysOfTwo t u) old new
 
+-- ---- the lines of counts
+
+-- the job writes a term and the counts of its run
+abbrev pub PrintsCounts : Asked → Type 0
+PrintsCounts (run translation workers fuel heads name) = Unit {0}
+PrintsCounts (gen translation true k) = Unit {0}
+PrintsCounts (demand translation fuel heads name) = Unit {0}
+PrintsCounts _ = ⊥
+
+-- What was appended, where the sink tells it, is a line and the nine lines of counts: no pair is
+-- stuck, and this is said of the line and the number of beta steps.
+pub record CountsSay (Says : List ℕ → ℕ → Type 0) (old new : Option (List ℕ)) : Type 0 where
+  pub line : List ℕ
+  pub counts : Counts
+  pub one : IsLine line
+  pub written : Appended old (answer_text line counts 0) new
+  pub says : Says line counts.beta
+
+-- a job that writes counts writes `stuck 0` on their last line
+abbrev pub NoneIsStuck : List (String Global) → List ℕ → Option (List ℕ) → Option (List ℕ) → Type 0
+NoneIsStuck words bytes old new = (asked : Asked) → AskFor words asked → PrintsCounts asked →
+    (source : Named) → IsText bytes source → CountsSay (λ line beta. Unit {0}) old new
+
+-- Let each subterm of the source have a letter of its own as its label. No reduction of the labelled
+-- term to a normal form that contracts families at once, whichever it likes, has fewer steps than
+-- there are beta steps (Lévy). And if the line is a text of a term, one has just as many.
+abbrev pub AreFewest : Named → List ℕ → ℕ → Type 0
+AreFewest source line beta = (T : Labelled) → erased T ≡ by_names_of source source →
+    HaveOwnLetters T → NoneHasFewer T beta
+    × ((result : Named) → IsText line result → OneHasAsMany T beta)
+
+-- so it is with the beta steps of `demand`, whatever its options are
+abbrev pub BetasAreFewest : List (String Global) → List ℕ → Option (List ℕ) → Option (List ℕ) →
+    Type 0
+BetasAreFewest words bytes old new = (translation : Translation) (fuel heads : ℕ) (name : Text) →
+    AskFor words (demand translation fuel heads name) →
+    (source : Named) → IsText bytes source → CountsSay (AreFewest source) old new
+
 -- ---- words without options
 
 -- the words are the program's name, this verb and the name of a file, which is no option
@@ -114,34 +150,6 @@ abbrev pub PlainDemandSays : (Named → Option (List ℕ) → Option (List ℕ) 
 PlainDemandSays Says words files old new = (name : Text) → ArePlain words (codes "demand") name →
     (bytes : List ℕ) → files 0 name ≡ Some bytes → (source : Named) → IsText bytes source →
     Says source old new
-
--- Leftmost reduction of the source to a normal form, where there is one, contracts at least so many
--- redexes.
-abbrev pub IsNoMoreThanLeftmost : Named → ℕ → Type 0
-IsNoMoreThanLeftmost source beta = (v : Tree) (r : LeftmostReduces (by_names_of source source) v) → IsNormal v →
-    beta ≤ steps_of r
-
--- What was appended, where the sink tells it, is a line and the nine lines of counts; of the line
--- and the number of beta steps this is said.
-pub record CountsSay (Says : List ℕ → ℕ → Type 0) (old new : Option (List ℕ)) : Type 0 where
-  pub line : List ℕ
-  pub counts : Counts
-  pub stuck : ℕ
-  pub one : IsLine line
-  pub written : Appended old (answer_text line counts stuck) new
-  pub says : Says line counts.beta
-
--- Let the subterms of the source have labels, each a letter of its own. Where leftmost reduction
--- leads to a normal form, there are as many beta steps as some different degrees among those that it
--- contracts, so at least so many families (Lévy). And where the line is a text of a term, these
--- degrees are all: there are just as many families.
-abbrev pub AreFamilies : Named → List ℕ → ℕ → Type 0
-AreFamilies source line beta = (T v : Labelled) (degrees : List Label) →
-    erased T ≡ by_names_of source source → HaveOwnLetters T →
-    LeftmostContracts T degrees v → IsNormal (erased v) →
-    (es : List Label) × AreDifferent es × ((e : Label) → IsIn e es → IsIn e degrees)
-    × (beta ≡ length es)
-    × ((result : Named) → IsText line result → (e : Label) → IsIn e degrees → IsIn e es)
 
 -- the words are the program's name, `equal` and the names of two files: no options, and not
 -- standard input for both

@@ -8,13 +8,13 @@ use Rattle.ol_cli.specs.declared.status.Status.TheVariants as status
 use Rattle.ol_cli.specs.Jobs.{Files, TellsTerm, TellsFiles}
 use Rattle.ol_cli.specs.Answers.{IsAnswer}
 use Rattle.ol_cli.specs.NormalForms.{PlainLineSays, PlainDemandSays, PlainEqualSays, FirstLine, CountsSay}
-use Rattle.ol_cli.specs.NormalForms.{IsFoundWithin, IsNoMoreThanLeftmost, AreFamilies}
+use Rattle.ol_cli.specs.NormalForms.{IsFoundWithin, AreFewest, BetasAreFewest, NoneIsStuck}
 use Rattle.ol_cli.specs.NormalForms.{LineSays, IsItsNormalForm, TellsOfNone, IsFoundOnDemand, LineSaysOfTwo}
 use Rattle.ol_cli.specs.Sources.{EveryRunTells, WritesTree}
 use Rattle.ol_cli.specs.SourceLaws.{WritesOfSources}
 use Rattle.ol_cli.specs.Completeness.{AskForWhatCanBeDone, IsDoneOrNothing}
 
--- What is said where the status is `Done`. The first five say it in the words of terms alone, for words without options.
+-- What is said where the status is `Done`. The first four say it in the words of terms alone, for words without options.
 pub record SaysWhenDone (words : List (String Global)) (files : Files) (old new : Option (List ℕ)) : Type 0 where
   -- After `ol run NAME`, `ol demand NAME` or `ol walk NAME`: where the first line that is written is a
   -- text of a term, that term is the normal form of the term in the file; and where `run` or `demand`
@@ -23,13 +23,10 @@ pub record SaysWhenDone (words : List (String Global)) (files : Files) (old new 
   -- And after `ol demand NAME` that line is a text of the normal form of the term in the file, where
   -- there is one and variables stand in at most 4,096 places of it.
   pub plain_demand : PlainDemandSays (λ source. FirstLine (IsFoundWithin 4096 source)) words files old new
-  -- Its `beta` is no more than the number of redexes that leftmost reduction of the term in the file
-  -- contracts on its way to a normal form.
-  pub plain_frugal : PlainDemandSays (λ source. CountsSay (λ line. IsNoMoreThanLeftmost source)) words files old new
-  -- Nor is it more than the number of families among these redexes, told by Lévy's labels. And where
-  -- the line is a text of a term it is that number. (By a theorem of Lévy's, which isn't proved here,
-  -- no way of contracting whole families at once leads to the normal form by fewer.)
-  pub plain_optimal : PlainDemandSays (λ source. CountsSay (AreFamilies source)) words files old new
+  -- No way of contracting families of redexes at once, told by Lévy's labels, leads from the term in
+  -- the file to a normal form by fewer steps than its `beta`. And where the line is a text of a term,
+  -- one way has just as many.
+  pub plain_fewest : PlainDemandSays (λ source. CountsSay (AreFewest source)) words files old new
   -- After `ol equal A B` the line is `equal` only where the terms in the two files are convertible, and
   -- begins with `different` only where they aren't. Beta reduction alone counts, and free names are the
   -- same where their bytes are.
@@ -43,6 +40,10 @@ pub record SaysWhenDone (words : List (String Global)) (files : Files) (old new 
   -- And where the job's own term has a normal form, with no more variables than there are heads that
   -- `demand` was asked for, that is the term that `demand` writes.
   pub demanded : (bytes : List ℕ) → TellsTerm (files 0) words bytes → LineSays IsFoundOnDemand words bytes old new
+  -- Whatever the options of `demand` are, its `beta` is such a fewest number for the term in its file.
+  pub fewest : (bytes : List ℕ) → TellsTerm (files 0) words bytes → BetasAreFewest words bytes old new
+  -- No pair is ever stuck: the tenth line that `run`, `demand` or `gen --run` writes is `stuck 0`.
+  pub no_stuck : (bytes : List ℕ) → TellsTerm (files 0) words bytes → NoneIsStuck words bytes old new
   -- Where `equal` writes `equal`, the terms of its two files are convertible, and where it writes
   -- `different`, they aren't. Free names are the same where their bytes are.
   pub two_terms : TellsFiles files words → LineSaysOfTwo words files old new

@@ -1,0 +1,160 @@
+-- What the lines of counts say: no pair is stuck, and no way of contracting families at once has fewer steps than `demand`.
+use Rattle.std.proofs.Common.{◌≡◌, ℕ, List, Option, String, Global, ◌⊎◌, inl, inr, sym, ap, ◌∙◌, subst}
+use Rattle.std.specs.Prelude.{[], ◌∷◌, length, true, false}
+use Rattle.ol_beta.specs.Leftmost.{IsNormal}
+use Rattle.ol_demand.specs.Demands.{IsDemandRun}
+use Rattle.ol_families.proofs.Labelling.{leftmost_is_labelled}
+use Rattle.ol_io.specs.Outside.{Appended}
+use Rattle.ol_levy.proofs.Demanding.{is_no_longer, is_as_short}
+use Rattle.ol_levy.proofs.Steps.{whole_families_are_families}
+use Rattle.ol_lines.proofs.Lines.{holes_are_no_text}
+use Rattle.ol_lines.proofs.Read.{one_line, line_is_normal_form}
+use Rattle.ol_lines.specs.NormalForms.{by_names_of, IsNormalFormOf}
+use Rattle.ol_meaning.specs.Shows.{LeftmostReduces}
+use Rattle.ol_net.specs.declared.parts.Rule.TheVariants as rule
+use Rattle.ol_parse.specs.Grammar.{Named}
+use Rattle.ol_parse.specs.Numbered.{names_of, number}
+use Rattle.ol_parse.specs.Parsed.{AreNames}
+use Rattle.ol_parse.specs.Texts.{IsText}
+use Rattle.ol_parse.proofs.Words.{names_good}
+use Rattle.ol_readback.specs.Terms.{HasAllHeads}
+use Rattle.ol_readback.specs.declared.answers.ReadNode.{ReadNode}
+use Rattle.ol_readback.specs.declared.answers.ReadNode.TheVariants as node
+use Rattle.ol_rules.proofs.Relation.{same_refl}
+use Rattle.ol_rules.specs.Counting.{counts_of, times_applied}
+use Rattle.ol_term.specs.Trees.{Tree}
+use Rattle.ol_term.specs.declared.translations.Translation.{Translation}
+use Rattle.ol_translate.proofs.Whole.{translation_net}
+use Rattle.ol_translate.specs.Names.{HasNames}
+use Rattle.ol_translate.specs.Translation.{translation_of}
+use Rattle.ol_unstuck.proofs.TermRuns.{no_pair_is_stuck_in_order}
+use Rattle.ol_words.specs.declared.jobs.Job.{Job as Asked}
+use Rattle.ol_words.specs.declared.jobs.Job.TheVariants.{Run as run, Walk as walk, View as view}
+use Rattle.ol_words.specs.declared.jobs.Job.TheVariants.{Trace as trace, Check as check, Gen as gen}
+use Rattle.ol_words.specs.declared.jobs.Job.TheVariants.{Demand as demand, Certify as certify}
+use Rattle.ol_words.specs.declared.jobs.Job.TheVariants as jobs
+use Rattle.ol_cli.proofs.DemandRuns.{is_start}
+use Rattle.ol_cli.proofs.NormalLines.{run_printed, demand_printed, file_of}
+use Rattle.ol_cli.proofs.OneAnswer.{file_names}
+use Rattle.ol_cli.specs.Demand.{Demands}
+use Rattle.ol_cli.specs.NormalForms.{PrintsCounts, CountsSay, NoneIsStuck, AreFewest, BetasAreFewest}
+use Rattle.ol_cli.specs.Run.{Prints}
+use Rattle.ol_cli.specs.Sources.{PrintsTree, DemandsTree, TellsTree, WritesTree}
+use Rattle.ol_cli.specs.Texts.{answer_text}
+
+-- ---- no pair is stuck
+
+module _ {translation : Translation} {t : Tree} {names : List (List ℕ)} (h : HasNames t (length names))
+    {fuel heads : ℕ} {text : List ℕ} where
+  run_has_none : (p : Prints translation t names fuel heads text) → p.shows.stuck ≡ 0
+  run_has_none p =
+      (no_pair_is_stuck_in_order translation t (length names) h).0 fuel p.ends.journal p.ends.net p.ends.run
+      p.shows.stuck p.shows.counted
+
+  demand_has_none : (d : Demands translation t names fuel heads text) → d.stuck ≡ 0
+  demand_has_none d =
+      let r = d.ends.run in
+      (no_pair_is_stuck_in_order translation t (length names) h).1 heads r.turns d.ends.journal r.asked_places
+      d.ends.net r.last r.run d.stuck d.counted
+
+module _ {bytes : List ℕ} {source : Named} (is : IsText bytes source) {translation : Translation} {fuel heads : ℕ}
+    {text : List ℕ} (old new : Option (List ℕ)) (a : Appended old text new) where
+  names : List (List ℕ)
+  names = names_of source
+
+  has_names : HasNames (number source) (length names)
+  has_names = file_names bytes (number source) names (file_of is)
+
+  run_counts : PrintsTree translation (number source) names fuel heads text →
+      CountsSay (λ line beta. Unit {0}) old new
+  run_counts p = record {
+    line = p.prints.shows.term;
+    counts = counts_of p.prints.ends.journal;
+    one = one_line is (run_printed p);
+    written = subst (λ t. Appended old t new)
+        (p.prints.shows.written
+        ∙ ap (answer_text p.prints.shows.term (counts_of p.prints.ends.journal)) (run_has_none has_names p.prints)) a;
+    says = tt;
+  }
+
+  demand_counts : (d : DemandsTree translation (number source) names fuel heads text) → (Says : List ℕ → ℕ → Type 0) →
+      Says d.demands.term (times_applied rule.Beta d.demands.ends.journal) → CountsSay Says old new
+  unfolding demand_printed
+  demand_counts d Says says = record {
+    line = d.demands.term;
+    counts = counts_of d.demands.ends.journal;
+    one = one_line is (demand_printed d);
+    written = subst (λ t. Appended old t new)
+        (d.demands.written
+        ∙ ap (answer_text d.demands.term (counts_of d.demands.ends.journal)) (demand_has_none has_names d.demands)) a;
+    says = says;
+  }
+
+module _ {bytes : List ℕ} {source : Named} (is : IsText bytes source) (old new : Option (List ℕ))
+    (text : List ℕ) (a : Appended old text new) where
+  none_of : (asked : Asked) → PrintsCounts asked → TellsTree asked (number source) (names_of source) text →
+      CountsSay (λ line beta. Unit {0}) old new
+  none_of (run tr w f q name) k h = run_counts is old new a h
+  none_of (walk tr e q name) k h = absurd k
+  none_of (view tr n name) k h = absurd k
+  none_of (trace tr w f name) k h = absurd k
+  none_of (check tr first second) k h = absurd k
+  none_of (gen tr true n) k h = run_counts is old new a h
+  none_of (gen tr false n) k h = absurd k
+  none_of (demand tr f q name) k h = demand_counts is old new a h (λ line beta. Unit {0}) tt
+  none_of (certify tr b w f q name) k h = absurd k
+  none_of (jobs.Net tr from w f name) k h = absurd k
+  none_of (jobs.Equal tr w f q first second) k h = absurd k
+
+pub writes_no_stuck : (words : List (String Global)) (bytes : List ℕ) (old new : Option (List ℕ)) →
+    WritesTree words bytes old new → NoneIsStuck words bytes old new
+writes_no_stuck words bytes old new w asked j k source is =
+    let r = w asked (number source) (names_of source) j (file_of is) in
+    none_of is old new r.0 r.2 asked k r.1
+
+-- ---- the fewest steps
+
+all_or_not : (ns : List ReadNode) → HasAllHeads ns ⊎ (HasAllHeads ns → ⊥)
+all_or_not [] = inl tt
+all_or_not (node.Head l v k ∷ ns) = all_or_not ns
+all_or_not (node.NoHead ∷ ns) = inr (λ h. h)
+all_or_not (node.Cut ∷ ns) = inr (λ h. h)
+
+-- of a demand run of the source's own net, of which this line is printed
+fewest : (translation : Translation) (source : Named) (fuel heads : ℕ) (text : List ℕ) → AreNames (names_of source) →
+    HasNames (number source) (length (names_of source)) →
+    (d : Demands translation (number source) (names_of source) fuel heads text) →
+    ((result : Named) → IsText d.term result → IsNormalFormOf source result) →
+    AreFewest source d.term (times_applied rule.Beta d.ends.journal)
+fewest translation source fuel heads text good h d form T e own =
+    let names = names_of source in
+    let N = translation_of translation (number source) (length names) in
+    let is_net = translation_net translation (number source) (length names) h in
+    let start = is_start translation (number source) names is_net in
+    let r = d.ends.run in (
+      λ V ds f n.
+          is_no_longer translation T V ds f n own (number source) e (length names) h N is_net (same_refl N) start heads
+          r.turns d.ends.journal r.asked_places d.ends.net r.last r.run,
+      λ result is. elim (all_or_not d.ends.tree) [
+        | inl all ↦
+            let v = form result is in
+            let leads = v.1.leftmost in
+            let l = leftmost_is_labelled T (by_names_of source result)
+            (subst (λ t. LeftmostReduces t (by_names_of source result)) (sym e) leads) in
+            let n = subst IsNormal (sym l.3) v.1.is_normal in
+            let x = is_as_short translation T l.0 l.1 l.2 n own (number source) e (length names) h N is_net (same_refl N)
+            start heads d.ends.journal d.ends.tree d.ends.net r all in
+            (l.0, x.0, whole_families_are_families T l.0 x.0 x.1, n, x.2)
+        | inr holes ↦ absurd (holes (holes_are_no_text names d.ends.tree d.term good d.shown result is))
+      ],
+    )
+
+pub writes_fewest : (words : List (String Global)) (bytes : List ℕ) (old new : Option (List ℕ)) →
+    WritesTree words bytes old new → BetasAreFewest words bytes old new
+unfolding demand_printed
+writes_fewest words bytes old new w translation fuel heads name j source is =
+    let r = w (demand translation fuel heads name) (number source) (names_of source) j (file_of is) in
+    demand_counts is old new r.2 r.1 (AreFewest source)
+    (fewest translation source fuel heads r.0 (names_good bytes source is)
+    (file_names bytes (number source) (names_of source) (file_of is)) r.1.demands
+    (line_is_normal_form is (demand_printed r.1)))
