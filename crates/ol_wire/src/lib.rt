@@ -17,7 +17,7 @@
 //! - `view`: what a seat knows and holds.
 //! - `law`: the rule.
 //! - `plays`: what each kind of step tells the seat that makes it.
-//! - `rule_laws`: what the rule says at every moment.
+//! - `rule_laws`: what the rule says, under which alone the words can be stepped on.
 //!
 //! The calls:
 //! - `shared`: the table that threads share. Its parts are `seats`, `turns`, `steps`, `links`,
