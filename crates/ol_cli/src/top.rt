@@ -206,7 +206,9 @@ pub fn ol<R: Threads + Wait + Sync, S: Source, W: Sink, G: Gate + Sync>(
     ensures done { 0 < files_of words.now.items → result.status ≡ Status.Done
         → S.ended src.new ≡ true }
 
-    // Where the first of two files is refused for its bytes, the second isn't begun.
+    // If the first of two files is refused for its bytes, as they were read, no second name is
+    // begun. Nor is one if its end wasn't seen, as after a read fault: it may then go on beyond the
+    // limit, and such a file is refused.
     ensures first_alone { OfFilesRead S.Source src.old src.new (λ files.
         (asked : Asked) → AskFor words.now.items asked
         → RefusesFirst (files 0) asked → S.begins src.new ≤ S.begins src.old + 1) }
