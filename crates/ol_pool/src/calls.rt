@@ -49,8 +49,9 @@ impl Pool {
     /// Takes a cell: first from the hand's own part, then from each other part in the order of their
     /// numbers after it, and on from 0. It waits for nobody, and takes no memory.
     ///
-    /// A cell came from a part only where each part before it in this order gave none: it was empty,
-    /// or another's step was in the way of two looks at it.
+    /// A cell came from a part only where each part before it in this order gave none: it answered
+    /// that it is empty, or twice that it be looked at again. The hand's counts of these answers
+    /// tell this, unless one stands at its last value. That a part was empty isn't said.
     ///
     /// None: each part gave none likewise, and the hand has `missed`.
     pub fn take(&self, hand: &mut Hand) -> Option<u32>
