@@ -186,7 +186,10 @@ pub fn ol<R: Threads + Wait + Sync, S: Source, W: Sink, G: Gate + Sync>(
         Hands words.now.items (seen_of S.Source files src.old src.new)
         result.status result.closed (W.taken out.old) (W.taken out.new)) }
 
-    // A fault that is told has risen, and one that has risen is told.
+    // A fault that is told has risen, and one that has risen is told. A count can't rise beyond
+    // 2^64 - 1, its last value. If the sink's stood there before the call, `Rose` holds of it
+    // whatever came, so `read_told` says nothing. It says nothing either if the source's own stood
+    // there, nor does `write_told` if the sink's did.
     ensures read { result.status ≡ Status.ReadFault
         → Rose (S.faults src.old) (S.faults src.new) }
     ensures write { result.status ≡ Status.WriteFault
