@@ -6,7 +6,7 @@ use Rattle.ol_demand.specs.Demands.{IsDemandRun}
 use Rattle.ol_families.proofs.Labelling.{leftmost_is_labelled}
 use Rattle.ol_io.specs.Outside.{Appended}
 use Rattle.ol_levy.proofs.Demanding.{is_no_longer, is_as_short}
-use Rattle.ol_levy.proofs.Steps.{whole_families_are_families}
+use Rattle.ol_levy.proofs.Steps.{leftmost_families_are_families}
 use Rattle.ol_lines.proofs.Lines.{holes_are_no_text}
 use Rattle.ol_lines.proofs.Read.{one_line, line_is_normal_form}
 use Rattle.ol_lines.specs.NormalForms.{by_names_of, IsNormalFormOf}
@@ -144,7 +144,7 @@ fewest translation source fuel heads text good h d form T e own =
             let n = subst IsNormal (sym l.3) v.1.is_normal in
             let x = is_as_short translation T l.0 l.1 l.2 n own (number source) e (length names) h N is_net (same_refl N)
             start heads d.ends.journal d.ends.tree d.ends.net r all in
-            (l.0, x.0, whole_families_are_families T l.0 x.0 x.1, n, x.2)
+            (l.0, x.0, leftmost_families_are_families T l.0 x.0 x.1, n, x.2)
         | inr holes ↦ absurd (holes (holes_are_no_text names d.ends.tree d.term good d.shown result is))
       ],
     )
