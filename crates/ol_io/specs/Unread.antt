@@ -1,4 +1,4 @@
--- Private: what is left to be read of a file.
+-- What is left to be read of a file.
 use Rattle.std.specs.Prelude.{ℕ, List, [], slice_get, drop}
 use Rattle.std.specs.Option.{option_map_or}
 use Rattle.ol_io.specs.Files.{File}
