@@ -27,6 +27,7 @@ use Rattle.ol_term.specs.declared.translations.Translation.{Translation}
 use Rattle.ol_translate.proofs.Whole.{translation_net}
 use Rattle.ol_translate.specs.Names.{HasNames}
 use Rattle.ol_translate.specs.Translation.{translation_of}
+use Rattle.ol_unstuck.proofs.Names.{count_is_none}
 use Rattle.ol_unstuck.proofs.TermRuns.{no_pair_is_stuck_in_order}
 use Rattle.ol_words.specs.declared.jobs.Job.{Job as Asked}
 use Rattle.ol_words.specs.declared.jobs.Job.TheVariants.{Run as run, Walk as walk, View as view}
@@ -48,24 +49,24 @@ module _ {translation : Translation} {t : Tree} {names : List (List ℕ)} (h : H
     {fuel heads : ℕ} {text : List ℕ} where
   run_has_none : (p : Prints translation t names fuel heads text) → p.shows.stuck ≡ 0
   run_has_none p =
-      (no_pair_is_stuck_in_order translation t (length names) h).0 fuel p.ends.journal p.ends.net p.ends.run
+      count_is_none p.ends.net
+      ((no_pair_is_stuck_in_order translation t (length names) h).0 fuel p.ends.journal p.ends.net p.ends.run)
       p.shows.stuck p.shows.counted
 
   demand_has_none : (d : Demands translation t names fuel heads text) → d.stuck ≡ 0
   demand_has_none d =
       let r = d.ends.run in
-      (no_pair_is_stuck_in_order translation t (length names) h).1 heads r.turns d.ends.journal r.asked_places
-      d.ends.net r.last r.run d.stuck d.counted
+      count_is_none d.ends.net
+      ((no_pair_is_stuck_in_order translation t (length names) h).1 heads r.turns d.ends.journal r.asked_places
+      d.ends.net r.last r.run) d.stuck d.counted
+
+has_names : {bytes : List ℕ} {source : Named} → IsText bytes source →
+    HasNames (number source) (length (names_of source))
+has_names {bytes} {source} is = file_names bytes (number source) (names_of source) (file_of is)
 
 module _ {bytes : List ℕ} {source : Named} (is : IsText bytes source) {translation : Translation} {fuel heads : ℕ}
     {text : List ℕ} (old new : Option (List ℕ)) (a : Appended old text new) where
-  names : List (List ℕ)
-  names = names_of source
-
-  has_names : HasNames (number source) (length names)
-  has_names = file_names bytes (number source) names (file_of is)
-
-  run_counts : PrintsTree translation (number source) names fuel heads text →
+  run_counts : PrintsTree translation (number source) (names_of source) fuel heads text →
       CountsSay (λ line beta. Unit {0}) old new
   run_counts p = record {
     line = p.prints.shows.term;
@@ -73,11 +74,11 @@ module _ {bytes : List ℕ} {source : Named} (is : IsText bytes source) {transla
     one = one_line is (run_printed p);
     written = subst (λ t. Appended old t new)
         (p.prints.shows.written
-        ∙ ap (answer_text p.prints.shows.term (counts_of p.prints.ends.journal)) (run_has_none has_names p.prints)) a;
+        ∙ ap (answer_text p.prints.shows.term (counts_of p.prints.ends.journal)) (run_has_none (has_names is) p.prints)) a;
     says = tt;
   }
 
-  demand_counts : (d : DemandsTree translation (number source) names fuel heads text) → (Says : List ℕ → ℕ → Type 0) →
+  demand_counts : (d : DemandsTree translation (number source) (names_of source) fuel heads text) → (Says : List ℕ → ℕ → Type 0) →
       Says d.demands.term (times_applied rule.Beta d.demands.ends.journal) → CountsSay Says old new
   unfolding demand_printed
   demand_counts d Says says = record {
@@ -86,7 +87,7 @@ module _ {bytes : List ℕ} {source : Named} (is : IsText bytes source) {transla
     one = one_line is (demand_printed d);
     written = subst (λ t. Appended old t new)
         (d.demands.written
-        ∙ ap (answer_text d.demands.term (counts_of d.demands.ends.journal)) (demand_has_none has_names d.demands)) a;
+        ∙ ap (answer_text d.demands.term (counts_of d.demands.ends.journal)) (demand_has_none (has_names is) d.demands)) a;
     says = says;
   }
 
@@ -155,6 +156,5 @@ unfolding demand_printed
 writes_fewest words bytes old new w translation fuel heads name j source is =
     let r = w (demand translation fuel heads name) (number source) (names_of source) j (file_of is) in
     demand_counts is old new r.2 r.1 (AreFewest source)
-    (fewest translation source fuel heads r.0 (names_good bytes source is)
-    (file_names bytes (number source) (names_of source) (file_of is)) r.1.demands
+    (fewest translation source fuel heads r.0 (names_good bytes source is) (has_names is) r.1.demands
     (line_is_normal_form is (demand_printed r.1)))
