@@ -58,9 +58,9 @@ pub record SaysWhenDone (words : List (String Global)) (files : Files) (old new 
   -- - Where each place has a head, leftmost reduction leads from the term to the tree's term, which is a
   --   beta-normal form: the only one, to which each reduct of the term leads. Its text is in the grammar,
   --   and read back it is the tree's term, which has no redex.
-  -- - Where `run`, `demand` or `gen --run` prints a `?`, whatever pairs are stuck, paths of any length
-  --   give no head in the untouched net in its place, head reduction of the term there has no end, and
-  --   the whole term has no normal form. Of a `?` of `walk` nothing more is said.
+  -- - Where `run`, `demand` or `gen --run` prints a `?`, paths of any length give no head in the untouched
+  --   net in its place, head reduction of the term there has no end, and the whole term has no normal
+  --   form. Of a `?` of `walk` nothing more is said.
   -- - From the net that `demand` leaves the asked places can be read by walks that meet no active pair. A
   --   run, of any pairs in any order, leads to such a net exactly where it has rewritten each pair that
   --   `demand` rewrites, by birth names, and then it is no shorter. Each complete run leads to one.

@@ -50,7 +50,8 @@ pub struct Outcome {
 /// - `run [--workers N] [--fuel F] [--heads Q] NAME` reads a term from the file of that name, `-`
 ///   being standard input, translates it into a net, and has N workers rewrite the net by at most F
 ///   interactions. It writes the term that is read back from the last net, of which the first Q
-///   subterms are asked for, and then how often each rule was applied and how many pairs are stuck.
+///   subterms are asked for, and then how often each rule was applied, and `stuck 0`: no pair of a
+///   term's net is ever without a rule.
 /// - `walk [--edges E] [--heads Q] NAME` writes the term that is read back from the untouched net,
 ///   each walk trying at most E crossings.
 /// - `view [--after K] NAME` rewrites the net by at most K interactions of the one-thread run, and
@@ -66,7 +67,7 @@ pub struct Outcome {
 /// - `demand [--fuel F] [--heads Q] NAME` reads the term back in one thread from the untouched net,
 ///   and rewrites only the active pairs that the walks of the reading meet, at most F of them. It
 ///   writes what `run` writes: the term, of which the first Q subterms are asked for, how often each
-///   rule was applied, and how many pairs are stuck in the net that is left.
+///   rule was applied, and `stuck 0`.
 /// - `certify [--steps B] [--workers N] [--fuel F] [--heads Q] NAME` rewrites the net and reads it
 ///   back as `run` does, and reduces the term by at most B leftmost beta steps. It writes whether
 ///   the normal form is what was read back, and then the address of each step; or why that isn't
@@ -102,9 +103,8 @@ pub struct Outcome {
 /// from the source to the term that is written, with some term in the place of each `...` and each
 /// `?`. Where there are none of these, leftmost reduction leads there, and the term is a normal
 /// form; its text is in the grammar, and read again it has no redex. Where `run` or `demand` writes
-/// a `?`, whatever pairs are stuck, walks of any length give no head in its place: head reduction of
-/// the term there has no end, and the source has no normal form (Barendregt, The Lambda Calculus,
-/// 1984). A `?` of `walk` says only that none of the walks that were tried gave a head. Whatever run
+/// a `?`, walks of any length give no head in its place: head reduction of the term there has no
+/// end, and the source has no normal form (Barendregt, The Lambda Calculus, 1984). A `?` of `walk` says only that none of the walks that were tried gave a head. Whatever run
 /// leads to a net from which the same places can be read by walks that meet no active pair rewrites,
 /// by birth names, each pair that `demand` rewrites, and is no shorter; so is each complete run, and
 /// where `demand` needs more than F interactions, each complete run does. Where the term has a
