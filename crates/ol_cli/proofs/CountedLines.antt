@@ -68,6 +68,7 @@ module _ {bytes : List ℕ} {source : Named} (is : IsText bytes source) {transla
     {text : List ℕ} (old new : Option (List ℕ)) (a : Appended old text new) where
   run_counts : PrintsTree translation (number source) (names_of source) fuel heads text →
       CountsSay (λ line beta. Unit {0}) old new
+  unfolding run_printed
   run_counts p = record {
     line = p.prints.shows.term;
     counts = counts_of p.prints.ends.journal;

@@ -18,7 +18,7 @@ use Rattle.ol_cli.specs.Texts.{counts_text}
 use Rattle.ol_cli.specs.Sources.{PrintsTree, WalksTree, DemandsTree, TellsTree, WritesTree}
 use Rattle.ol_cli.specs.NormalForms.{PrintsTerm, FirstLine, LineSays, IsItsNormalForm, TellsOfNone}
 
-pub run_printed : {tr : Translation} {source : Named} {fuel heads : ℕ} {text : List ℕ} →
+unfoldable pub run_printed : {tr : Translation} {source : Named} {fuel heads : ℕ} {text : List ℕ} →
     PrintsTree tr (number source) (names_of source) fuel heads text → IsPrinted source true text
 run_printed p = record {
   tree = p.prints.shows.tree;
