@@ -65,7 +65,7 @@ module _ (from : ℕ) (ls : List ℕ) (mark : ℕ) where
 
   -- the pair that was met, and the walker there
   pub at_principal : (g : Graph) (c : Context) (us : List Level) (x y : NodeId) (w : Walker) →
-      IsEndOf g from c us (answer.Met x y w) → IsAtPrincipal g us w
+      IsEndOf g from c us (answer.Met (x, y) w) → IsAtPrincipal g us w
   at_principal g c us x y w e = record {
     from = from;
     question = c;
@@ -77,8 +77,8 @@ module _ (from : ℕ) (ls : List ℕ) (mark : ℕ) where
   module _ (g g' : Graph) (is_net : IsNet (net_of g)) (vs us ws : List Level) (h : AreHeld vs ls)
       (b : mark < length vs) (x : Extends vs us) (x' : Extends us ws) where
     pub resumed : (xs : List Level) (w w' w'' : Walker) (f k : NodeId) (run run' : Run) → AreHeld xs ls →
-        mark < length xs → IsHeldEnd us (answer.Met f k w) →
-        IsEndOf g from (context_of vs (question_of ls mark)) us (answer.Met f k w) →
+        mark < length xs → IsHeldEnd us (answer.Met (f, k) w) →
+        IsEndOf g from (context_of vs (question_of ls mark)) us (answer.Met (f, k) w) →
         StepsBack g us w ws w' → AdvancesEither run run' g g' f.0 k.0 →
         GoesOnOrBegins g' from ls mark w' ws w'' xs → IsWalked g' from ls xs mark w''
     resumed xs w w' w'' f k run run' hx bx hw e s a o = go o

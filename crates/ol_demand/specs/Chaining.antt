@@ -26,7 +26,7 @@ FindsPair g at found =
     MatchOption found (IsAtNoPair (net_of g) (numbered_port at))
     (λ pair. (numbered_port at ≡ slot pair.0.0 0) × ((r : Rule) × IsPair (net_of g) pair.0.0 pair.1.0 r))
 
--- f and g meet, given either way round
+-- x and y are an active pair, and the chain from the free port p with context c meets it, whichever of the two acts
 pub record MetBy (N : NamedNet ℕ) (p : ℕ) (c : Context) (x y : ℕ) : Type 0 where
   pub rule : Rule
   pub pair : IsPair N x y rule
@@ -37,10 +37,11 @@ pub record MetBy (N : NamedNet ℕ) (p : ℕ) (c : Context) (x y : ℕ) : Type 0
 abbrev pub HasCome : Graph → ℕ → Context → List Level → Walker → Type 0
 HasCome g p c vs w = Chain (net_of g) p c w.made (numbered_port w.at) (context_of vs w.context)
 
--- the chain from the free port p with context c ends so
+-- The chain from the free port p with context c ends so. Where it met a pair, it has come to the principal port of the
+-- first node, as far as the walker.
 abbrev pub IsEndOf : Graph → ℕ → Context → List Level → End → Type 0
-IsEndOf g p c vs (answer.Met x y w) =
-    MetBy (net_of g) p c x.0 y.0 × (numbered_port w.at ≡ slot x.0 0) × HasCome g p c vs w
+IsEndOf g p c vs (answer.Met pair w) =
+    MetBy (net_of g) p c pair.0.0 pair.1.0 × (numbered_port w.at ≡ slot pair.0.0 0) × HasCome g p c vs w
 IsEndOf g p c vs (answer.Left q ms) = Ends (net_of g) p c (left q (context_of vs ms))
 IsEndOf g p c vs answer.Undefined = Ends (net_of g) p c undefined
 IsEndOf g p c vs answer.Budget = Ends (net_of g) p c budget
@@ -51,7 +52,7 @@ GoesOnTo g vs w ws end = (p : ℕ) (c : Context) → HasCome g p c vs w → IsEn
 
 -- the context at the end is of this holder
 abbrev pub IsHeldEnd : List Level → End → Type 0
-IsHeldEnd vs (answer.Met x y w) = AreHeld vs w.context
+IsHeldEnd vs (answer.Met pair w) = AreHeld vs w.context
 IsHeldEnd vs (answer.Left q ms) = AreHeld vs ms
 IsHeldEnd vs answer.Undefined = Unit {0}
 IsHeldEnd vs answer.Budget = Unit {0}

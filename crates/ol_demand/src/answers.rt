@@ -28,8 +28,7 @@ pub struct Walker {
 pub enum End {
     /// It stands on the link of the principal ports of these two, which are an active pair.
     Met {
-        first: NodeId,
-        second: NodeId,
+        pair: (NodeId, NodeId),
         walker: Walker,
     },
     /// It has reached the free port with this number, with this context.

@@ -18,10 +18,19 @@ use ol_net::Net;
 use ol_readback::{Asked, Asks, Frame, Head, leave_by};
 use std::alloc::Global;
 
-// The chain in the net after the step of the pair that it met: it has come as far as before this
-// pair, unless these are more crossings than its new budget. Then it begins anew, and the values
-// from number `count` on are taken away. So they are where they have become many more than the
-// crossings that it has made.
+// How many level values a chain may have made for each of its crossings.
+const VALUES_PER_CROSSING: u64 = 8;
+
+// How many it may have made besides, so that a short chain doesn't begin anew again and again.
+const VALUES_BESIDES: u64 = 64;
+
+// The chain in the net after the step of the pair that it met. It goes on from `before`, if these
+// crossings are within its new budget, and not too many values were made since number `count`. Else
+// it begins anew, and these values are taken away.
+//
+// A crossing makes one value at most, and one that is taken back leaves its value behind. So where
+// a chain begins anew, more than eight times as many crossings were made since it last began as are
+// now made again.
 fn resume(
     alloc: Global,
     net: &Net,
@@ -39,7 +48,7 @@ fn resume(
 {
     if before.made <= 2 * net.nodes() as u64 {
         let since = (values.count() - count) as u64;
-        if since <= 8 * before.made + 64 {
+        if since <= VALUES_PER_CROSSING * before.made + VALUES_BESIDES {
             return Ok(before);
         }
     }
@@ -88,16 +97,12 @@ fn ask(
         net.is_net();
         let end = chain(net, values, walker)?;
         match end {
-            End::Met {
-                first,
-                second,
-                walker: met,
-            } => {
+            End::Met { pair, walker: met } => {
                 if run.journal.len() == fuel {
                     return Ok(None);
                 }
                 let before = step_back(net, values, met)?;
-                run.rewrite_pair(net, first, second)?;
+                run.rewrite_pair(net, pair.0, pair.1)?;
                 walker = resume(alloc, net, values, frame, mark, count, before)?;
             }
             End::Left { port, context } => {

@@ -60,13 +60,9 @@ pub fn chain(net: &Net, values: &mut Values, walker: Walker) -> Result<End, NoMe
         let Some(next) = net.partner(at) else {
             unreachable!()
         };
-        if let Some((first, second)) = pair_at(net, at, next) {
+        if let Some(pair) = pair_at(net, at, next) {
             let walker = Walker { at, context, made };
-            return Ok(End::Met {
-                first,
-                second,
-                walker,
-            });
+            return Ok(End::Met { pair, walker });
         }
         if let Port::Free(port) = next {
             return Ok(End::Left { port, context });

@@ -50,7 +50,7 @@ step_back-requires-clause-at c =
     let e = subst (λ end. IsEndOf c.loop-end.net c.index-frame.result.now.port (context_of c.loop-end.values (question_of c.index-frame.result.now.levels c.loop-end.mark)) c.chain.new.values end) c.in-Met.is (c.in_ok-end.ensures.ends c.index-frame.result.now.port
     (context_of c.loop-end.values (question_of c.index-frame.result.now.levels c.loop-end.mark)) c.loop-end.invariant.walked.chain) in
     at_principal c.index-frame.result.now.port c.index-frame.result.now.levels c.loop-end.mark c.loop-end.net (context_of c.loop-end.values (question_of c.index-frame.result.now.levels c.loop-end.mark)) c.chain.new.values
-    c.in-Met.first c.in-Met.second c.in-Met.met e
+    c.in-Met.pair.0 c.in-Met.pair.1 c.in-Met.met e
 
 pub rewrite_pair-requires-clause-few : goal.rewrite_pair-requires-clause-few
 rewrite_pair-requires-clause-few c = room_left (length c.loop-end.net.nodes)
@@ -223,10 +223,10 @@ returns-in_err-rewrite_pair-in-Met-clause-stopped c =
     c.index-frame.result.now c.requires.last c.index-frame.ensures front s z c.loop-end.values
     c.loop-end.mark c.loop-end.lams c.loop-end.invariant.extends c.requires.frames
     c.loop-end.invariant.mark.is c.loop-end.net c.chain.new.values c.in_ok-end.end
-    (answer.Met c.in-Met.first c.in-Met.second c.in-Met.met) (c.in_ok-end.ensures.ends c.index-frame.result.now.port
+    (answer.Met c.in-Met.pair c.in-Met.met) (c.in_ok-end.ensures.ends c.index-frame.result.now.port
     (context_of c.loop-end.values (question_of c.index-frame.result.now.levels c.loop-end.mark)) c.loop-end.invariant.walked.chain) c.in-Met.is in
     met_stopped old c.loop-end.net c.rewrite_pair.new.net c.loop-end.run heads places front s ss
-    c.loop-end.lams c.in-Met.first.0 c.in-Met.second.0 b
+    c.loop-end.lams c.in-Met.pair.0.0 c.in-Met.pair.1.0 b
     (c.loop-end.invariant.under old heads places front s ss z b u) c.is_net.ensures.net e.0
     c.args.fuel (omega arith) c.in_err-rewrite_pair-in-Met.ensures.err)
 
@@ -266,16 +266,16 @@ pub returns-in_err-walker-in-Met-clause-stopped : goal.returns-in_err-walker-in-
 returns-in_err-walker-in-Met-clause-stopped c =
     let more : length c.loop-end.run.journal ≢ c.args.fuel = λ q. c.if-len-fuel.false (c.len.ensures ∙ q) in
     let running = running_on c.loop-end.net c.rewrite_pair.new.net c.loop-end.run
-    c.rewrite_pair.new.self c.args.fuel c.in-Met.first.0 c.in-Met.second.0 c.loop-end.invariant.running more c.in_ok-rewrite_pair-in-Met.ensures.ok in
+    c.rewrite_pair.new.self c.args.fuel c.in-Met.pair.0.0 c.in-Met.pair.1.0 c.loop-end.invariant.running more c.in_ok-rewrite_pair-in-Met.ensures.ok in
     on_err c.from_residual-in_err-walker-in-Met.result (λ old heads places front s ss z b u.
     let m = let e = end_is c.args.values.now c.args.asked.now.frames.now.items c.args.asked.now.at
     c.index-frame.result.now c.requires.last c.index-frame.ensures front s z c.loop-end.values
     c.loop-end.mark c.loop-end.lams c.loop-end.invariant.extends c.requires.frames
     c.loop-end.invariant.mark.is c.loop-end.net c.chain.new.values c.in_ok-end.end
-    (answer.Met c.in-Met.first c.in-Met.second c.in-Met.met) (c.in_ok-end.ensures.ends c.index-frame.result.now.port
+    (answer.Met c.in-Met.pair c.in-Met.met) (c.in_ok-end.ensures.ends c.index-frame.result.now.port
     (context_of c.loop-end.values (question_of c.index-frame.result.now.levels c.loop-end.mark)) c.loop-end.invariant.walked.chain) c.in-Met.is in
     met_on old c.loop-end.net c.rewrite_pair.new.net c.loop-end.run heads places front s ss
-    c.loop-end.lams c.in-Met.first.0 c.in-Met.second.0 b
+    c.loop-end.lams c.in-Met.pair.0.0 c.in-Met.pair.1.0 b
     (c.loop-end.invariant.under old heads places front s ss z b u) c.is_net.ensures.net e.0
     c.rewrite_pair.new.self c.loop-end.invariant.running.names c.in_ok-rewrite_pair-in-Met.ensures.ok in
     under_stops old c.rewrite_pair.new.net c.rewrite_pair.new.self heads c.args.fuel places
@@ -416,11 +416,11 @@ returns-then-len-fuel-clause-answered c = λ old heads places front s ss z b u.
     c.index-frame.result.now c.requires.last c.index-frame.ensures front s z c.loop-end.values
     c.loop-end.mark c.loop-end.lams c.loop-end.invariant.extends c.requires.frames
     c.loop-end.invariant.mark.is c.loop-end.net c.chain.new.values c.in_ok-end.end
-    (answer.Met c.in-Met.first c.in-Met.second c.in-Met.met) (c.in_ok-end.ensures.ends c.index-frame.result.now.port
+    (answer.Met c.in-Met.pair c.in-Met.met) (c.in_ok-end.ensures.ends c.index-frame.result.now.port
     (context_of c.loop-end.values (question_of c.index-frame.result.now.levels c.loop-end.mark)) c.loop-end.invariant.walked.chain) c.in-Met.is in
     left_off old c.loop-end.net c.loop-end.run heads places front s ss c.loop-end.lams b
-    (c.loop-end.invariant.under old heads places front s ss z b u) c.in-Met.first.0
-    c.in-Met.second.0 e.0 c.is_net.ensures.net
+    (c.loop-end.invariant.under old heads places front s ss z b u) c.in-Met.pair.0.0
+    c.in-Met.pair.1.0 e.0 c.is_net.ensures.net
 
 pub returns-in-Left-clause-spent : goal.returns-in-Left-clause-spent
 returns-in-Left-clause-spent c = tt
@@ -573,7 +573,7 @@ loop-end-init c = record {
 pub loop-end-smaller-in-Met : goal.loop-end-smaller-in-Met
 loop-end-smaller-in-Met c =
     let j = journal_on c.loop-end.net c.rewrite_pair.new.net c.loop-end.run c.rewrite_pair.new.self
-    c.in-Met.first.0 c.in-Met.second.0 c.in_ok-rewrite_pair-in-Met.ensures.ok in
+    c.in-Met.pair.0.0 c.in-Met.pair.1.0 c.in_ok-rewrite_pair-in-Met.ensures.ok in
     let more : length c.loop-end.run.journal ≢ c.args.fuel = λ q. c.if-len-fuel.false (c.len.ensures ∙ q) in
     let i = c.loop-end.invariant.running.within in
     let r : (c.args.fuel - length c.rewrite_pair.new.self.journal) + (2 ^ 32 - c.loop-end.lams) <
@@ -589,7 +589,7 @@ loop-end-preserved-in-Met c =
     (context_of c.loop-end.values (question_of c.index-frame.result.now.levels c.loop-end.mark)) c.loop-end.invariant.walked.chain) in
     let x = c.chain.ensures.extends in
     let y = c.step_back.ensures.extends in
-    let held : IsHeldEnd c.chain.new.values (answer.Met c.in-Met.first c.in-Met.second c.in-Met.met) = subst (λ end. IsHeldEnd c.chain.new.values end) c.in-Met.is c.in_ok-end.ensures.held in
+    let held : IsHeldEnd c.chain.new.values (answer.Met c.in-Met.pair c.in-Met.met) = subst (λ end. IsHeldEnd c.chain.new.values end) c.in-Met.is c.in_ok-end.ensures.held in
     let k = are_kept c.args.values.now c.step_back.new.values c.resume.new.values c.loop-end.count c.loop-end.mark (os c.loop-end.lams empty)
     (extends_trans c.args.values.now c.chain.new.values c.step_back.new.values (extends_trans c.args.values.now c.loop-end.values c.chain.new.values c.loop-end.invariant.extends c.chain.ensures.extends) c.step_back.ensures.extends) c.loop-end.invariant.kept (number_more c.loop-end.values c.step_back.new.values c.loop-end.mark (os c.loop-end.lams empty)
     (extends_trans c.loop-end.values c.chain.new.values c.step_back.new.values c.chain.ensures.extends c.step_back.ensures.extends) c.loop-end.invariant.mark) c.loop-end.invariant.marked
@@ -606,26 +606,26 @@ loop-end-preserved-in-Met c =
           (held_more c.args.values.now c.loop-end.values c.index-frame.result.now.levels c.loop-end.invariant.extends
           (held_this c.args.values.now c.args.asked.now.frames.now.items c.args.asked.now.at
           c.index-frame.result.now c.requires.frames (omega (arith, c.requires.last)) c.index-frame.ensures))
-          i.mark.held x y c.resume.new.values c.in-Met.met c.in_ok-before-in-Met.before c.in_ok-walker-in-Met.walker c.in-Met.first
-          c.in-Met.second c.loop-end.run c.rewrite_pair.new.self
+          i.mark.held x y c.resume.new.values c.in-Met.met c.in_ok-before-in-Met.before c.in_ok-walker-in-Met.walker c.in-Met.pair.0
+          c.in-Met.pair.1 c.loop-end.run c.rewrite_pair.new.self
           (held_more c.args.values.now c.resume.new.values c.index-frame.result.now.levels k.extends
           (held_this c.args.values.now c.args.asked.now.frames.now.items c.args.asked.now.at
           c.index-frame.result.now c.requires.frames (omega (arith, c.requires.last)) c.index-frame.ensures))
           k.number.held held e
           c.in_ok-before-in-Met.ensures.back a c.in_ok-walker-in-Met.ensures.resumes;
       running = running_on c.loop-end.net c.rewrite_pair.new.net c.loop-end.run
-          c.rewrite_pair.new.self c.args.fuel c.in-Met.first.0 c.in-Met.second.0 c.loop-end.invariant.running more c.in_ok-rewrite_pair-in-Met.ensures.ok;
+          c.rewrite_pair.new.self c.args.fuel c.in-Met.pair.0.0 c.in-Met.pair.1.0 c.loop-end.invariant.running more c.in_ok-rewrite_pair-in-Met.ensures.ok;
       free = free_on c.loop-end.net c.rewrite_pair.new.net c.loop-end.run c.rewrite_pair.new.self
-          c.in-Met.first.0 c.in-Met.second.0 a ∙ i.free;
+          c.in-Met.pair.0.0 c.in-Met.pair.1.0 a ∙ i.free;
       under = λ old heads places front s ss z b u.
           let e = end_is c.args.values.now c.args.asked.now.frames.now.items c.args.asked.now.at
           c.index-frame.result.now c.requires.last c.index-frame.ensures front s z c.loop-end.values
           c.loop-end.mark c.loop-end.lams c.loop-end.invariant.extends c.requires.frames
           c.loop-end.invariant.mark.is c.loop-end.net c.chain.new.values c.in_ok-end.end
-          (answer.Met c.in-Met.first c.in-Met.second c.in-Met.met) (c.in_ok-end.ensures.ends c.index-frame.result.now.port
+          (answer.Met c.in-Met.pair c.in-Met.met) (c.in_ok-end.ensures.ends c.index-frame.result.now.port
           (context_of c.loop-end.values (question_of c.index-frame.result.now.levels c.loop-end.mark)) c.loop-end.invariant.walked.chain) c.in-Met.is in
           met_on old c.loop-end.net c.rewrite_pair.new.net c.loop-end.run heads places front s ss
-          c.loop-end.lams c.in-Met.first.0 c.in-Met.second.0 b
+          c.loop-end.lams c.in-Met.pair.0.0 c.in-Met.pair.1.0 b
           (c.loop-end.invariant.under old heads places front s ss z b u) c.is_net.ensures.net e.0
           c.rewrite_pair.new.self c.loop-end.invariant.running.names c.in_ok-rewrite_pair-in-Met.ensures.ok;
     }

@@ -65,8 +65,8 @@ returns-in-Some-pair_at-clause-ends c = λ p d h.
     let w = chaining c.args.net.now c.args.values.now c.args.walker (2 * c.nodes.result)
     c.loop-next.values c.loop-next.context c.loop-next.at c.loop-next.made c.loop-next.invariant p d h in (
       meets c.args.net.now p d c.args.values.now (2 * c.nodes.result) c.loop-next.values
-          c.loop-next.context c.loop-next.at c.loop-next.made w c.in-Some-pair_at.first.0
-          c.in-Some-pair_at.second.0 f.1.0 f.0 f.1.1,
+          c.loop-next.context c.loop-next.at c.loop-next.made w c.in-Some-pair_at.pair.0.0
+          c.in-Some-pair_at.pair.1.0 f.1.0 f.0 f.1.1,
       f.0,
       w.chain,
     )
