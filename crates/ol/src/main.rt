@@ -56,8 +56,9 @@ fn run<'a, R: Files + Input + Print + Threads + Wait + Sync>(
         → SaysWhenDone words.now.items files
         (Some []) (⟦<StdSink<'a, R> as Sink>⟧.taken result.out) }
 
-    // Where nothing failed, whatever the status: what was accepted is the answer, a job that can be
-    // done is done, and each complete run tells the same (`exact`, `completeness`, `every_run`).
+    // Where nothing failed, whatever the status, unless no memory was found: what was accepted is the
+    // answer, a job that can be done is done, and each complete run tells the same or is longer than
+    // the fuel (`exact`, `completeness`, `every_run`).
     ensures answer_says { ⟦<StdSource<'a, R> as Source>⟧.faults result.src ≡ 0
         → ⟦<StdSink<'a, R> as Sink>⟧.faults result.out ≡ 0
         → (files : Files) → AreOfSince files [] (⟦<StdSource<'a, R> as Source>⟧.readings result.src)
@@ -72,8 +73,13 @@ fn run<'a, R: Files + Input + Print + Threads + Wait + Sync>(
         result.status text
         × (⟦<StdSink<'a, R> as Sink>⟧.taken result.out ≡ Some text) }
 
-    // Whatever failed: each status has its cause, and standard output accepted its text, or a prefix
-    // of it where it failed. With `NoMemory` it accepted nothing.
+    // There are files that its readings are of.
+    ensures told { (files : Files)
+        × AreOfSince files [] (⟦<StdSource<'a, R> as Source>⟧.readings result.src) }
+
+    // Whatever failed: with `NoMemory`, whatever its cause, standard output accepted nothing. Each
+    // other status has its cause, and standard output accepted its text, or a prefix of it where it
+    // failed.
     ensures ends { (files : Files)
         → AreOfSince files [] (⟦<StdSource<'a, R> as Source>⟧.readings result.src)
         → Ends (HasCause words.now.items

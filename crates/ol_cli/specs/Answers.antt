@@ -116,7 +116,8 @@ Told st text status.WriteFault faults faults' old new =
     Rose faults faults' × ((taken : ℕ) × (taken ≤ length text) × Appended old (take taken text) new)
 Told st text result faults faults' old new = (result ≡ st) × (faults' ≡ faults) × Appended old text new
 
--- The whole of what the call did: want of memory and nothing written, or a status with its cause whose text was told.
+-- The whole of what the call did: want of memory, for whatever cause, and nothing written; or another status with its
+-- cause, whose text was told.
 abbrev pub Ends : (Cause : Status → List ℕ → Type 0) → Status → (faults faults' : ℕ) →
     Option (List ℕ) → Option (List ℕ) → Type 0
 Ends Cause status.NoMemory faults faults' old new = (new ≡ old) × (faults' ≡ faults)

@@ -1,4 +1,4 @@
--- What a call asks of its source and does to it and to its sink, in the words that these two tell of themselves.
+-- What a call does to its source and to its sink, in the words that these two tell of themselves.
 use Rattle.std.specs.Prelude.{◌≡◌, ℕ, ◌≤◌, ◌+◌, List, Option}
 use Rattle.ol_io.specs.Outside.{Rose}
 use Rattle.ol_io.specs.Readings.{AreOfSince}
@@ -7,7 +7,7 @@ use Rattle.ol_io.specs.declared.outside.Sink.{Ghosts as SinkGhosts}
 use Rattle.ol_cli.specs.Jobs.{Files}
 use Rattle.ol_cli.specs.Answers.{Seen}
 
--- All that a call does to its source, but for its faults: it begins so many names at most. The source
+-- What a call does to its source, whatever fails: it begins so many names at most. The source
 -- knows the names that it knew and has the bytes that it had, and what it handed over is of these.
 pub record ReadsAtMost {S : Type 0} (g : SourceGhosts S) (most : ℕ) (old new : S) : Type 0 where
   pub begins : g.begins new ≤ g.begins old + most
@@ -46,6 +46,5 @@ IfNoneFailed g h s s' w w' P = (Rose (g.faults s) (g.faults s') → ⊥) → (Ro
 -- The same of any files that the readings of the call are of, and of what was taken before the call and after.
 abbrev pub WhereNoneFailed : {S W : Type 0} → SourceGhosts S → SinkGhosts W → (s s' : S) (w w' : W) →
     (Files → Option (List ℕ) → Option (List ℕ) → Type 0) → Type 0
-WhereNoneFailed g h s s' w w' Says = (files : Files) → AreOfSince files (g.readings s) (g.readings s') →
-    (Rose (g.faults s) (g.faults s') → ⊥) → (Rose (h.faults w) (h.faults w') → ⊥) →
-    Says files (h.taken w) (h.taken w')
+WhereNoneFailed g h s s' w w' Says = OfFilesRead g s s' (λ files.
+    IfNoneFailed g h s s' w w' (Says files (h.taken w) (h.taken w')))

@@ -1,4 +1,4 @@
--- The limits of what is read, made ready and printed, and of a job's numbers; and the numbers of `run` without options.
+-- The limits of what is read, made ready and printed, and of a job's workers and fuel; and the numbers of `run` without options.
 -- They stand here as numerals, so that a constant of src/limits.rt that differs is refused.
 use Rattle.std.specs.Prelude.{ℕ}
 

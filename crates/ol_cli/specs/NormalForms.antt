@@ -1,4 +1,5 @@
--- What the first line that is written says of the normal form of a job's term.
+-- What the first line that is written says of the normal form of a job's term, and what the lines of
+-- counts say.
 use Rattle.std.specs.Prelude.{◌≡◌, ◌≤◌, ◌⊎◌, ℕ, ◌+◌, true, false, List, [], ◌∷◌, ◌++◌, length, Option, Some}
 use Rattle.std.specs.Prelude.{String, codes}
 use Rattle.std.specs.declared.alloc.Global.{Global}
@@ -11,7 +12,7 @@ use Rattle.ol_beta.specs.Leftmost.{IsNormal}
 use Rattle.ol_meaning.specs.Shows.{BetaReduces}
 use Rattle.ol_optimal.specs.Labels.{Labelled, erased}
 use Rattle.ol_families.specs.Families.{HaveOwnLetters}
-use Rattle.ol_levy.specs.Fewest.{NoneHasFewer, OneHasAsMany}
+use Rattle.ol_levy.specs.Reductions.{NoneHasFewer, OneHasAsMany}
 use Rattle.ol_rules.specs.declared.journal.Counts.{Counts}
 use Rattle.ol_lines.specs.NormalForms.{by_names_of, IsNormalFormOf, HasNoNormalForm}
 use Rattle.ol_lines.specs.NormalForms.{AreConvertible}
@@ -109,8 +110,8 @@ NoneIsStuck words bytes old new = (asked : Asked) → AskFor words asked → Pri
     (source : Named) → IsText bytes source → CountsSay (λ line beta. Unit {0}) old new
 
 -- Let each subterm of the source have a letter of its own as its label. No reduction of the labelled
--- term to a normal form that contracts families at once, whichever it likes, has fewer steps than
--- there are beta steps (Lévy). And if the line is a text of a term, one has just as many.
+-- term to a normal form by family steps, which contract any redexes of one degree at once, has fewer
+-- of them than there are beta steps (Lévy). And if the line is a text of a term, one has just as many.
 abbrev pub AreFewest : Named → List ℕ → ℕ → Type 0
 AreFewest source line beta = (T : Labelled) → erased T ≡ by_names_of source source →
     HaveOwnLetters T → NoneHasFewer T beta

@@ -23,9 +23,9 @@ pub record SaysWhenDone (words : List (String Global)) (files : Files) (old new 
   -- And after `ol demand NAME` that line is a text of the normal form of the term in the file, where
   -- there is one and variables stand in at most 4,096 places of it.
   pub plain_demand : PlainDemandSays (λ source. FirstLine (IsFoundWithin 4096 source)) words files old new
-  -- No way of contracting families of redexes at once, told by Lévy's labels, leads from the term in
-  -- the file to a normal form by fewer steps than its `beta`. And where the line is a text of a term,
-  -- one way has just as many.
+  -- And no reduction of the term in the file to a normal form by family steps, which contract any
+  -- redexes of one family at once, told by Lévy's labels, has fewer steps than the number behind
+  -- `beta`. If the line is a text of a term, one has just as many.
   pub plain_fewest : PlainDemandSays (λ source. CountsSay (AreFewest source)) words files old new
   -- After `ol equal A B` the line is `equal` only where the terms in the two files are convertible, and
   -- begins with `different` only where they aren't. Beta reduction alone counts, and free names are the
@@ -40,9 +40,10 @@ pub record SaysWhenDone (words : List (String Global)) (files : Files) (old new 
   -- And where the job's own term has a normal form, with no more variables than there are heads that
   -- `demand` was asked for, that is the term that `demand` writes.
   pub demanded : (bytes : List ℕ) → TellsTerm (files 0) words bytes → LineSays IsFoundOnDemand words bytes old new
-  -- Whatever the options of `demand` are, its `beta` is such a fewest number for the term in its file.
+  -- The same after `demand` with any options.
   pub fewest : (bytes : List ℕ) → TellsTerm (files 0) words bytes → BetasAreFewest words bytes old new
-  -- No pair is ever stuck: the tenth line that `run`, `demand` or `gen --run` writes is `stuck 0`.
+  -- The tenth and last line that `run`, `demand` or `gen --run` writes is `stuck 0`. (No pair is ever
+  -- stuck in a run from the net of a term: law `no_pair_is_stuck` of ol_unstuck.)
   pub no_stuck : (bytes : List ℕ) → TellsTerm (files 0) words bytes → NoneIsStuck words bytes old new
   -- Where `equal` writes `equal`, the terms of its two files are convertible, and where it writes
   -- `different`, they aren't. Free names are the same where their bytes are.

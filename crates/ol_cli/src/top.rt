@@ -155,12 +155,13 @@ pub fn ol<R: Threads + Wait + Sync, S: Source, W: Sink, G: Gate + Sync>(
     // those whose bytes the source tells, and of those that the readings make (`handed`).
     //
     // Where nothing fails and the status is `Done`, all that `SaysWhenDone` lists holds of what was
-    // written: `plain` and four more in the words of terms alone, then the same of all words.
+    // written: `plain` and three more in the words of terms alone, then the same of all words.
     ensures done_says { WhereNoneFailed S.Source W.Sink src.old src.new out.old out.new
         (λ files old new. result.status ≡ Status.Done → SaysWhenDone words.now.items files old new) }
 
-    // Where nothing fails, whatever the status: what was written is the answer, a job that can be
-    // done is done, and each complete run tells the same (`exact`, `completeness`, `every_run`).
+    // Where nothing fails, whatever the status, unless no memory was found: what was written is the
+    // answer, a job that can be done is done, and each complete run tells the same or is longer than
+    // the fuel (`exact`, `completeness`, `every_run`).
     ensures answer_says { WhereNoneFailed S.Source W.Sink src.old src.new out.old out.new
         (λ files. SaysOfAnswer words.now.items files result.status) }
 
@@ -172,8 +173,8 @@ pub fn ol<R: Threads + Wait + Sync, S: Source, W: Sink, G: Gate + Sync>(
         → (text : List ℕ) × IsAnswer words.now.items (handed rs) result.status text
         × Appended (W.taken out.old) text (W.taken out.new)) }
 
-    // Each status has its cause, and its text is appended whole, or a prefix of it where the sink
-    // failed. With `NoMemory` nothing is taken.
+    // With `NoMemory`, whatever its cause, nothing is taken. Each other status has its cause, and its
+    // text is appended whole, or a prefix of it where the sink failed.
     ensures ends { OfFilesRead S.Source src.old src.new (λ files.
         Ends (HasCause words.now.items (seen_of S.Source files src.old src.new)) result.status
         (W.faults out.old) (W.faults out.new) (W.taken out.old) (W.taken out.new)) }

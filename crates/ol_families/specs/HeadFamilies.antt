@@ -36,7 +36,7 @@ SeenByFirstQuestion A = (N : NamedNet A) → IsNet N → IsLevelled N → (m n :
     m ≤ n → (q : ℕ) (X : Context) → Path N (free 0) (asked [] m) q X →
     IsSeen N 0 (asked [] n) s → IsSeen N 0 (asked [] m) s
 
--- they are so many different ones
+-- so many different ones are among these
 abbrev pub HasSoManyDifferent : List Label → ℕ → Type 0
 HasSoManyDifferent ds n =
     (es : List Label) × AreDifferent es × ((e : Label) → IsIn e es ↔ IsIn e ds) × (n ≡ length es)

@@ -10,8 +10,8 @@ use Rattle.ol_meaning.specs.Shows.{LeftmostReduces}
 use Rattle.ol_optimal.specs.Labels.{Label, Labelled, erased, LeftmostContracts}
 use Rattle.ol_optimal.specs.Labels as labels
 use Rattle.ol_term.specs.Trees.{Tree}
-use Rattle.ol_levy.specs.Fewest.{NoneHasFewer, FewestAreFamilies, FewestAreAllFamilies, FewestIsFrugal}
-use Rattle.ol_levy.specs.Reductions.{FamilyReduces}
+use Rattle.ol_levy.specs.Fewest.{FewestAreFamilies, FewestAreAllFamilies, FewestIsFrugal}
+use Rattle.ol_levy.specs.Reductions.{FamilyReduces, NoneHasFewer}
 use Rattle.ol_levy.specs.Reductions as reductions
 use Rattle.ol_levy.proofs.Needed.{none_is_shorter}
 use Rattle.ol_levy.proofs.Reached.{fewest_is_reached}

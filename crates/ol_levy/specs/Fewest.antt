@@ -1,6 +1,6 @@
 -- The fewest family steps by which a labelled term is reduced to a normal form, and leftmost reduction
 -- (Lévy, Optimal reductions in the lambda-calculus, 1980).
-use Rattle.std.specs.Prelude.{◌≡◌, ℕ, ◌≤◌, List, length}
+use Rattle.std.specs.Prelude.{◌≡◌, ℕ, ◌≤◌, List}
 use Rattle.ol_beta.specs.Leftmost.{IsNormal}
 use Rattle.ol_frugal.specs.Steps.{steps_of}
 use Rattle.ol_meaning.specs.Shows.{LeftmostReduces}
@@ -9,20 +9,10 @@ use Rattle.ol_term.specs.Trees.{Tree}
 use Rattle.ol_families.specs.Families.{HaveOwnLetters}
 use Rattle.ol_families.specs.HeadFamilies.{HasSoManyDifferent}
 use Rattle.ol_levy.specs.Demand.{AreSoManyOf}
-use Rattle.ol_levy.specs.Reductions.{FamilyReduces}
-
--- no reduction of T to a normal form by family steps has fewer than n of them
-abbrev pub NoneHasFewer : Labelled → ℕ → Type 0
-NoneHasFewer T n = (V : Labelled) (ds : List Label) → FamilyReduces T ds V → IsNormal (erased V) →
-    n ≤ length ds
-
--- one has just n
-abbrev pub OneHasAsMany : Labelled → ℕ → Type 0
-OneHasAsMany T n = (V : Labelled) × (ds : List Label) × FamilyReduces T ds V × IsNormal (erased V)
-    × (n ≡ length ds)
+use Rattle.ol_levy.specs.Reductions.{NoneHasFewer, OneHasAsMany}
 
 -- Let each subterm of a term have a letter of its own, and let leftmost reduction lead to a normal
--- form. If no reduction by family steps has fewer than n, then n is the number of some different
+-- form. If no reduction to a normal form by family steps has fewer than n, then n is the number of some different
 -- degrees that leftmost reduction contracts.
 abbrev pub FewestAreFamilies : Type 0
 FewestAreFamilies = (T v : Labelled) (ws : List Label) → HaveOwnLetters T →

@@ -7,6 +7,7 @@ use Rattle.ol_cli.specs.Jobs.{Files, files_of}
 use Rattle.ol_cli.specs.Says.{SaysOfAnswer, SaysWhenDone}
 use Rattle.ol_cli.specs.declared.status.Status.TheVariants.{Done}
 use Rattle.ol.proofs.Passing.{begun_at_most, first_ends, none_in, none_out, passing, no_rise, of_none, of_one_reading}
+use Rattle.ol.proofs.Passing.{since_none}
 use Rattle.ol.proofs.run.Goals as goal
 
 pub returns : goal.returns
@@ -43,6 +44,7 @@ returns g c =
           (no_rise f f' c.new-src.ensures.faults none) (no_rise w w' c.new-out.ensures.faults none'));
       handed = passing words st before after f f' w w' old new c.new-src.ensures.readings
           c.new-src.ensures.faults c.new-out.ensures.faults c.new-out.ensures.taken c.ol-outcome.ensures.handed;
+      told = since_none _ before after c.new-src.ensures.readings c.ol-outcome.ensures.source.told;
       ends = λ files of.
           first_ends words files st f f' w w' c.ol-outcome.new.src.given c.ol-outcome.new.src.ended old new
           c.new-src.ensures.faults c.new-out.ensures.faults c.new-out.ensures.taken
