@@ -18,6 +18,7 @@ use Rattle.ol_view.specs.RuleNames.{rule_text}
 use Rattle.ol_view.specs.EachForm.{BeginsWithLine}
 use Rattle.ol_view.specs.Forms.{line_of, BeginsWithEntry}
 use Rattle.ol_view.specs.Checks.{HasNoLine}
+use Rattle.ol_view.specs.Standing.{told_of}
 use Rattle.ol_view.specs.LineReading.{front_number, behind, front_line, word_behind, first_of}
 use Rattle.ol_view.specs.LineReading.{front_rule_of, all_rules, front_rule, told_end, told_on}
 use Rattle.ol_view.specs.LineReading.{front_told, told_with, front_entry, TellsOf}
@@ -25,11 +26,6 @@ use Rattle.ol_view.proofs.Numerals.{number_complete, front_sound, behind_sound, 
 
 abbrev pub Read : Type 0
 Read = Option (Option (Rule × ℕ) × NodeName × NodeName × List ℕ)
-
--- what a line of this form tells of the rule and the wave
-abbrev pub told_of : Form → Entry → ℕ → Option (Rule × ℕ)
-told_of One e wave = None
-told_of Two e wave = Some (e.rule, wave)
 
 -- ---- names of rules
 
@@ -249,6 +245,20 @@ of_entry form text (Some s) a b rest e = record {
   begins = entry_sound form text (Some s) a b rest e s.0 s.1 (refl, refl)
       (told_may form text s (line_read form text (Some s) a b rest e).names (line_read form text (Some s) a b rest e).told);
 }
+
+-- what a line that is read tells, of such an entry and such a wave
+pub told_is : (form : Form) (text : List ℕ) (t : Option (Rule × ℕ)) (a b : NodeName)
+    (rest : List ℕ) → ◌≡◌ {A = Read} (front_entry form text) (Some (t, a, b, rest)) →
+    (r : Rule) (wave : ℕ) → TellsOf t r wave → t ≡ told_of form (entry r a b) wave
+told_is One text t a b rest e r wave h =
+    let l = line_read One text t a b rest e in
+    let z : ◌≡◌ {A = Option (Rule × ℕ) × List ℕ} (None, text) (t, l.names) = (let y = l.told in cc) in
+    sym (ap (λ (p : Option (Rule × ℕ) × List ℕ). p.0) z)
+told_is Two text t a b rest e r wave h =
+    let l = line_read Two text t a b rest e in
+    let d = told_sound text t l.names l.told in
+    let i : (d.rule ≡ r) × (d.wave ≡ wave) = subst (λ t. TellsOf t r wave) d.told h in
+    d.told ∙ ap (λ r. Some (r, d.wave)) i.0 ∙ ap (λ wave. Some (r, wave)) i.1
 
 -- no line, as it is read
 pub none_read : (form : Form) (text : List ℕ) → HasNoLine form text → ◌≡◌ {A = Read} (front_entry form text) None

@@ -6,7 +6,8 @@
 //! - `tracing`: the text of a journal
 //! - `wave_tracing`: the text of a journal with its rules and waves
 //! - `forms`: the two forms of a trace text
-//! - `line_reading`: one line of a trace text
+//! - `line_reading`: one line of a trace text, as it is read
+//! - `standing`: what stands at a place of a trace text
 //! - `checking`: trace texts, read and replayed
 //! - `answers`: what the calls of this crate answer
 //! - `pieces`: bytes at the end of a text
@@ -21,6 +22,7 @@ mod leading;
 mod line_reading;
 mod pieces;
 mod showing;
+mod standing;
 mod tracing;
 mod wave_tracing;
 
@@ -29,7 +31,8 @@ pub use checking::check;
 pub use forms::Form;
 pub use laws::equal_nets_are_shown_alike;
 pub use leading::after;
-pub use line_reading::{Line, behind, line_at, name_at, number_at, rule_at};
+pub use line_reading::Line;
 pub use showing::show;
+pub use standing::{behind, line_at, name_at, number_at, rule_at};
 pub use tracing::trace_text;
 pub use wave_tracing::{rule_word, trace_text_2};

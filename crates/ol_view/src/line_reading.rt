@@ -1,4 +1,4 @@
-//! One line of a trace text.
+//! One line of a trace text, as it is read from its front.
 
 ghost use Rattle.std.specs.Prelude.{◌≡◌, ◌<◌, ◌≤◌, length, drop, option_map, IfSome};
 ghost use Rattle.ol_rules.specs.declared.journal.NodeName.{NodeName};
@@ -34,8 +34,8 @@ const RULES: [Rule; 8] = [
     Rule::Erase,
 ];
 
-/// The number at a place of the text, and the place behind it.
-pub fn number_at(text: &[u8], at: usize) -> Option<(u32, usize)>
+// The number at a place of the text, and the place behind it.
+pub(crate) fn number_at(text: &[u8], at: usize) -> Option<(u32, usize)>
     requires { at ≤ length text.now }
     ensures read { front_number (drop at text.now)
         ≡ option_map (λ r. (r.0, drop r.1 text.now)) result }
@@ -66,8 +66,8 @@ pub fn number_at(text: &[u8], at: usize) -> Option<(u32, usize)>
     Some((number, text.len()))
 }
 
-/// The name at a place of the text, and the place behind it.
-pub fn name_at(text: &[u8], at: usize) -> Option<(NodeName, usize)>
+// The name at a place of the text, and the place behind it.
+pub(crate) fn name_at(text: &[u8], at: usize) -> Option<(NodeName, usize)>
     requires { at ≤ length text.now }
     ensures read { front_name (drop at text.now)
         ≡ option_map (λ r. (r.0, drop r.1 text.now)) result }
@@ -88,8 +88,8 @@ pub fn name_at(text: &[u8], at: usize) -> Option<(NodeName, usize)>
     Some((name, to + 1))
 }
 
-/// The place behind this byte.
-pub fn behind(text: &[u8], at: usize, byte: u8) -> Option<usize>
+// The place behind this byte.
+pub(crate) fn behind(text: &[u8], at: usize, byte: u8) -> Option<usize>
     requires { at ≤ length text.now }
     ensures read { behind byte (drop at text.now) ≡ option_map (λ to. drop to text.now) result }
     ensures place { IfSome result (λ to. (at < to) × (to ≤ length text.now)) }
@@ -132,8 +132,8 @@ fn word_behind(text: &[u8], at: usize, word: &str) -> Option<usize>
     }
 }
 
-/// The rule of this name, and the place behind the name.
-pub fn rule_at(text: &[u8], at: usize) -> Option<(Rule, usize)>
+// The rule of this name, and the place behind the name.
+pub(crate) fn rule_at(text: &[u8], at: usize) -> Option<(Rule, usize)>
     requires { at ≤ length text.now }
     ensures read { front_rule (drop at text.now)
         ≡ option_map (λ r. (r.0, drop r.1 text.now)) result }
@@ -183,8 +183,8 @@ fn pair_at(text: &[u8], at: usize) -> Option<(NodeName, NodeName, usize)>
     Some((first, second, next))
 }
 
-/// The line of this form at a place of the text. `None`: there is no line of the grammar.
-pub fn line_at(form: Form, text: &[u8], at: usize) -> Option<Line>
+// The line of this form at a place of the text. `None`: there is no line of the grammar.
+pub(crate) fn line_at(form: Form, text: &[u8], at: usize) -> Option<Line>
     requires { at ≤ length text.now }
     ensures read { front_entry form (drop at text.now)
         ≡ option_map (λ l. (l.told, l.first, l.second, drop l.next text.now)) result }

@@ -2,7 +2,8 @@ use Rattle.std.proofs.Common.{◌≢◌, ◌<◌, length, List, ℕ, [], drop, i
 use Rattle.ol_net.specs.Graph.{Graph}
 use Rattle.ol_rules.specs.declared.journal.Entry.{Entry}
 use Rattle.ol_view.proofs.Finding as finding
-use Rattle.ol_view.proofs.Entries.{none_there}
+use Rattle.ol_view.proofs.Entries.{none_read}
+use Rattle.ol_view.proofs.AtPlaces.{line_is_read}
 use Rattle.ol_bench.specs.Followed.{good, no_header, no_line, otherwise}
 use Rattle.ol_bench.proofs.KeptRuns.{longer}
 use Rattle.ol_bench.proofs.Ways.{Way, under, first_way, is_told, never_apart, made_one, is_off}
@@ -48,9 +49,9 @@ returns-in_default-line_at-clause-stops c =
     (finding.no_line c.in-Some.form c.args.net.now c.args.text.now w.net w.bases.items w.weights.items
     (length r.journal) c.loop-at.at (under c.in-Some.form c.args.net.now c.args.text.now w.net
     w.bases.items w.weights.items r.journal c.loop-at.at i.way)
-    c.loop-at-test.true c.in_default-line_at.ensures.read)
     c.loop-at-test.true
-    (none_there c.in-Some.form (drop c.loop-at.at c.args.text.now) c.in_default-line_at.ensures.read)
+    (none_read c.in-Some.form (drop c.loop-at.at c.args.text.now) c.in_default-line_at.ensures.none))
+    c.loop-at-test.true c.in_default-line_at.ensures.none
 
 pub returns-then-not-is_so-clause-stops : goal.returns-then-not-is_so-clause-stops
 returns-then-not-is_so-clause-stops c =
@@ -67,12 +68,14 @@ returns-then-not-is_so-clause-stops c =
     (finding.tried c.in-Some.form c.args.net.now c.args.text.now w.net w.bases.items w.weights.items
     (length r.journal) c.loop-at.at (under c.in-Some.form c.args.net.now c.args.text.now w.net
     w.bases.items w.weights.items r.journal c.loop-at.at i.way) l.told l.first l.second
-    (drop l.next c.args.text.now) fewer c.in-Some-line_at.ensures.read c.in_ok-made.made n.net
+    (drop l.next c.args.text.now) fewer (line_is_read c.in-Some.form (drop c.loop-at.at c.args.text.now) l
+    (drop l.next c.args.text.now) c.in-Some-line_at.ensures.found) c.in_ok-made.made n.net
     n.bases.items n.weights.items c.in_ok-made.ensures.idle c.in_ok-made.ensures.made
     (c.if-not-is_so.ensures.not refl))
     (is_off c.in-Some.form c.args.net.now c.args.text.now w.net w.bases.items w.weights.items
     r c.loop-at.at i.way i.replay l.told l.first l.second (drop l.next c.args.text.now) fewer
-    c.in-Some-line_at.ensures.read n.net n.bases.items n.weights.items l refl refl refl
+    (line_is_read c.in-Some.form (drop c.loop-at.at c.args.text.now) l
+    (drop l.next c.args.text.now) c.in-Some-line_at.ensures.found) n.net n.bases.items n.weights.items l refl refl refl
     c.in_ok-made.made c.in_ok-made.ensures.idle c.in_ok-made.ensures.made
     (c.if-not-is_so.ensures.not refl))
 
@@ -87,7 +90,8 @@ unreachable-requires c =
     let d = c.if-len-most.false in let k = c.requires.most in omega arith) in
     never_apart c.in-Some.form c.args.net.now c.args.text.now w.net w.bases.items w.weights.items
     r c.loop-at.at i.way i.replay l.told l.first l.second (drop l.next c.args.text.now) fewer
-    c.in-Some-line_at.ensures.read n.net n.bases.items n.weights.items
+    (line_is_read c.in-Some.form (drop c.loop-at.at c.args.text.now) l
+    (drop l.next c.args.text.now) c.in-Some-line_at.ensures.found) n.net n.bases.items n.weights.items
     c.in_ok-made.made c.in_ok-made.ensures.made (c.if-not-is_so.ensures.so refl)
     (c.in_ok-rewrite_named.ensures.apart c.if-not-branch.true)
 
@@ -104,7 +108,8 @@ loop-at-preserved c =
     let fewer : length r.journal ≢ 8000000 = (λ e. let m = c.requires.most in let b = below in omega arith) in
     let both = made_one c.in-Some.form c.args.net.now c.args.text.now w.net w.bases.items w.weights.items
     r c.loop-at.at i.way i.replay l.told l.first l.second (drop l.next c.args.text.now) fewer
-    c.in-Some-line_at.ensures.read n.net n.bases.items n.weights.items
+    (line_is_read c.in-Some.form (drop c.loop-at.at c.args.text.now) l
+    (drop l.next c.args.text.now) c.in-Some-line_at.ensures.found) n.net n.bases.items n.weights.items
     c.in_ok-made.made l.next refl c.in_ok-made.ensures.made (c.if-not-is_so.ensures.so refl)
     c.rewrite_named.new.self adv in
     record {
