@@ -50,6 +50,20 @@ fn a_text_is_read(rt: HostRuntime) -> Result<(), Fail> {
     Ok(())
 }
 
+/// The last term of a `let` is the function, so its names come before those of the first term.
+#[test]
+fn the_names_of_the_last_term_come_first(rt: HostRuntime) -> Result<(), Fail> {
+    let alloc = rt.alloc();
+    let file = parse(alloc, b"let x = a in b x").ok().ok_or("no term")?;
+    let mut out = Vec::new(alloc);
+    write(&file.term, &mut out)?;
+    assert_eq!(rt; out.as_slice(), b"@\\@a0b".as_slice());
+    assert_eq!(rt; file.names.len(), 2);
+    assert!(rt; matches!(file.names.get(0), Some(b"b")));
+    assert!(rt; matches!(file.names.get(1), Some(b"a")));
+    Ok(())
+}
+
 #[test]
 fn other_texts_are_dead_somewhere(rt: HostRuntime) -> Result<(), Fail> {
     let alloc = rt.alloc();

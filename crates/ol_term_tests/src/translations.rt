@@ -27,6 +27,13 @@ const FIRST_NET: &str = "ol net 1\nfree 1\nnode lam 0\nnode lam 0\nnode croissan
 /// A free name has a free port.
 const NAME_NET: &str = "ol net 1\nfree 2\nnode croissant 0\nlink f0 0.1\nlink f1 0.0\n";
 
+/// The names of the last term come first: free port 1 is `b`, the function of node 2, and free port 2
+/// is `a`, the argument of node 0.
+const LET_NET: &str = "ol net 1\nfree 3\nnode app 0\nnode lam 0\nnode app 0\n\
+    node croissant 0\nnode croissant 1\nnode bracket 0\nnode croissant 1\nnode bracket 0\n\
+    link f0 0.1\nlink f1 3.0\nlink f2 7.0\nlink 0.0 1.0\nlink 0.2 6.1\nlink 1.1 2.1\n\
+    link 1.2 5.0\nlink 2.0 3.1\nlink 2.2 4.1\nlink 4.0 5.1\nlink 6.0 7.1\n";
+
 /// The text of the net of a term.
 fn net_text(alloc: Global, input: &str, translation: Translation) -> Result<Vec<u8>, Fail> {
     if input.len() > 100 {
@@ -47,6 +54,7 @@ fn terms_have_their_nets(rt: HostRuntime) -> Result<(), Fail> {
         ("\\x. x x", Translation::Two, TWICE_NET),
         ("\\x. \\y. x", Translation::One, FIRST_NET),
         ("x", Translation::One, NAME_NET),
+        ("let x = a in b x", Translation::One, LET_NET),
     ] {
         let text = net_text(rt.alloc(), input, translation)?;
         assert!(rt; text.as_slice() == wanted.as_bytes(), "{input}");

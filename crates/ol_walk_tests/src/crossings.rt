@@ -34,12 +34,13 @@ fn compares_trees(rt: HostRuntime) -> Result<(), Fail> {
     let other = values.put_star(second)?;
     let answers = [
         values.same(first, second)?,
+        values.same(first, o)?,
         values.equal(first, second),
         values.equal(first, o),
         values.equal(star, other),
         values.equal(star, o),
     ];
-    assert!(rt; answers == [true, true, false, true, false]);
+    assert!(rt; answers == [true, false, true, false, true, false]);
     Ok(())
 }
 
