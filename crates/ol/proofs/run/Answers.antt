@@ -44,7 +44,7 @@ returns g c =
           (no_rise f f' c.new-src.ensures.faults none) (no_rise w w' c.new-out.ensures.faults none'));
       handed = passing words st before after f f' w w' old new c.new-src.ensures.readings
           c.new-src.ensures.faults c.new-out.ensures.faults c.new-out.ensures.taken c.ol-outcome.ensures.handed;
-      told = since_none _ before after c.new-src.ensures.readings c.ol-outcome.ensures.source.told;
+      told = since_none c.ol-outcome.ensures.source c.new-src.ensures.readings;
       ends = λ files of.
           first_ends words files st f f' w w' c.ol-outcome.new.src.given c.ol-outcome.new.src.ended old new
           c.new-src.ensures.faults c.new-out.ensures.faults c.new-out.ensures.taken
