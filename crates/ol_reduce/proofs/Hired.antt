@@ -1,14 +1,15 @@
 -- A new worker is one of this table and this pool.
 use Rattle.std.proofs.Common.{◌≡◌, ap, arith}
-use Rattle.ol_pool.specs.Pools.{PoolState, IsHandOf as IsOfPool}
+use Rattle.ol_pool.specs.Pools.{PoolState}
 use Rattle.ol_wire.specs.declared.view.View.{View}
 use Rattle.ol_wire.specs.Stand.{TableState, IsNewSeat}
+use Rattle.ol_reduce.specs.Started.{HasStarted}
 use Rattle.ol_reduce.specs.Works.{IsWorker}
 use Rattle.ol_reduce.specs.declared.workers.Worker.{Worker}
 
 pub worker_of_fresh : (b : TableState) (p : PoolState) (w : Worker) → IsNewSeat b w.seat →
-    IsOfPool w.hand p → IsWorker b p w
-worker_of_fresh b p w f h =
+    w.number ≡ w.hand.number → HasStarted p b.plan.parts.cells w.hand → IsWorker b p w
+worker_of_fresh b p w f number hand =
     let holds : w.seat.view.holds ≡ 1 = ap (λ (v : View). v.holds) f.1 in (
       (
         (
@@ -22,5 +23,6 @@ worker_of_fresh b p w f h =
         ),
         holds,
       ),
-      h,
+      number,
+      hand,
     )

@@ -21,3 +21,5 @@ pub mod Turns
 mod Answered
 pub mod Offering
 pub mod Worked
+pub mod Starting
+pub mod Passing

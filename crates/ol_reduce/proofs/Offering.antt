@@ -21,6 +21,7 @@ put_none v n sent refused = ([], [], sent ∙ sym (append-nil v.sent), (let e = 
 
 pub offered_none : (v : HandState) → HasOffered v [] v
 offered_none v = record {
+  number = refl;
   pool = refl;
   parts = refl;
   missed = refl;
@@ -40,6 +41,7 @@ put_more u v n xs ys (a, b, s, r, w) (c, d, t, q, z) = (
 pub offered_more : (u v n : HandState) (xs ys : List ℕ) → HasOffered u xs v → HasOffered v ys n →
     HasOffered u (xs ++ ys) n
 offered_more u v n xs ys a b = record {
+  number = b.number ∙ a.number;
   pool = b.pool ∙ a.pool;
   parts = b.parts ∙ a.parts;
   missed = b.missed ∙ a.missed;
@@ -53,6 +55,7 @@ pub offered_one : {A : Type 0} (r : Result A ℕ) (v n : HandState) (cell : ℕ)
     OnErr r (n ≡ record v { refused = n.refused }) → OnErr r (CountsOne v.refused n.refused)
     → HasOffered v (cell ∷ []) n
 offered_one (Ok x) v n cell sent same counts = record {
+  number = ap (λ (s : HandState). s.number) sent;
   pool = ap (λ (s : HandState). s.pool) sent;
   parts = ap (λ (s : HandState). s.parts) sent;
   missed = ap (λ (s : HandState). s.missed) sent;
@@ -66,6 +69,7 @@ offered_one (Ok x) v n cell sent same counts = record {
   );
 }
 offered_one (Err x) v n cell sent same counts = record {
+  number = ap (λ (s : HandState). s.number) same;
   pool = ap (λ (s : HandState). s.pool) same;
   parts = ap (λ (s : HandState). s.parts) same;
   missed = ap (λ (s : HandState). s.missed) same;

@@ -10,6 +10,8 @@ pub mod Drafts
 pub mod Left
 pub mod Works
 pub mod Offered
+pub mod Started
+pub mod Passed
 pub mod Found
 pub mod Linked
 pub mod Used

@@ -4,6 +4,7 @@ use Rattle.ol_pool.specs.Pools.{HandState}
 use Rattle.ol_reduce.specs.Working.{HasPut}
 
 pub record HasOffered (v : HandState) (cells : List ℕ) (n : HandState) : Type 0 where
+  pub number : n.number ≡ v.number
   pub pool : n.pool ≡ v.pool
   pub parts : n.parts ≡ v.parts
   pub missed : n.missed ≡ v.missed

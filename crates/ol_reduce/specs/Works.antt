@@ -10,6 +10,7 @@ use Rattle.ol_reduce.specs.declared.answers.End.{End}
 use Rattle.ol_reduce.specs.declared.answers.End.TheVariants.{Quiet, Spent}
 use Rattle.ol_reduce.specs.declared.workers.Worker.{Worker}
 use Rattle.ol_reduce.specs.Offered.{HasOffered}
+use Rattle.ol_reduce.specs.Started.{HasStarted}
 use Rattle.ol_reduce.specs.Worked.{HasWorked, HasWorkedToQuiet, HasWorkedToSpent}
 use Rattle.ol_reduce.specs.Working.{ClaimsGiven, PutsPublished}
 
@@ -17,9 +18,9 @@ use Rattle.ol_reduce.specs.Working.{ClaimsGiven, PutsPublished}
 abbrev pub IsSeated : TableState → Worker → Type 0
 IsSeated b w = IsSeatOf b w.seat × (w.seat.view.holds ≡ 1)
 
--- and its hand is of this pool
+-- and its number is that of its hand, which is of this pool and put the start cells of its number
 abbrev pub IsWorker : TableState → PoolState → Worker → Type 0
-IsWorker b p w = IsSeated b w × IsOfPool w.hand p
+IsWorker b p w = IsSeated b w × (w.number ≡ w.hand.number) × HasStarted p b.plan.parts.cells w.hand
 
 -- such is the worker that has its cache lines for itself
 abbrev pub IsPadded : (Worker → Type 0) → CachePadded Worker → Type 0

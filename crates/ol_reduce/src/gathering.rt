@@ -1,10 +1,11 @@
 //! From seats to workers and back, and the work of all of them.
 ghost use Rattle.std.specs.Prelude.{◌≡◌, ◌||◌, ◌<◌, ◌≤◌, All, IfOk, vec_len, length, is_some, count_by, true, false};
-ghost use Rattle.ol_pool.specs.Pools.{IsHandOf as IsOfPool};
+ghost use Rattle.ol_pool.specs.Pools.{AreDealt};
 ghost use Rattle.ol_wire.specs.Layout.{cells_of};
 ghost use Rattle.ol_wire.specs.Sizes.{IsSmallNet};
 ghost use Rattle.ol_wire.specs.Stand.{IsNewSeat, IsSeatOf};
 ghost use Rattle.ol_wire.specs.Starts.{AreParts};
+ghost use Rattle.ol_reduce.specs.Started.{HasStarted};
 ghost use Rattle.ol_reduce.specs.Works.{IsEnded, IsWorker, IsPadded};
 ghost use Rattle.ol_wire.specs.Closed.{HasSettled};
 
@@ -63,10 +64,11 @@ pub(crate) fn run_workers<R: Threads + Wait + Sync, G: Gate + Sync>(
 // Puts the cells below `count` into the pool, each by the hand whose number is the remainder by the
 // number of hands.
 fn put_start(pool: &Pool, hands: &mut Vec<Hand>, workers: u32, count: u32)
-    requires hands { All (λ hand. IsOfPool hand pool.now) hands.old.items }
-    requires workers { (vec_len hands.old ≡ workers) × (0 < workers) }
+    requires hands { AreDealt pool.now hands.old.items }
+    requires workers { (vec_len hands.old ≡ workers) × (pool.now.hands ≡ workers) }
+    requires some { 0 < workers }
     requires count { count ≤ pool.now.cells }
-    ensures hands { All (λ hand. IsOfPool hand pool.now) hands.new.items }
+    ensures started { All (HasStarted pool.now count) hands.new.items }
     ensures workers { vec_len hands.new ≡ vec_len hands.old }
 {
     for cell in 0..count {
@@ -83,7 +85,7 @@ pub(crate) fn hire(
     mut hands: Vec<Hand>,
 ) -> Result<Vec<CachePadded<Worker>>, NoMemory>
     requires seats { All (IsNewSeat shared.now) seats.items }
-    requires hands { All (λ hand. IsOfPool hand pool.now) hands.items }
+    requires hands { All (HasStarted pool.now shared.now.plan.parts.cells) hands.items }
     requires count { vec_len hands ≡ vec_len seats }
     ensures each { IfOk result (λ made. All (IsPadded (IsWorker shared.now pool.now)) made.items) }
     ensures count { IfOk result (λ made. vec_len made ≡ vec_len seats) }

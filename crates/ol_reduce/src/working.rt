@@ -9,6 +9,7 @@ ghost use Rattle.ol_reduce.specs.TurnEnds.{IsSpentTurn, IsOtherTurn};
 ghost use Rattle.ol_reduce.specs.Worked.{HasWorkedToQuiet, HasWorkedToSpent};
 ghost use Rattle.ol_reduce.specs.Working.{ClaimsGiven, PutsPublished};
 ghost use Rattle.ol_reduce.specs.Offered.{HasOffered};
+ghost use Rattle.ol_reduce.specs.Passed.{GoesRound};
 ghost use Rattle.ol_reduce.specs.Works.{IsAtWork, HasTurnedOn, HasKept, HasAsked, Goes, GoesOn};
 
 use crate::answers::End;
@@ -99,10 +100,12 @@ impl Pace {
         }
     }
 
-    // The next cell of the round.
+    // The next cell of the round over so many cells, which goes on at the cell behind it; behind the
+    // last one comes the first.
     fn next_cell(&mut self, cells: u32) -> u32
-        requires { 0 < cells }
-        ensures { result < cells }
+        requires some { 0 < cells }
+        ensures cell { result ≡ self.old.next % cells }
+        ensures goes_on { self.new.next % cells ≡ (result + 1) % cells }
     {
         let cell = self.next % cells;
         self.next = cell + 1;
@@ -171,7 +174,7 @@ fn ask(shared: &Shared, own: &mut Worker) -> Option<End>
 }
 
 // Makes turns on the next 64 cells of the worker's round over all cells, or on each of them where
-// there are fewer. Tells whether the last one answered Spent.
+// there are fewer, up to the first that answers Spent. Tells whether the last one did.
 fn go_round<G: Gate>(
     shared: &Shared,
     pool: &Pool,
@@ -183,9 +186,11 @@ fn go_round<G: Gate>(
     ensures kept { HasKept shared.now pool.now own.old own.new }
     ensures missed { own.new.hand.missed ≡ own.old.hand.missed }
     ensures goes { Goes shared.now own.old.seat result own.new.seat }
+    ensures passed { GoesRound (cells_of shared.now.plan.parts) pace.old.next pace.new.next
+        own.old result own.new }
 {
     let cells = shared.cells();
-    for _ in 0..cells.min(64) {
+    for _passed in 0..cells.min(64) {
         let cell = pace.next_cell(cells);
         if turn_on(shared, pool, own, gate, pace, cell) {
             return true;
@@ -206,6 +211,7 @@ fn turn_on<G: Gate>(
 ) -> bool
     requires work { IsAtWork shared.now pool.now own.old }
     requires cell { cell < cells_of shared.now.plan.parts }
+    ensures round { pace.new.next ≡ pace.old.next }
     ensures turned { HasTurnedOn shared.now own.old cell own.new }
     ensures no { IsFalse result → IsOtherTurn shared.now own.old.seat.view cell own.new.seat.view }
     ensures yes { IsTrue result → IsSpentTurn shared.now own.old.seat.view cell own.new.seat.view }

@@ -1,13 +1,13 @@
 use Rattle.std.proofs.Common.{◌≡◌, ◌+◌, All, vec_len}
-use Rattle.ol_pool.specs.Pools.{IsHandOf as IsOfPool}
 use Rattle.ol_wire.specs.Stand.{IsNewSeat}
+use Rattle.ol_reduce.specs.Started.{HasStarted}
 use Rattle.ol_reduce.specs.Works.{IsWorker, IsPadded}
 use Rattle.ol_reduce.proofs.gathering.hire.Given as goal
 
 abbrev pub invariant-loop-seat : goal.invariant-loop-seat
 invariant-loop-seat l =
     All (IsNewSeat l.fn.shared) l.seats.items
-    × All (λ hand. IsOfPool hand l.fn.pool) l.hands.items
+    × All (HasStarted l.fn.pool l.fn.shared.plan.parts.cells) l.hands.items
     × All (IsPadded (IsWorker l.fn.shared l.fn.pool)) l.workers.items
     × (vec_len l.hands ≡ vec_len l.seats)
     × (vec_len l.seats + vec_len l.workers ≡ vec_len l.fn.seats)
