@@ -6,6 +6,7 @@ pub mod Words
 pub mod Drawn
 pub mod Numbers
 pub mod Cells
+pub mod Block
 pub mod Fields
 pub mod Seats
 pub mod Reached

@@ -30,6 +30,7 @@ pub mod TurnPlays
 pub mod TurnParts
 pub mod Rewrites
 pub mod LinkLists
+pub mod Copies
 pub mod InHand
 pub mod LaidWords
 pub mod LinkSteps

@@ -1,9 +1,8 @@
 //! What the seat that draws a ticket writes into the ticket's block.
 ghost use Rattle.std.specs.Prelude.{◌≡◌, ◌+◌, ◌<◌, ◌≤◌};
-ghost use Rattle.ol_wire.specs.References.{index_in, place_in};
-ghost use Rattle.ol_wire.specs.Layout.{block};
-ghost use Rattle.ol_wire.specs.Blocks.{copies_of_f, copies_of_g, born_field, block_words};
+ghost use Rattle.ol_wire.specs.References.{index_in};
 ghost use Rattle.ol_wire.specs.LinkLists.{born_ref};
+ghost use Rattle.ol_wire.specs.Copies.{born_wires};
 ghost use Rattle.ol_wire.specs.Rewrites.{event_for};
 ghost use Rattle.ol_wire.specs.Sizes.{IsSmall};
 
@@ -25,40 +24,16 @@ impl Parts {
         }
     }
 
-    /// What the field of slot s + 1 of the node that the ticket makes at place i holds at first.
-    fn born_field(self, rewrite: Rewrite, ticket: u32, i: u32, s: u32) -> u64
-        requires { IsSmall self × (ticket ≤ 8000000) × (i < 4) × (s < 2) }
-        ensures { result ≡ born_field self (event_for rewrite) ticket i s }
+    /// The wires between the copies that the ticket makes: those of the first copy of f, and those of
+    /// the second one. Each has one to the first copy of g, and one to the second.
+    pub(crate) fn born_wires(self, ticket: u32) -> ((u64, u64), (u64, u64))
+        requires { IsSmall self × (ticket ≤ 8000000) }
+        ensures { result ≡ born_wires self ticket }
     {
-        let of_f = rewrite.copies_of_f();
-        let of_g = rewrite.copies_of_g();
-        if i < of_f && s < of_g {
-            return wire_ref(self.born_wire(ticket, i, s));
-        }
-        if of_f <= i && i < of_f + of_g && s < of_f {
-            return wire_ref(self.born_wire(ticket, s, i - of_f));
-        }
-        0
-    }
-
-    /// The first ten words of the ticket's block: the two nodes, and the fields of the nodes that
-    /// come.
-    pub(crate) fn block_words(self, rewrite: Rewrite, ticket: u32) -> [u64; 10]
-        requires small { IsSmall self × (ticket ≤ 8000000) }
-        requires places { (place_in rewrite.f < 4294967296) × (place_in rewrite.g < 4294967296) }
-        ensures { result ≡ block_words self (event_for rewrite) ticket }
-    {
-        [
-            rewrite.earlier(),
-            rewrite.later(),
-            self.born_field(rewrite, ticket, 0, 0),
-            self.born_field(rewrite, ticket, 0, 1),
-            self.born_field(rewrite, ticket, 1, 0),
-            self.born_field(rewrite, ticket, 1, 1),
-            self.born_field(rewrite, ticket, 2, 0),
-            self.born_field(rewrite, ticket, 2, 1),
-            self.born_field(rewrite, ticket, 3, 0),
-            self.born_field(rewrite, ticket, 3, 1),
-        ]
+        let one = wire_ref(self.born_wire(ticket, 0, 0));
+        let two = wire_ref(self.born_wire(ticket, 0, 1));
+        let three = wire_ref(self.born_wire(ticket, 1, 0));
+        let four = wire_ref(self.born_wire(ticket, 1, 1));
+        ((one, two), (three, four))
     }
 }

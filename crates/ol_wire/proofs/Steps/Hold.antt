@@ -22,7 +22,6 @@ use Rattle.ol_wire.specs.LinkLists.{born_ref, to_write, joins_in, link_of, links
 use Rattle.ol_wire.specs.Plays.{event_in, cell_at, swept_on}
 use Rattle.ol_wire.specs.StepPlays.{IsNodeOf, IsRefOf, IsLookedUp, known_at, ticketed, late, rest, cell_in_hand, owing}
 use Rattle.ol_wire.specs.Rewrites.{event_for}
-use Rattle.ol_wire.specs.Sizes.{IsSmall}
 use Rattle.ol_wire.specs.InHand.{in_hand, IsInHand, IsOfPair, IsSure, AreFields, AreRefs, fields_known, Rewrote}
 use Rattle.ol_edges.proofs.Lists.{in_left, in_right}
 use Rattle.ol_rules.proofs.Born.{at_most_two}
@@ -87,9 +86,6 @@ of_pair v r is = of (event_sides v.last.0 v.last.1)
 pub node_in_hand : (v : View) (w r : ℕ) → IsInHand v w → IsOfPair v r → IsNodeOf v.parts r
 node_in_hand v w r h (inl e) = subst (IsNodeOf v.parts) (sym e) h.nodes.0
 node_in_hand v w r h (inr e) = subst (IsNodeOf v.parts) (sym e) h.nodes.1
-
-pub place_small : (z : Parts) (r : ℕ) → IsSmall z → IsNodeOf z r → place_in r < 4294967296
-place_small z r small node = omega (arith, small, node.4)
 
 -- the view with the fields of the two nodes known
 abbrev pub seen : View → Rewrite → List ℕ → List ℕ → List (ℕ × ℕ)

@@ -4,8 +4,10 @@ ghost use Rattle.ol_edges.specs.Edges.{IsIn};
 ghost use Rattle.ol_net.specs.Parts.{arity};
 ghost use Rattle.ol_wire.specs.References.{kind_in, place_in};
 ghost use Rattle.ol_wire.specs.Events.{rule_between};
-ghost use Rattle.ol_wire.specs.Layout.{block, left_word, cells_of};
+ghost use Rattle.ol_wire.specs.Layout.{block, left_word, cells_of, table_size};
+ghost use Rattle.ol_wire.specs.Blocks.{block_words};
 ghost use Rattle.ol_wire.specs.LinkLists.{to_write};
+ghost use Rattle.ol_wire.specs.Copies.{fields_due, copies_due, AreDueFirst, written};
 ghost use Rattle.ol_wire.specs.Plays.{event_in};
 ghost use Rattle.ol_wire.specs.StepPlays.{IsNodeOf};
 ghost use Rattle.ol_wire.specs.Rewrites.{event_for};
@@ -130,8 +132,7 @@ impl Shared {
         let of_g = self.look_at(token, rewrite.g);
         self.owe(token, rewrite.joins());
         let ticket = self.draw(token)?;
-        let words = self.parts.block_words(rewrite, ticket);
-        self.write_block(token, ticket, &words);
+        self.write_block(token, ticket, rewrite);
         Some(Begun {
             rewrite,
             ticket,
@@ -163,19 +164,83 @@ impl Shared {
         [first, second]
     }
 
-    // Writes those of the first words of a block that aren't empty.
-    fn write_block(&self, token: &mut Token, ticket: u32, words: &[u64; 10])
+    // Writes those of the first words of a block that aren't empty: the two nodes, the fields of the
+    // copies of f, and those of the copies of g.
+    fn write_block(&self, token: &mut Token, ticket: u32, rewrite: Rewrite)
         requires token { IsTokenOf self.now token.old }
         requires ticket { ticket < self.now.plan.parts.fuel }
-        requires due { token.old.me.0.due ≡ to_write (block self.now.plan.parts ticket) words.now }
+        requires nodes { IsNodeOf self.now.plan.parts rewrite.f × IsNodeOf self.now.plan.parts rewrite.g }
+        requires due { token.old.me.0.due ≡ to_write (block self.now.plan.parts ticket)
+            (block_words self.now.plan.parts (event_for rewrite) ticket) }
         ensures token { IsSameSeat token.old token.new }
         ensures view { token.new.me.0 ≡ record token.old.me.0 { due = [] } }
     {
         let first = self.parts.block(ticket);
-        for i in 0..10 {
-            let word = words[i];
-            if word != 0 {
-                self.write(token, first + i as u32, word);
+        self.write(token, first, rewrite.earlier());
+        self.write(token, first + 1, rewrite.later());
+        let of_f = rewrite.copies_of_f();
+        let of_g = rewrite.copies_of_g();
+        if of_f == 0 || of_g == 0 {
+            return;
+        }
+        let (one, two) = self.parts.born_wires(ticket);
+        self.write_copies(token, first + 2, of_f, of_g, one, two);
+        self.write_copies(
+            token,
+            first + 2 + 2 * of_f,
+            of_g,
+            of_f,
+            (one.0, two.0),
+            (one.1, two.1),
+        );
+    }
+
+    // Writes the fields of so many copies of a node, each of which has so many: those of the first
+    // copy, and then those of the second one.
+    #[inline(always)]
+    fn write_copies(
+        &self,
+        token: &mut Token,
+        at: u32,
+        copies: u32,
+        fields: u32,
+        one: (u64, u64),
+        two: (u64, u64),
+    )
+        requires token { IsTokenOf self.now token.old }
+        requires within { at + 4 ≤ table_size self.now.plan.parts }
+        requires small { at + 4 ≤ 4294967295 }
+        requires due { AreDueFirst (copies_due at copies fields one two) token.old.me.0 }
+        ensures token { IsSameSeat token.old token.new }
+        ensures view { token.new.me.0
+            ≡ written (copies_due at copies fields one two) token.old.me.0 }
+    {
+        match copies {
+            0 => {}
+            1 => self.write_fields(token, at, fields, one),
+            _ => {
+                self.write_fields(token, at, fields, one);
+                self.write_fields(token, at + 2, fields, two);
+            }
+        }
+    }
+
+    // Writes the fields of a copy that has so many.
+    #[inline(always)]
+    fn write_fields(&self, token: &mut Token, at: u32, fields: u32, wires: (u64, u64))
+        requires token { IsTokenOf self.now token.old }
+        requires within { at + 2 ≤ table_size self.now.plan.parts }
+        requires small { at + 2 ≤ 4294967295 }
+        requires due { AreDueFirst (fields_due at fields wires) token.old.me.0 }
+        ensures token { IsSameSeat token.old token.new }
+        ensures view { token.new.me.0 ≡ written (fields_due at fields wires) token.old.me.0 }
+    {
+        match fields {
+            0 => {}
+            1 => self.write(token, at, wires.0),
+            _ => {
+                self.write(token, at, wires.0);
+                self.write(token, at + 1, wires.1);
             }
         }
     }

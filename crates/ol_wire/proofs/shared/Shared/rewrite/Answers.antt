@@ -1,4 +1,4 @@
-use Rattle.std.proofs.Common.{◌≡◌, ◌+◌, ◌<◌, ◌≤◌, ℕ, Option, Some, None, IfSome, List, get_or, refl, sym, ap}
+use Rattle.std.proofs.Common.{◌≡◌, ◌+◌, ℕ, Option, Some, None, IfSome, List, get_or, refl, sym, ap}
 use Rattle.std.proofs.Common.{◌∙◌, subst, arith}
 use Rattle.ol_wire.specs.declared.layout.Parts.{Parts}
 use Rattle.ol_wire.specs.declared.view.View.{View}
@@ -9,7 +9,7 @@ use Rattle.ol_net.specs.Parts.{arity}
 use Rattle.ol_wire.specs.References.{kind_in, place_in}
 use Rattle.ol_wire.specs.Blocks.{block_words}
 use Rattle.ol_wire.specs.StepPlays.{IsNodeOf, IsLookedUp, late, ticketed}
-use Rattle.ol_wire.specs.Stand.{TableState, IsUnder}
+use Rattle.ol_wire.specs.Stand.{IsUnder}
 use Rattle.ol_wire.specs.InHand.{IsInHand, IsOfPair, AreFields, fields_known, looked_at}
 use Rattle.ol_wire.specs.Hands.{IsActiveLast}
 use Rattle.ol_wire.specs.LinkLists.{joins_in, to_write}
@@ -19,14 +19,11 @@ use Rattle.ol_wire.specs.Rewrites.{event_for}
 use Rattle.ol_wire.specs.Moments.{WasPending}
 use Rattle.ol_wire.specs.TurnParts.{HasBegunOrLate, HasFieldsOf}
 use Rattle.ol_wire.proofs.Ticket.Refs.{joins_few}
-use Rattle.ol_wire.proofs.Steps.Hold.{of_pair, node_in_hand, place_small, seen, still_in_hand}
+use Rattle.ol_wire.proofs.Steps.Hold.{of_pair, node_in_hand, seen, still_in_hand}
 use Rattle.ol_wire.proofs.Steps.Hold.{owing_in_hand, owed_after, late_told, looked_up, looked_twice}
 use Rattle.ol_wire.proofs.Steps.Hold.{rewritten, due_of_ticket}
 use Rattle.ol_edges.proofs.Lists.{in_right}
 use Rattle.ol_wire.proofs.shared.Shared.rewrite.Goals as goal
-
-few : (t f g : ℕ) → t < f → f ≡ g → g ≤ 8000000 → t ≤ 8000000
-few t f g a b c = omega arith
 
 never : (b : Begun) → ◌≡◌ {A = Option Begun} (Some b) None → ⊥
 never b e = cc
@@ -39,14 +36,12 @@ looked_in_hand v w n a hand = record {
 }
 
 -- the words that are due once the ticket is drawn
-drawn_due : (z : Parts) (v u w : View) (r : Rewrite) (ks : List (ℕ × ℕ)) (n t : ℕ)
-    (words : List ℕ) → w ≡ record v { known = ks; owed = n } → u ≡ ticketed w t →
-    event_for r ≡ event_in v → v.parts ≡ z → words ≡ block_words z (event_for r) t →
-    u.due ≡ to_write (block z t) words
-drawn_due z v u w r ks n t words e f is at b =
+drawn_due : (z : Parts) (v u w : View) (r : Rewrite) (ks : List (ℕ × ℕ)) (n t : ℕ) →
+    w ≡ record v { known = ks; owed = n } → u ≡ ticketed w t → event_for r ≡ event_in v → v.parts ≡ z →
+    u.due ≡ to_write (block z t) (block_words z (event_for r) t)
+drawn_due z v u w r ks n t e f is at =
     ap (λ (x : View). x.due) (f ∙ ap (λ (x : View). ticketed x t) e) ∙ due_of_ticket v r ks t is
     ∙ ap (λ (y : Parts). to_write (block y t) (block_words y (event_for r) t)) at
-    ∙ ap (to_write (block z t)) (sym b)
 
 pub look_at-of_f-requires-clause-token : goal.look_at-of_f-requires-clause-token
 look_at-of_f-requires-clause-token c = c.requires.token
@@ -99,32 +94,27 @@ write_block-requires-clause-token c =
 pub write_block-requires-clause-ticket : goal.write_block-requires-clause-ticket
 write_block-requires-clause-ticket c = c.in_ok-ticket.ensures.view.0
 
-pub block_words-words-requires-clause-small : goal.block_words-words-requires-clause-small
-block_words-words-requires-clause-small c =
-    let parts : c.args.self.now.plan.parts ≡ c.self.inside.parts = sym
-    (ap (λ (b : TableState). b.plan.parts) c.self.view_is) ∙ c.self.invariant.0 in (
-      c.self.invariant.4,
-      few c.in_ok-ticket.ticket c.args.self.now.plan.parts.fuel c.self.inside.parts.fuel
-          c.in_ok-ticket.ensures.view.0 (ap (λ (z : Parts). z.fuel) parts) c.self.invariant.4.fuel,
-    )
+pub write_block-requires-clause-nodes : goal.write_block-requires-clause-nodes
+write_block-requires-clause-nodes c =
+    let v : View = c.args.token.now.me.0 in
+    let sides = of_pair v c.args.rewrite c.requires.rule.0 in
+    let node = λ (n : ℕ) (o : IsOfPair v n).
+    subst (λ (z : Parts). IsNodeOf z n) c.requires.token.1.0
+    (node_in_hand v c.requires.pair.0 n c.requires.pair.1 o) in
+    (node c.args.rewrite.f sides.0, node c.args.rewrite.g sides.1)
 
 pub write_block-requires-clause-due : goal.write_block-requires-clause-due
 write_block-requires-clause-due c =
     let v : View = c.args.token.now.me.0 in
     let r = c.args.rewrite in
-    let t : ℕ = c.in_ok-ticket.ticket in
-    let z : Parts = c.args.self.now.plan.parts in
     let ks = seen v r c.look_at-of_f.result c.look_at-of_g.result in
     let e = looked_twice v c.look_at-of_f.new.token.me.0 c.look_at-of_g.new.token.me.0 r
     c.look_at-of_f.result c.look_at-of_g.result c.look_at-of_f.ensures.view c.look_at-of_g.ensures.view in
     let owed = owed_after v c.look_at-of_g.new.token.me.0 c.owe.new.token.me.0 ks c.joins.result
     c.requires.free.3 e c.owe.ensures.view in
-    let parts : c.self.inside.parts ≡ z = sym c.self.invariant.0
-    ∙ ap (λ (b : TableState). b.plan.parts) c.self.view_is in
-    drawn_due z v c.draw.new.token.me.0 c.owe.new.token.me.0 r ks c.joins.result t
-    c.block_words-words.result owed c.in_ok-ticket.ensures.view.1 c.requires.rule.0
+    drawn_due c.args.self.now.plan.parts v c.draw.new.token.me.0 c.owe.new.token.me.0 r ks
+    c.joins.result c.in_ok-ticket.ticket owed c.in_ok-ticket.ensures.view.1 c.requires.rule.0
     c.requires.token.1.0
-    (c.block_words-words.ensures ∙ ap (λ (y : Parts). block_words y (event_for r) t) parts)
 
 pub returns-in_err-ticket-clause-token : goal.returns-in_err-ticket-clause-token
 returns-in_err-ticket-clause-token c = (
@@ -219,20 +209,6 @@ draw-requires-clause-pair c =
           (looked_up v c.requires.pair.0 r c.look_at-of_f.result c.look_at-of_g.result c.joins.result
           c.requires.token.1.2 c.joins.ensures c.requires.pair.1 c.requires.free.0 c.requires.free.1
           c.requires.free.2 c.requires.rule.0 c.requires.rule.1),
-    )
-
-pub block_words-words-requires-clause-places : goal.block_words-words-requires-clause-places
-block_words-words-requires-clause-places c =
-    let v : View = c.args.token.now.me.0 in
-    let parts : v.parts ≡ c.self.inside.parts = c.requires.token.1.0
-    ∙ sym (ap (λ (b : TableState). b.plan.parts) c.self.view_is) ∙ c.self.invariant.0 in
-    let sides = of_pair v c.args.rewrite c.requires.rule.0 in
-    let node = λ (n : ℕ) (o : IsOfPair v n).
-    subst (λ (z : Parts). IsNodeOf z n) parts (node_in_hand v c.requires.pair.0 n c.requires.pair.1 o) in (
-      place_small c.self.inside.parts c.args.rewrite.f c.self.invariant.4
-          (node c.args.rewrite.f sides.0),
-      place_small c.self.inside.parts c.args.rewrite.g
-          c.self.invariant.4 (node c.args.rewrite.g sides.1),
     )
 
 pub returns-clause-view : goal.returns-clause-view
