@@ -4,9 +4,14 @@ use Rattle.std.specs.Prelude.{slice_index, MatchOption, Option}
 use Rattle.ol_wire.specs.declared.layout.Parts.{Parts}
 use Rattle.ol_wire.specs.declared.view.View.{View}
 use Rattle.ol_wire.specs.declared.begun.Begun.{Begun}
+use Rattle.ol_wire.specs.declared.begun.Copies.{Copies}
 use Rattle.ol_wire.specs.declared.turn.Turn.{Turn}
-use Rattle.ol_wire.specs.Layout.{left_word, born_cell}
+use Rattle.ol_rules.specs.declared.journal.NodeName.TheVariants.{Born}
+use Rattle.ol_rules.specs.Rewriting.{is_meeting, index_after}
+use Rattle.ol_wire.specs.References.{kind_in, index_in, node_ref}
+use Rattle.ol_wire.specs.Layout.{left_word, born_cell, place_of}
 use Rattle.ol_wire.specs.Events.{rule_between}
+use Rattle.ol_wire.specs.Blocks.{copies_of_f}
 use Rattle.ol_wire.specs.LinkLists.{links_of, link_of, joins_in}
 use Rattle.ol_wire.specs.Plays.{event_in}
 use Rattle.ol_wire.specs.StepPlays.{IsNodeOf}
@@ -71,6 +76,20 @@ HasBegunOrLate b v w found n = MatchOption found
 -- what was read of the fields of the two nodes
 abbrev pub HasFieldsOf : Parts → Rewrite → Begun → Type 0
 HasFieldsOf z w b = AreRefs z w.f b.of_f × AreRefs z w.g b.of_g
+
+-- The copies that a rewrite which is no meeting makes: how many of f, and the references that copies
+-- of f and of g have at place 0 of the block.
+pub record AreCopiesOf (z : Parts) (b : Begun) (k : Copies) : Type 0 where
+  pub crosses : is_meeting b.rewrite.rule ≡ false
+  pub of_f : k.of_f ≡ copies_of_f (event_for b.rewrite)
+  pub f : k.f ≡ node_ref (kind_in b.rewrite.f) (index_in b.rewrite.f) (place_of z (Born b.ticket 0))
+  pub g : k.g ≡ node_ref (kind_in b.rewrite.g) (index_after b.rewrite.rule (index_in b.rewrite.g))
+      (place_of z (Born b.ticket 0))
+  pub small : (k.f < 4611686018427387904) × (k.g < 4611686018427387904)
+
+-- a meeting makes none
+abbrev pub HasCopies : Parts → Begun → Option Copies → Type 0
+HasCopies z b copies = MatchOption copies (is_meeting b.rewrite.rule ≡ true) (AreCopiesOf z b)
 
 -- these are the two ends of join j
 abbrev pub AreEndsOf : Parts → Begun → ℕ → ℕ × ℕ → Type 0

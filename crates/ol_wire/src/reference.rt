@@ -1,5 +1,5 @@
 //! References: what a word holds that isn't empty.
-ghost use Rattle.std.specs.Prelude.{◌≡◌, ◌<◌, ◌%◌, true, ◌↔◌};
+ghost use Rattle.std.specs.Prelude.{◌≡◌, ◌<◌, ◌≤◌, ◌+◌, ◌*◌, ◌%◌, true, ◌↔◌};
 ghost use Rattle.ol_wire.specs.References.{kind_number, node_ref, wire_ref, kind_in, index_in, place_in, IsNodeRef};
 
 use ol_net::Kind;
@@ -31,6 +31,14 @@ pub(crate) fn wire_ref(place: u32) -> u64
     ensures { result ≡ wire_ref place }
 {
     2 + 536870912 * place as u64
+}
+
+/// The reference of a node of the same kind and index whose place is so many words further on.
+pub(crate) fn further(node: u64, words: u32) -> u64
+    requires { (node < 4611686018427387904) × (words ≤ 8) }
+    ensures { result ≡ node + 536870912 * words }
+{
+    node + 536870912 * words as u64
 }
 
 /// Whether the reference is that of a node.

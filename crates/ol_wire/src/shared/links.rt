@@ -46,18 +46,21 @@ fn bit(join: u32) -> u8
 impl Shared {
     // Makes the links of a rewrite, and takes from the live word what they didn't come to. Bit j of
     // the answer is set where the pair of join j was published.
-    pub(crate) fn link_all(&self, token: &mut Token, begun: Begun) -> u8
+    pub(crate) fn link_all(&self, token: &mut Token, begun: &Begun) -> u8
         requires token { IsTokenOf self.now token.old }
-        requires begun { IsBegun self.now.plan.parts token.old.me.0 begun }
+        requires begun { IsBegun self.now.plan.parts token.old.me.0 begun.now }
         ensures token { IsSameSeat token.old token.new }
-        ensures view { AreLinked self.now.plan.parts token.old.me.0 begun result token.new.me.0 }
+        ensures view { AreLinked self.now.plan.parts token.old.me.0 begun.now result
+            token.new.me.0 }
     {
+        let copies = begun.copies(self.parts);
+        let first_cell = self.parts.born_cell(begun.ticket, 0);
         let joins = begun.rewrite.joins();
         let mut mask: u8 = 0;
         let mut owed = joins + 1;
         for j in 0..joins {
-            let (one, two) = begun.ends(self.parts, j);
-            let cell = self.parts.born_cell(begun.ticket, j);
+            let (one, two) = begun.ends(&copies, j);
+            let cell = first_cell + 2 * j;
             if let Some(active) = self.link(token, cell, one, two) {
                 mask += bit(j);
                 owed -= active;

@@ -52,7 +52,7 @@ impl Shared {
                 return ended;
             }
         };
-        let mask = self.link_all(&mut seat.token, begun);
+        let mask = self.link_all(&mut seat.token, &begun);
         Turn::Rewrote {
             ticket: begun.ticket,
             rule: begun.rewrite.rule,

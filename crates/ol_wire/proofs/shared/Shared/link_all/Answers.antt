@@ -1,4 +1,4 @@
-use Rattle.std.proofs.Common.{◌≡◌, ◌+◌, ◌^◌, ◌<◌, ◌≤◌, ℕ, zero, suc, refl, sym, ap, ◌∙◌, subst}
+use Rattle.std.proofs.Common.{◌≡◌, ◌+◌, ◌*◌, ◌^◌, ◌<◌, ◌≤◌, ℕ, zero, suc, refl, sym, ap, ◌∙◌, subst}
 use Rattle.std.proofs.Common.{arith, Fits, w8, w32}
 use Rattle.ol_wire.specs.declared.layout.Parts.{Parts}
 use Rattle.ol_wire.specs.declared.view.View.{View}
@@ -30,6 +30,9 @@ index_few z n f o e h = let i = o.2 in omega (arith, i, e, h)
 cell_within : (z : Parts) (t j : ℕ) → t < z.fuel → j < 4 → suc (born_cell z t j) < table_size z
 cell_within z t j a b = omega arith
 
+cell_of : (y z : Parts) (t j first : ℕ) → y ≡ z → first ≡ born_cell y t 0 → first + 2 * j ≡ born_cell z t j
+cell_of y z t j first e is = omega (arith, is, ap (λ (p : Parts). born_cell p t j) e)
+
 mask_fits : (m b j : ℕ) → m < 2 ^ j → b ≡ 2 ^ j → j < 4 → Fits w8 (m + b)
 mask_fits m b zero h e few = omega arith
 mask_fits m b (suc zero) h e few = omega arith
@@ -42,17 +45,37 @@ one_is_owed n o j a h b d = omega arith
 
 pub overflow_add-owed : goal.overflow_add-owed
 overflow_add-owed c =
-    let joins = joins_few (event_for c.args.begun.rewrite) in
+    let joins = joins_few (event_for c.args.begun.now.rewrite) in
     one_more c.joins-joins.result (subst (λ (n : ℕ). n ≤ 4) (sym c.joins-joins.ensures) joins)
 
-pub ends-one-requires-clause-small : goal.ends-one-requires-clause-small
-ends-one-requires-clause-small c =
+pub copies-copies-requires-clause-small : goal.copies-copies-requires-clause-small
+copies-copies-requires-clause-small c =
     let parts : c.args.self.now.plan.parts ≡ c.self.inside.parts = sym
     (ap (λ (b : TableState). b.plan.parts) c.self.view_is) ∙ c.self.invariant.0 in (
       c.self.invariant.4,
-      few c.args.begun.ticket c.args.self.now.plan.parts.fuel c.self.inside.parts.fuel
+      few c.args.begun.now.ticket c.args.self.now.plan.parts.fuel c.self.inside.parts.fuel
           c.requires.begun.ticket (ap (λ (z : Parts). z.fuel) parts) c.self.invariant.4.fuel,
     )
+
+pub copies-copies-requires-clause-index : goal.copies-copies-requires-clause-index
+copies-copies-requires-clause-index c =
+    let parts : c.args.self.now.plan.parts ≡ c.self.inside.parts = sym
+    (ap (λ (b : TableState). b.plan.parts) c.self.view_is) ∙ c.self.invariant.0 in
+    index_few c.args.self.now.plan.parts c.args.begun.now.rewrite.g c.self.inside.parts.fuel
+    c.requires.begun.nodes.1 (ap (λ (z : Parts). z.fuel) parts) c.self.invariant.4.fuel
+
+pub born_cell-first_cell-requires : goal.born_cell-first_cell-requires
+born_cell-first_cell-requires c =
+    let parts : c.args.self.now.plan.parts ≡ c.self.inside.parts = sym
+    (ap (λ (b : TableState). b.plan.parts) c.self.view_is) ∙ c.self.invariant.0 in (
+      c.self.invariant.4,
+      few c.args.begun.now.ticket c.args.self.now.plan.parts.fuel c.self.inside.parts.fuel
+          c.requires.begun.ticket (ap (λ (z : Parts). z.fuel) parts) c.self.invariant.4.fuel,
+      omega arith,
+    )
+
+pub ends-one-requires-clause-copies : goal.ends-one-requires-clause-copies
+ends-one-requires-clause-copies c = (c.self.inside.parts, c.copies-copies.ensures)
 
 pub ends-one-requires-clause-join : goal.ends-one-requires-clause-join
 ends-one-requires-clause-join c =
@@ -60,24 +83,6 @@ ends-one-requires-clause-join c =
 
 pub ends-one-requires-clause-rule : goal.ends-one-requires-clause-rule
 ends-one-requires-clause-rule c = c.requires.begun.rule
-
-pub ends-one-requires-clause-index : goal.ends-one-requires-clause-index
-ends-one-requires-clause-index c =
-    let parts : c.args.self.now.plan.parts ≡ c.self.inside.parts = sym
-    (ap (λ (b : TableState). b.plan.parts) c.self.view_is) ∙ c.self.invariant.0 in
-    index_few c.args.self.now.plan.parts c.args.begun.rewrite.g c.self.inside.parts.fuel
-    c.requires.begun.nodes.1 (ap (λ (z : Parts). z.fuel) parts) c.self.invariant.4.fuel
-
-pub born_cell-cell-requires : goal.born_cell-cell-requires
-born_cell-cell-requires c =
-    let parts : c.args.self.now.plan.parts ≡ c.self.inside.parts = sym
-    (ap (λ (b : TableState). b.plan.parts) c.self.view_is) ∙ c.self.invariant.0 in (
-      c.self.invariant.4,
-      few c.args.begun.ticket c.args.self.now.plan.parts.fuel c.self.inside.parts.fuel
-          c.requires.begun.ticket (ap (λ (z : Parts). z.fuel) parts) c.self.invariant.4.fuel,
-      join_few c.loop-j.j c.joins-joins.result (joins_in (event_for c.args.begun.rewrite))
-          c.loop-j-test.true c.joins-joins.ensures (joins_few (event_for c.args.begun.rewrite)),
-    )
 
 pub link-requires-clause-token : goal.link-requires-clause-token
 link-requires-clause-token c = (
@@ -88,11 +93,11 @@ link-requires-clause-token c = (
 pub link-requires-clause-cell : goal.link-requires-clause-cell
 link-requires-clause-cell c =
     let z : Parts = c.args.self.now.plan.parts in
-    let b = c.args.begun in
+    let b = c.args.begun.now in
     let parts : c.self.inside.parts ≡ z = sym c.self.invariant.0
     ∙ ap (λ (x : TableState). x.plan.parts) c.self.view_is in
-    let cell : c.born_cell-cell.result ≡ born_cell z b.ticket c.loop-j.j = c.born_cell-cell.ensures
-    ∙ ap (λ (y : Parts). born_cell y b.ticket c.loop-j.j) parts in
+    let cell : c.born_cell-first_cell.result + 2 * c.loop-j.j ≡ born_cell z b.ticket c.loop-j.j =
+    cell_of c.self.inside.parts z b.ticket c.loop-j.j c.born_cell-first_cell.result parts c.born_cell-first_cell.ensures in
     subst (λ (w : ℕ). suc w < table_size z) (sym cell)
     (cell_within z b.ticket c.loop-j.j c.requires.begun.ticket
     (join_few c.loop-j.j c.joins-joins.result (joins_in (event_for b.rewrite)) c.loop-j-test.true
@@ -100,17 +105,17 @@ link-requires-clause-cell c =
 
 pub bit-mask-requires : goal.bit-mask-requires
 bit-mask-requires c = join_few c.loop-j.j c.joins-joins.result
-    (joins_in (event_for c.args.begun.rewrite)) c.loop-j-test.true c.joins-joins.ensures
-    (joins_few (event_for c.args.begun.rewrite))
+    (joins_in (event_for c.args.begun.now.rewrite)) c.loop-j-test.true c.joins-joins.ensures
+    (joins_few (event_for c.args.begun.now.rewrite))
 
 pub overflow_add-mask : goal.overflow_add-mask
 overflow_add-mask c = mask_fits c.loop-j.mask c.bit-mask.result c.loop-j.j c.loop-j.invariant.2.mask
     c.bit-mask.ensures (join_few c.loop-j.j c.joins-joins.result
-    (joins_in (event_for c.args.begun.rewrite)) c.loop-j-test.true c.joins-joins.ensures
-    (joins_few (event_for c.args.begun.rewrite)))
+    (joins_in (event_for c.args.begun.now.rewrite)) c.loop-j-test.true c.joins-joins.ensures
+    (joins_few (event_for c.args.begun.now.rewrite)))
 
 pub overflow_sub-owed : goal.overflow_sub-owed
-overflow_sub-owed c = one_is_owed (joins_in (event_for c.args.begun.rewrite)) c.loop-j.owed c.loop-j.j
+overflow_sub-owed c = one_is_owed (joins_in (event_for c.args.begun.now.rewrite)) c.loop-j.owed c.loop-j.j
     c.in-Some.active c.loop-j.invariant.2.most
     (subst (λ (n : ℕ). c.loop-j.j < n) c.joins-joins.ensures c.loop-j-test.true) c.in-Some.ensures.small
 
@@ -133,61 +138,67 @@ pub loop-j-init : goal.loop-j-init
 loop-j-init c = (
   refl,
   refl,
-  all_begin c.args.self.now.plan.parts c.args.token.now.me.0 c.args.begun
+  all_begin c.args.self.now.plan.parts c.args.token.now.me.0 c.args.begun.now
       c.requires.begun (c.joins-joins.result + 1) (ap (λ (n : ℕ). n + 1) c.joins-joins.ensures),
 )
 
 pub link-requires-clause-next : goal.link-requires-clause-next
 link-requires-clause-next c =
     let z : Parts = c.args.self.now.plan.parts in
-    let b = c.args.begun in
+    let b = c.args.begun.now in
     let one = c.ends-one.result.0 in
     let two = c.ends-one.result.1 in
     let parts : c.self.inside.parts ≡ z = sym c.self.invariant.0
     ∙ ap (λ (x : TableState). x.plan.parts) c.self.view_is in
     let lt : c.loop-j.j < joins_in (event_for b.rewrite) = omega (arith, c.loop-j-test.true, c.joins-joins.ensures) in
-    let is : link_between c.born_cell-cell.result one two ≡ link_in z b c.loop-j.j =
-    ap (λ (w : ℕ). link_between w one two) c.born_cell-cell.ensures ∙ c.ends-one.ensures
+    let first : ℕ = c.born_cell-first_cell.result in
+    let cell : first + 2 * c.loop-j.j ≡ born_cell c.self.inside.parts b.ticket c.loop-j.j =
+    cell_of c.self.inside.parts c.self.inside.parts b.ticket c.loop-j.j first refl c.born_cell-first_cell.ensures in
+    let is : link_between (first + 2 * c.loop-j.j) one two ≡ link_in z b c.loop-j.j =
+    ap (λ (w : ℕ). link_between w one two) cell ∙ c.ends-one.ensures c.self.inside.parts c.copies-copies.ensures
     ∙ ap (λ (y : Parts). link_in y b c.loop-j.j) parts in
     link_is_next z c.args.token.now.me.0 b c.requires.begun c.loop-j.j c.loop-j.mask c.loop-j.owed
-    c.loop-j.token.me.0 c.loop-j.invariant.2 lt c.born_cell-cell.result one two is
+    c.loop-j.token.me.0 c.loop-j.invariant.2 lt (first + 2 * c.loop-j.j) one two is
 
 pub link-requires-clause-ends : goal.link-requires-clause-ends
 link-requires-clause-ends c =
     let z : Parts = c.args.self.now.plan.parts in
-    let b = c.args.begun in
+    let b = c.args.begun.now in
     let one = c.ends-one.result.0 in
     let two = c.ends-one.result.1 in
     let parts : c.self.inside.parts ≡ z = sym c.self.invariant.0
     ∙ ap (λ (x : TableState). x.plan.parts) c.self.view_is in
     let lt : c.loop-j.j < joins_in (event_for b.rewrite) = omega (arith, c.loop-j-test.true, c.joins-joins.ensures) in
-    let is : link_between c.born_cell-cell.result one two ≡ link_in z b c.loop-j.j =
-    ap (λ (w : ℕ). link_between w one two) c.born_cell-cell.ensures ∙ c.ends-one.ensures
+    let first : ℕ = c.born_cell-first_cell.result in
+    let cell : first + 2 * c.loop-j.j ≡ born_cell c.self.inside.parts b.ticket c.loop-j.j =
+    cell_of c.self.inside.parts c.self.inside.parts b.ticket c.loop-j.j first refl c.born_cell-first_cell.ensures in
+    let is : link_between (first + 2 * c.loop-j.j) one two ≡ link_in z b c.loop-j.j =
+    ap (λ (w : ℕ). link_between w one two) cell ∙ c.ends-one.ensures c.self.inside.parts c.copies-copies.ensures
     ∙ ap (λ (y : Parts). link_in y b c.loop-j.j) parts in
     both_ends z c.args.token.now.me.0 b c.requires.begun c.loop-j.j c.loop-j.mask c.loop-j.owed
-    c.loop-j.token.me.0 c.loop-j.invariant.2 lt c.born_cell-cell.result one two is
+    c.loop-j.token.me.0 c.loop-j.invariant.2 lt (first + 2 * c.loop-j.j) one two is
 
 pub loop-j-preserved : goal.loop-j-preserved
 loop-j-preserved c =
     let z : Parts = c.args.self.now.plan.parts in
-    let b = c.args.begun in
+    let b = c.args.begun.now in
     let j : ℕ = c.loop-j.j in
     let parts : c.self.inside.parts ≡ z = sym c.self.invariant.0
     ∙ ap (λ (x : TableState). x.plan.parts) c.self.view_is in
     let lt : j < joins_in (event_for b.rewrite) = omega (arith, c.loop-j-test.true, c.joins-joins.ensures) in
-    let cell : c.born_cell-cell.result ≡ born_cell z b.ticket j = c.born_cell-cell.ensures
-    ∙ ap (λ (y : Parts). born_cell y b.ticket j) parts in (
+    let cell : c.born_cell-first_cell.result + 2 * j ≡ born_cell z b.ticket j =
+    cell_of c.self.inside.parts z b.ticket j c.born_cell-first_cell.result parts c.born_cell-first_cell.ensures in (
       c.link.ensures.token.0 ∙ c.loop-j.invariant.0,
       c.link.ensures.token.1 ∙ c.loop-j.invariant.1,
       elim c.match-link.branch [
         | in-Some w ↦ more_published z c.args.token.now.me.0 b c.requires.begun j c.loop-j.mask
             c.loop-j.owed c.loop-j.token.me.0 c.loop-j.invariant.2 lt c.requires.token.1.0
-            c.link.new.token.me.0 w.in-Some.active c.born_cell-cell.result c.match-link.mask
+            c.link.new.token.me.0 w.in-Some.active (c.born_cell-first_cell.result + 2 * j) c.match-link.mask
             c.match-link.owed cell w.in-Some.ensures.small w.in-Some.ensures.view
             (omega (arith, w.mask-is, w.bit-mask.ensures)) w.owed-is
         | in_default w ↦ more_made z c.args.token.now.me.0 b c.requires.begun j c.loop-j.mask
             c.loop-j.owed c.loop-j.token.me.0 c.loop-j.invariant.2 lt c.requires.token.1.0
-            c.link.new.token.me.0 c.born_cell-cell.result c.match-link.mask c.match-link.owed cell
+            c.link.new.token.me.0 (c.born_cell-first_cell.result + 2 * j) c.match-link.mask c.match-link.owed cell
             w.in_default.ensures.view w.mask-is w.owed-is
       ],
     )
@@ -195,7 +206,7 @@ loop-j-preserved c =
 pub repay-requires-clause-linked : goal.repay-requires-clause-linked
 repay-requires-clause-linked c =
     let z : Parts = c.args.self.now.plan.parts in
-    let b = c.args.begun in
+    let b = c.args.begun.now in
     let end : c.loop-j.j ≡ joins_in (event_for b.rewrite) = omega
     (arith, c.loop-j-test.false, c.joins-joins.ensures, c.loop-j.auto.j-end) in
     none_left z c.args.token.now.me.0 b c.requires.begun c.loop-j.mask c.loop-j.owed
@@ -207,7 +218,7 @@ pub returns-clause-view : goal.returns-clause-view
 returns-clause-view c =
     let z : Parts = c.args.self.now.plan.parts in
     let v : View = c.args.token.now.me.0 in
-    let b = c.args.begun in
+    let b = c.args.begun.now in
     let end : c.loop-j.j ≡ joins_in (event_for b.rewrite) = omega
     (arith, c.loop-j-test.false, c.joins-joins.ensures, c.loop-j.auto.j-end) in
     all_linked z v b c.requires.begun c.loop-j.mask c.loop-j.owed c.loop-j.token.me.0
