@@ -16,9 +16,10 @@ use crate::seat::Token;
 use crate::shared::Shared;
 
 impl Shared {
-    // Exchanges 0 into the left word of a cell, and gives what it read.
-    pub(crate) fn claim(&self, token: &mut Token, cell: u32) -> u64
+    // Exchanges 0 into the left word of a cell, which is `word`, and gives what it read.
+    pub(crate) fn claim(&self, token: &mut Token, cell: u32, word: u32) -> u64
         requires token { IsTokenOf self.now token.old }
+        requires word { word ≡ left_word self.now.plan.parts cell }
         requires cell { cell < cells_of self.now.plan.parts }
         requires idle { IsIdle token.old.me.0 }
         ensures token { IsSameSeat token.old token.new }
@@ -28,21 +29,22 @@ impl Shared {
         ensures taken { result ≢ 0 → HasClaimed self.now token.old.me.0 cell result token.new.me.0 }
         ensures node { result ≢ 0 → IsNodeOf self.now.plan.parts result }
     {
-        let word = self.parts.left_word(cell);
         self.table.shared.swap::<Claims>(token, word as usize, 0)
     }
 
-    // Reads the right word of the cell that was claimed last.
-    pub(crate) fn read_right(&self, token: &mut Token, cell: u32) -> u64
+    // Reads the right word of the cell that was claimed last. `word` is its left word.
+    pub(crate) fn read_right(&self, token: &mut Token, cell: u32, word: u32) -> u64
         requires token { IsTokenOf self.now token.old }
+        requires word { word ≡ left_word self.now.plan.parts cell }
         requires cell { cell < cells_of self.now.plan.parts }
         requires taken { HoldsLeft token.old.me.0 (left_word self.now.plan.parts cell) }
         ensures token { IsSameSeat token.old token.new }
         ensures view { HasPaired self.now token.old.me.0 cell result token.new.me.0 }
         ensures node { IsNodeOf self.now.plan.parts result }
     {
-        let word = self.parts.left_word(cell) + 1;
-        self.table.shared.load::<ReadsRight>(token, word as usize)
+        self.table
+            .shared
+            .load::<ReadsRight>(token, word as usize + 1)
     }
 
     // Reads the field of an auxiliary slot of one of the two nodes in hand. The slots are counted
@@ -112,9 +114,10 @@ impl Shared {
         self.table.shared.store::<Writes>(token, at as usize, word);
     }
 
-    // Puts the pair in hand back into its cell, once nothing is owed.
-    pub(crate) fn put_back(&self, token: &mut Token, cell: u32, left: u64)
+    // Puts the pair in hand back into its cell, once nothing is owed. `word` is the cell's left word.
+    pub(crate) fn put_back(&self, token: &mut Token, cell: u32, word: u32, left: u64)
         requires token { IsTokenOf self.now token.old }
+        requires word { word ≡ left_word self.now.plan.parts cell }
         requires cell { cell < cells_of self.now.plan.parts }
         requires pair { IsInHand token.old.me.0 (left_word self.now.plan.parts cell) }
         requires left { left ≡ token.old.me.0.last.0 }
@@ -124,7 +127,6 @@ impl Shared {
         ensures moment { MomentHolding self.now.plan (left_word self.now.plan.parts cell)
             token.new.me.0 }
     {
-        let word = self.parts.left_word(cell);
         self.table
             .shared
             .store::<Returns>(token, word as usize, left);

@@ -77,28 +77,30 @@ impl Shared {
         ensures moment { IfErr result
             (λ turn. IsMomentOf self.now.plan cell turn token.new.me.0) }
     {
-        let Some((left, right)) = self.take(token, cell) else {
+        let word = self.parts.left_word(cell);
+        let Some((left, right)) = self.take(token, cell, word) else {
             return Err(Turn::Gone);
         };
         let Some(rewrite) = rewrite_of(left, right) else {
-            self.put_back(token, cell, left);
+            self.put_back(token, cell, word, left);
             return Err(Turn::Stuck);
         };
         if over {
-            self.put_back(token, cell, left);
+            self.put_back(token, cell, word, left);
             return Err(Turn::Spent);
         }
         let Some(begun) = self.rewrite(token, rewrite) else {
             self.repay(token, rewrite.joins());
-            self.put_back(token, cell, left);
+            self.put_back(token, cell, word, left);
             return Err(Turn::Spent);
         };
         Ok(begun)
     }
 
-    // Claims a cell, and reads its right word if the left one wasn't empty.
-    fn take(&self, token: &mut Token, cell: u32) -> Option<(u64, u64)>
+    // Claims a cell, and reads its right word if the left one wasn't empty. `word` is its left word.
+    fn take(&self, token: &mut Token, cell: u32, word: u32) -> Option<(u64, u64)>
         requires token { IsTokenOf self.now token.old }
+        requires word { word ≡ left_word self.now.plan.parts cell }
         requires cell { cell < cells_of self.now.plan.parts }
         requires idle { IsIdle token.old.me.0 }
         ensures token { IsSameSeat token.old token.new }
@@ -107,11 +109,11 @@ impl Shared {
         ensures empty { IfNone result
             (MomentEmpty self.now.plan (left_word self.now.plan.parts cell) token.new.me.0) }
     {
-        let left = self.claim(token, cell);
+        let left = self.claim(token, cell, word);
         if left == 0 {
             return None;
         }
-        let right = self.read_right(token, cell);
+        let right = self.read_right(token, cell, word);
         Some((left, right))
     }
 

@@ -15,8 +15,8 @@ swap-requires c =
     let parts : t.key.parts ≡ c.args.self.now.plan.parts = ap (λ (b : TableState). b.plan.parts) c.self.view_is in
     let cell : c.args.cell < cells_of t.key.parts = subst (λ (z : Parts). c.args.cell < cells_of z)
     (sym parts) c.requires.cell in
-    let word : c.left_word-word.result ≡ left_word t.key.parts
-    c.args.cell = c.left_word-word.ensures ∙ ap (λ (z : Parts). left_word z c.args.cell) (sym c.self.invariant.0) in
+    let word : c.args.word ≡ left_word t.key.parts c.args.cell = c.requires.word
+    ∙ ap (λ (z : Parts). left_word z c.args.cell) (sym parts) in
     let place = part_cell t.key.parts c.args.cell cell in (
       of,
       omega (
@@ -27,14 +27,11 @@ swap-requires c =
         ap (λ (z : Parts). table_size z) c.self.invariant.0,
       ),
       claims_allowed t.key t.table_id.slots me.id me.me c.requires.token.1.2 c.args.cell
-          c.left_word-word.result cell word c.requires.idle,
+          c.args.word cell word c.requires.idle,
     )
 
 pub returns-clause-empty : goal.returns-clause-empty
 returns-clause-empty c = λ none.
     let p = c.args.self.now.plan in
-    let word : c.left_word-word.result ≡ left_word p.parts c.args.cell = c.left_word-word.ensures
-    ∙ ap (λ (z : Parts). left_word z c.args.cell)
-    (sym c.self.invariant.0 ∙ ap (λ (b : TableState). b.plan.parts) c.self.view_is) in
     let u = c.requires.token.1 in
-    subst (λ (w : ℕ). MomentEmpty p w c.swap.new.seat.me.0) word ((c.swap.ensures.2.1 none).1 p (u.0, u.1, u.3))
+    subst (λ (w : ℕ). MomentEmpty p w c.swap.new.seat.me.0) c.requires.word ((c.swap.ensures.2.1 none).1 p (u.0, u.1, u.3))

@@ -17,8 +17,7 @@ store-requires c =
     let cell : c.args.cell < cells_of t.key.parts = subst (λ (z : Parts). c.args.cell < cells_of z)
     (sym parts) c.requires.cell in
     let w : ℕ = left_word t.key.parts c.args.cell in
-    let word : c.left_word-word.result ≡ w = c.left_word-word.ensures
-    ∙ ap (λ (z : Parts). left_word z c.args.cell) (sym c.self.invariant.0) in
+    let word : c.args.word ≡ w = c.requires.word ∙ ap (λ (z : Parts). left_word z c.args.cell) (sym parts) in
     let hand : IsInHand me.me.0 w = subst
     (λ (z : Parts). IsInHand me.me.0 (left_word z c.args.cell)) (sym parts) c.requires.pair in (
       of,
@@ -30,14 +29,11 @@ store-requires c =
         ap (λ (z : Parts). table_size z) c.self.invariant.0,
       ),
       returns_allowed t.key t.table_id.slots me.id me.me c.requires.token.1.2 c.args.cell w
-          c.args.left c.left_word-word.result cell refl word c.requires.left hand.taken hand.right c.requires.nothing,
+          c.args.left c.args.word cell refl word c.requires.left hand.taken hand.right c.requires.nothing,
     )
 
 pub returns-clause-moment : goal.returns-clause-moment
 returns-clause-moment c =
     let p = c.args.self.now.plan in
-    let word : c.left_word-word.result ≡ left_word p.parts c.args.cell = c.left_word-word.ensures
-    ∙ ap (λ (z : Parts). left_word z c.args.cell)
-    (sym c.self.invariant.0 ∙ ap (λ (b : TableState). b.plan.parts) c.self.view_is) in
     let u = c.requires.token.1 in
-    subst (λ (w : ℕ). MomentHolding p w c.store.new.seat.me.0) word (c.store.ensures.2.2 p (u.0, u.1, u.3))
+    subst (λ (w : ℕ). MomentHolding p w c.store.new.seat.me.0) c.requires.word (c.store.ensures.2.2 p (u.0, u.1, u.3))

@@ -15,8 +15,7 @@ load-requires c =
     let parts : c.self.inside.parts ≡ z = sym c.self.invariant.0
     ∙ ap (λ (b : TableState). b.plan.parts) c.self.view_is in
     let w : ℕ = left_word z c.args.cell in
-    let word : c.left_word-word.result ≡ w = c.left_word-word.ensures
-    ∙ ap (λ (z : Parts). left_word z c.args.cell) parts in (
+    let word : c.args.word ≡ w = c.requires.word in (
       of,
       omega (
         arith,
@@ -26,5 +25,5 @@ load-requires c =
         ap (λ (z : Parts). table_size z) parts,
       ),
       reads_right_allowed_at t.key t.table_id.slots me.id me.me c.requires.token.1.2 w
-          me.me.0.last.0 c.requires.taken (c.left_word-word.result + 1) (omega (arith, word)),
+          me.me.0.last.0 c.requires.taken (c.args.word + 1) (omega (arith, word)),
     )
