@@ -7,11 +7,11 @@ import subprocess
 import sys
 import time
 
-TOP = os.path.dirname(os.path.dirname(os.path.abspath(__file__)))
+import made_from
+
+TOP = made_from.TOP
 LOGIC = 'dac8208d650f15bf'  # the program logic that the proofs were last checked with
 ROOM = 10  # GB of disk that all proofs take
-# Each program: its crate, and the script that runs it.
-PROGRAMS = {'ol': ('ol', './ol'), 'ol-bench': ('ol_bench_program', './ol-bench')}
 
 
 def tell(text):
@@ -21,23 +21,6 @@ def tell(text):
 def stop(text):
     tell(text)
     sys.exit(1)
-
-
-def crates_below(program):
-    """The crates of the repository that this one stands on."""
-    rows = {}
-    with open(TOP + '/crates.txt', encoding='utf-8') as file:
-        for row in file:
-            name, colon, rest = row.partition('#')[0].partition(':')
-            if colon:
-                rows[name.split()[0]] = rest.split()
-    below, todo = set(), [program]
-    while todo:
-        for it in rows.get(todo.pop(), ()):
-            if it in rows and it not in below:
-                below.add(it)
-                todo.append(it)
-    return below
 
 
 def check_the_machine():
@@ -95,21 +78,27 @@ def build(crate):
         stop('the program is not built: above is what `rt` printed.')
 
 
+def words_of(words):
+    """The name of the program that is asked for, and by how many processes it is proved."""
+    name = words.pop(0) if words and words[0] in made_from.CRATES else 'ol'
+    number = words.pop(0) if words else str(len(os.sched_getaffinity(0)))
+    if words or not number.isdecimal() or not int(number):
+        stop('usage: ./prove [ol|ol-bench] [JOBS], where JOBS is a number from 1 on.')
+    return name, int(number)
+
+
 def main():
-    words = sys.argv[1:]
-    crate, script = PROGRAMS[words.pop(0) if words and words[0] in PROGRAMS else 'ol']
-    processors = len(os.sched_getaffinity(0))
-    lanes = int(words[0]) if words and words[0].isdigit() else processors
+    name, lanes = words_of(sys.argv[1:])
     check_the_machine()
-    below, start = sorted(crates_below(crate)), time.time()
+    crate, start, sources = made_from.CRATES[name], time.time(), made_from.sources(name)
+    below = sorted(set(made_from.rows_below(crate)) - {crate})
     count = len(below) + 1
     tell(f'{count} crates, by at most {lanes} processes.')
     prove_all(below, lanes, count, start)
     build(crate)
-    program = f'{TOP}/crates/{crate}/out/{crate}'
-    os.utime(program)
+    made_from.note(name, 'proved', sources)
     tell(f'{count:2} of {count} {clock(start)}  {crate}')
-    tell(f'proved and built: {os.path.relpath(program)}. {script} runs it from now on.')
+    tell(f"proved and built: {os.path.relpath(made_from.program(name, 'proved'))}. ./{name} runs it from now on.")
 
 
 if __name__ == '__main__':

@@ -125,6 +125,28 @@ def sections(file, first):
         yield record
 
 
+def renumbered(net, numbers):
+    """The net with other numbers of nodes."""
+    to = dict(zip(net.nodes, numbers))
+    moved = {place: place if place[0] == "f" else (to[place[0]], place[1]) for place in net.linked}
+    nodes = {to[n]: what for n, what in net.nodes.items()}
+    return net._replace(nodes=nodes, linked={moved[p]: moved[q] for p, q in net.linked.items()})
+
+
+def changed(net, numbers):
+    """The net with two links exchanged, where it has two."""
+    links = [(p, q) for p, q in net.linked.items() if name(p) < name(q)]
+    if len(links) < 2:
+        return net
+    (p, q), (r, s) = numbers.sample(links, 2)
+    return net._replace(linked={**net.linked, p: r, r: p, q: s, s: q})
+
+
+def section(name, status, text):
+    """A section of a record, as `sections` reads it."""
+    return f"{name} {status} {text.count(chr(10))}\n{text}"
+
+
 def told(net, number):
     return f"{net.nodes[number][0]} {net.nodes[number][1]}"
 

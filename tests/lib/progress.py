@@ -1,0 +1,16 @@
+"""How far a script is, on standard error, each ten seconds: nothing, where it takes less."""
+import sys
+import time
+
+EVERY = 10  # seconds
+
+
+def shown(things, count):
+    """The things one after another. Where they take long, a line tells how many of them were handed out and done."""
+    begun = told = time.monotonic()
+    for done, thing in enumerate(things):
+        now = time.monotonic()
+        if now - told >= EVERY:
+            told = now
+            print(f"{sys.argv[0]}: {done} of {count}, {now - begun:.0f} s", file=sys.stderr, flush=True)
+        yield thing
