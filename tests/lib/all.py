@@ -1,0 +1,60 @@
+"""Runs the scripts of tests/ one after another, and tells how many of all that they tried passed.
+
+    tests/all [--long]
+
+It tries the scripts `ol` and `prove`, the commands of the pages, the term files of examples/, the vectors, docs/BENCH.md,
+and the scripts themselves, with the programs that tests/lib/which_ol.py finds: those that OL and OL_BENCH name; else the
+proved ones, where they are there; else `ol` on PATH; else the scripts `ol` and `ol-bench` at the top. With --long it runs
+those too that are named at the end with the time that they take. The last line is 'N passed, M failed', over all.
+"""
+import collections
+import os
+import time
+
+import asking
+import summing
+from which_ol import TOP
+
+USUAL = ["scripts", "first-answer", "pages", "examples", "vectors/check", "bench"]
+# A longer one: its name, what it tries, and how long it takes on four idle processors.
+Long = collections.namedtuple("Long", "name tries takes")
+LONG = [
+    Long("hostile", "limits at their edges, and bad input", "a minute"),
+    Long("refused-memory", "each allocation refused in turn", "a minute"),
+    Long("workers", "10,000 runs by 2 to 64 workers", "a minute"),
+    Long("families", "betas and families of 4,000 terms", "a minute"),
+    Long("afters", "`ol-bench after` on 1,000 terms", "a minute"),
+    Long("explains", "`ol-bench explain` on 1,000 terms", "a minute"),
+    Long("sames", "`ol-bench same` on 1,000 terms", "a minute"),
+    Long("rounds", "`ol-bench journal --order rounds` on 1,000 terms", "a minute"),
+    Long("faults/many", "a runtime with eight faults on 300 terms", "a minute"),
+    Long("speed", "one answer of each row of docs/RUNTIMES.md, part 4, and its time", "a minute"),
+]
+
+
+def run(names):
+    """Runs these scripts and gives the sum over them."""
+    sums = []
+    for name in names:
+        begun = time.monotonic()
+        print(f"tests/{name}", flush=True)
+        sums.append(summing.ran([os.path.join(TOP, "tests", name)])[0])
+        print(f"tests/{name} took {time.monotonic() - begun:.0f} s", flush=True)
+    return summing.added(sums)
+
+
+def tell_of_others():
+    print("Not run; tests/all --long runs them too, and four idle processors take:")
+    for it in LONG:
+        print(f"  tests/{it.name:15} {it.takes:9} {it.tries}")
+    print("  tests/strategies  prints a table of terms that are named, and tries nothing", flush=True)
+
+
+def main(words):
+    asked = asking.parser(__doc__)
+    asked.add_argument("--long", action="store_true", help="run the longer ones too")
+    asked = asked.parse_args(words)
+    total = run(USUAL + [it.name for it in LONG if asked.long])
+    if not asked.long:
+        tell_of_others()
+    return summing.told(total)
