@@ -17,7 +17,7 @@ MOST_SECONDS = 120
 
 # What the scripts `ol` and `ol-bench` say on standard error, each a line of its own, where the program isn't proved.
 SAID = [f"{name}: {line}\n".encode() for name, prove in made_from.PROVED_BY.items() for line in (
-    "building a program that isn't proved, once: half a minute on an idle machine.",
+    "building a program that isn't proved, once: under a minute on an idle machine.",
     f"the proved program isn't of these sources: this one isn't proved on this machine yet. {prove} proves it.",
     f"this program isn't proved on this machine yet. {prove} proves it.")]
 
