@@ -36,7 +36,11 @@ def main(words):
         return 2
     os.chdir(made_from.TOP)
     sources = {name: made_from.sources(name) for name in made_from.CRATES}
-    total, status = summing.ran(words)
+    try:
+        total, status = summing.ran(words)
+    except OSError as fault:
+        print(f"{words[0]} doesn't run: {fault.strerror}")
+        total, status = summing.Sum(0, 1), 127
     if status or total.failed:
         print("tests/all isn't run, since what comes before it failed.")
         summing.told(total)
