@@ -20,6 +20,7 @@ USUAL = ["scripts", "first-answer", "pages", "examples", "vectors/check", "bench
 Long = collections.namedtuple("Long", "name tries takes")
 LONG = [
     Long("hostile", "limits at their edges, and bad input", "a minute"),
+    Long("bench-limits", "`ol-bench` on the longest nets and journals, and one byte more", "a minute"),
     Long("refused-memory", "each allocation refused in turn", "a minute"),
     Long("workers", "10,000 runs by 2 to 64 workers", "a minute"),
     Long("families", "betas and families of 4,000 terms", "a minute"),
