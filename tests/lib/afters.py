@@ -13,7 +13,7 @@ The programs are those that the variables OL and OL_BENCH name, else those of te
 import netfiles
 import plain
 import random_terms
-from which_ol import answer
+from random_terms import answer
 
 ORDERS = {"least": True, "demand": False, "rounds": True}
 

@@ -21,7 +21,7 @@ import netfiles
 import plain
 import random_terms
 from plain import key
-from which_ol import answer
+from random_terms import answer
 
 
 def left(view, entries):

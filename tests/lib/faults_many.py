@@ -22,7 +22,7 @@ import progress
 import random_terms
 import summing
 import which_ol
-from which_ol import answer
+from random_terms import answer
 
 
 class Term:

@@ -2,6 +2,7 @@
 import contextlib
 import os
 import random
+import subprocess
 import tempfile
 
 import asking
@@ -29,6 +30,13 @@ def in_file(text):
         with open(name, "w", encoding="utf-8") as file:
             file.write(text)
         yield name
+
+
+def answer(program, words, given=""):
+    """The status of a call, and what it writes on standard output: `ol-bench` says on standard error why it refuses, which isn't told."""
+    done = subprocess.run([program, *words], input=given.encode(), stdout=subprocess.PIPE, stderr=subprocess.DEVNULL,
+                          timeout=which_ol.MOST_SECONDS)
+    return done.returncode, done.stdout.decode()
 
 
 def try_terms(text, words, faults, told_last=lambda: None, count=1000):

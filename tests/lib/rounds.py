@@ -13,7 +13,7 @@ import netfiles
 import plain
 import random_terms
 from plain import key
-from which_ol import answer
+from random_terms import answer
 
 
 def active(net, names):

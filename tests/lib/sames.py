@@ -10,7 +10,7 @@ The programs are those that the variables OL and OL_BENCH name, else those of te
 """
 import netfiles
 import random_terms
-from which_ol import answer
+from random_terms import answer
 
 
 def turned(net, chance):
