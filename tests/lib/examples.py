@@ -31,8 +31,11 @@ def printed(program, path):
         if not line.startswith("# ol "):
             break
         words = [program] + shlex.split(line[1:])[1:]
-        ran = subprocess.run(words, cwd=FOLDER, stdin=subprocess.DEVNULL, stdout=subprocess.PIPE, stderr=subprocess.STDOUT,
-                             timeout=which_ol.MOST_SECONDS)
+        try:
+            ran = subprocess.run(words, cwd=FOLDER, stdin=subprocess.DEVNULL, stdout=subprocess.PIPE, stderr=subprocess.STDOUT,
+                                 timeout=which_ol.MOST_SECONDS)
+        except subprocess.TimeoutExpired:
+            return text + which_ol.TOO_LONG
         text += which_ol.without_said(ran.stdout).decode("utf-8", "replace") + (f"[status {ran.returncode}]\n" if ran.returncode else "")
     return text
 

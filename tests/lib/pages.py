@@ -107,7 +107,7 @@ class Page:
                 os.symlink(program, os.path.join(folder, name))
             for name in ("examples", "tests"):
                 os.symlink(os.path.join(TOP, name), os.path.join(folder, name))
-            environment = dict(os.environ, OL=self.programs["ol"], PATH=folder + os.pathsep + os.environ["PATH"])
+            environment = {**os.environ, progress.OFF: "1", "OL": self.programs["ol"], "PATH": folder + os.pathsep + os.environ["PATH"]}
             for command in self.commands:
                 got = printed(command.text, folder, environment)
                 wanted = [line[len(command.indent):] for line in self.lines[command.first:command.end]]

@@ -1,8 +1,11 @@
-"""How far a script is, on standard error, each ten seconds: nothing, where it takes less."""
+"""How far a script is, on standard error, each ten seconds: nothing where it takes less, or where the variable below is set, as it is
+for the commands of a page, whose whole output is compared."""
+import os
 import sys
 import time
 
 EVERY = 10  # seconds
+OFF = "NO_PROGRESS"
 
 
 def shown(things, count):
@@ -10,7 +13,7 @@ def shown(things, count):
     begun = told = time.monotonic()
     for done, thing in enumerate(things):
         now = time.monotonic()
-        if now - told >= EVERY:
+        if now - told >= EVERY and OFF not in os.environ:
             told = now
             print(f"{sys.argv[0]}: {done} of {count}, {now - begun:.0f} s", file=sys.stderr, flush=True)
         yield thing

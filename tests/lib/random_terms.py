@@ -34,8 +34,11 @@ def in_file(text):
 
 def answer(program, words, given=""):
     """The status of a call, and what it writes on standard output: `ol-bench` says on standard error why it refuses, which isn't told."""
-    done = subprocess.run([program, *words], input=given.encode(), stdout=subprocess.PIPE, stderr=subprocess.DEVNULL,
-                          timeout=which_ol.MOST_SECONDS)
+    try:
+        done = subprocess.run([program, *words], input=given.encode(), stdout=subprocess.PIPE, stderr=subprocess.DEVNULL,
+                              timeout=which_ol.MOST_SECONDS)
+    except subprocess.TimeoutExpired:
+        return None, which_ol.TOO_LONG
     return done.returncode, done.stdout.decode()
 
 

@@ -14,6 +14,7 @@ import made_from
 TOP = made_from.TOP
 VARIABLES = {"ol": "OL", "ol-bench": "OL_BENCH"}
 MOST_SECONDS = 120
+TOO_LONG = f"[over {MOST_SECONDS} seconds]\n"
 
 # What the scripts `ol` and `ol-bench` say on standard error, each a line of its own, where the program isn't proved.
 SAID = [f"{name}: {line}\n".encode() for name, prove in made_from.PROVED_BY.items() for line in (
@@ -67,6 +68,9 @@ def ran(program, words, given=b"", timeout=MOST_SECONDS):
 
 
 def answer(program, words, given=""):
-    """The status of a call, and the text that it writes."""
-    done = ran(program, words, given.encode())
+    """The status of a call, and the text that it writes. Where it takes too long, the text says so."""
+    try:
+        done = ran(program, words, given.encode())
+    except subprocess.TimeoutExpired:
+        return None, TOO_LONG
     return done.returncode, done.stdout.decode()

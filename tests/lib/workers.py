@@ -33,8 +33,11 @@ TERMS = [
 
 def run(program, term, workers):
     """Returns the status and the text of a run."""
-    ran = subprocess.run([program, "run", "--workers", str(workers), "-"], input=term.encode(), stdout=subprocess.PIPE,
-                         stderr=subprocess.STDOUT, timeout=which_ol.MOST_SECONDS)
+    try:
+        ran = subprocess.run([program, "run", "--workers", str(workers), "-"], input=term.encode(), stdout=subprocess.PIPE,
+                             stderr=subprocess.STDOUT, timeout=which_ol.MOST_SECONDS)
+    except subprocess.TimeoutExpired:
+        return None, which_ol.TOO_LONG.encode()
     return ran.returncode, ran.stdout
 
 
