@@ -2,7 +2,7 @@
 
 It knows the forms that these files have. A line of specs/ that it can't read ends the script, so that no definition is passed over.
 """
-import collections, functools, glob, os, re, sys
+import collections, functools, glob, re, sys
 
 PART = r"[^\s(){}\[\],;.@\"⟦⟧]+"
 WORD = re.compile(r"(?<![^\s(){}\[\],;@\"⟦⟧])%s(?:\.%s)*" % (PART, PART))
