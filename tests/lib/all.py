@@ -16,20 +16,20 @@ import summing
 from which_ol import TOP
 
 USUAL = ["scripts", "first-answer", "pages", "examples", "vectors/check", "bench"]
-# A longer one: its name, what it tries, and how long it takes on four idle processors.
+# A longer one: its name, what it tries, and the seconds that it took on four idle processors; None, where that wasn't measured yet.
 Long = collections.namedtuple("Long", "name tries takes")
 LONG = [
-    Long("hostile", "limits at their edges, and bad input", "a minute"),
-    Long("bench-limits", "`ol-bench` on the longest nets and journals, and one byte more", "a minute"),
-    Long("refused-memory", "each allocation refused in turn", "a minute"),
-    Long("workers", "10,000 runs by 2 to 64 workers", "a minute"),
-    Long("families", "betas and families of 4,000 terms", "a minute"),
-    Long("afters", "`ol-bench after` on 1,000 terms", "a minute"),
-    Long("explains", "`ol-bench explain` on 1,000 terms", "a minute"),
-    Long("sames", "`ol-bench same` on 1,000 terms", "a minute"),
-    Long("rounds", "`ol-bench journal --order rounds` on 1,000 terms", "a minute"),
-    Long("faults/many", "a runtime with eight faults on 300 terms", "a minute"),
-    Long("speed", "one answer of each row of docs/RUNTIMES.md, part 4, and its time", "a minute"),
+    Long("hostile", "limits at their edges, and bad input", 65),
+    Long("bench-limits", "`ol-bench` on the longest nets and journals, and one byte more", None),
+    Long("refused-memory", "each allocation refused in turn", None),
+    Long("workers", "10,000 runs by 2 to 64 workers", None),
+    Long("families", "betas and families of 4,000 terms", None),
+    Long("afters", "`ol-bench after` on 1,000 terms", None),
+    Long("explains", "`ol-bench explain` on 1,000 terms", None),
+    Long("sames", "`ol-bench same` on 1,000 terms", None),
+    Long("rounds", "`ol-bench journal --order rounds` on 1,000 terms", None),
+    Long("faults/many", "a runtime with eight faults on 300 terms", None),
+    Long("speed", "the rows of docs/RUNTIMES.md, part 4, with their times", None),
 ]
 
 
@@ -45,10 +45,10 @@ def run(names):
 
 
 def tell_of_others():
-    print("Not run; tests/all --long runs them too, and four idle processors take:")
+    print("Not run here (tests/all --long runs them too), with the seconds that they took on four idle processors, where these were measured:")
     for it in LONG:
-        print(f"  tests/{it.name:15} {it.takes:9} {it.tries}")
-    print("  tests/strategies  prints a table of terms that are named, and tries nothing", flush=True)
+        print(f"  tests/{it.name:14} {it.takes or '-':>4}  {it.tries}")
+    print("tests/strategies tries nothing: it prints a table of the terms that it is given.", flush=True)
 
 
 def main(words):
