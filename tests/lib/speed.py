@@ -17,6 +17,7 @@ machine is: figures are worth something on one that does nothing else.
 """
 import datetime
 import os
+import resource
 import subprocess
 import tempfile
 import time
@@ -96,7 +97,7 @@ def interactions(answer):
 
 
 def measured(program, words, environment, of_processors):
-    """The seconds, the peak of memory in MB, and what was answered: the status and the text."""
+    """The seconds, the peak of memory in MB (2^20 bytes), and what was answered: the status and the text."""
     with tempfile.TemporaryFile() as out:
         begun = time.perf_counter()
         child = subprocess.Popen([program, *words], stdin=subprocess.DEVNULL, stdout=out, stderr=subprocess.PIPE, env=environment)
@@ -108,7 +109,13 @@ def measured(program, words, environment, of_processors):
         out.seek(0)
         if of_processors:
             seconds = usage.ru_utime + usage.ru_stime
-        return seconds, usage.ru_maxrss / 1000, (child.returncode, out.read())
+        return seconds, usage.ru_maxrss / 1024, (child.returncode, out.read())
+
+
+def megabytes(peak):
+    """A peak of memory as text. One that isn't above this script's own can't be told: a child begins with it."""
+    least = resource.getrusage(resource.RUSAGE_SELF).ru_maxrss / 1024
+    return f"{peak:.0f}" if peak > least + 1 else f"at most {least + 1:.0f}"
 
 
 def best(runs):
@@ -136,10 +143,10 @@ def print_table(verb, rows, chosen, program, beside, folder):
             if beside:
                 other.append(measured(beside, words, os.environ, chosen.processor))
         seconds, peak = best(own)
-        row = f"| {what} |" + (f" {interactions(own[0][2][1]):,} |" if counts else "") + f" {seconds:.3f} | {peak:.0f} |"
+        row = f"| {what} |" + (f" {interactions(own[0][2][1]):,} |" if counts else "") + f" {seconds:.3f} | {megabytes(peak)} |"
         if beside:
             theirs, their_peak = best(other)
-            row += f" {theirs:.3f} | {their_peak:.0f} | {seconds / theirs:.2f} |"
+            row += f" {theirs:.3f} | {megabytes(their_peak)} | {seconds / theirs:.2f} |"
         print(row, flush=True)
         if len({run[2] for run in own + other}) > 1:
             differ.append(what)
