@@ -15,12 +15,12 @@ use Rattle.ol_meaning.proofs.Addresses.{without_own}
 
 -- ---- under more abstractions
 
-low : (d i y : ℕ) → y < d → up_from d i y ≡ y
+pub low : (d i y : ℕ) → y < d → up_from d i y ≡ y
 low zero i y h = absurd (omega arith)
 low (suc d) i zero h = refl
 low (suc d) i (suc y) h = ap suc (low d i y (omega arith))
 
-high : (d i y : ℕ) → d ≤ y → up_from d i y ≡ y + i
+pub high : (d i y : ℕ) → d ≤ y → up_from d i y ≡ y + i
 high zero i y h = omega arith
 high (suc d) i zero h = absurd (omega arith)
 high (suc d) i (suc y) h = ap suc (high d i y (omega arith)) ∙ (let e : suc (y + i) ≡ suc y + i = omega arith in e)
