@@ -7,8 +7,8 @@
 //!
 //! What a ticket is drawn for:
 //! - `rewrite`: the pair, its rule, and how many nodes and links come of it.
-//! - `blocks`: the words that its seat writes.
-//! - `begun`: a rewrite that has its ticket, and the ends of its links.
+//! - `blocks`: the wires between the copies of a node.
+//! - `begun`: a rewrite that has its ticket, the references of its copies, and the ends of its links.
 //! - `entries`: its entry in the journal.
 //! - `turn`: what a turn came to.
 //!
