@@ -1,7 +1,7 @@
 //! A small net that is swept, worked on by one worker, and worked on by several.
 ghost use Rattle.std.specs.Prelude.{◌≡◌, ◌≤◌, IfOk, count_by, is_some, length};
 ghost use Rattle.ol_pool.specs.Pools.{IsHandOf as IsOfPool};
-ghost use Rattle.ol_reduce.specs.Works.{IsWorker};
+ghost use Rattle.ol_reduce.specs.Works.{IsSeated};
 ghost use Rattle.ol_wire.specs.Layout.{cells_of};
 ghost use Rattle.ol_wire.specs.Sizes.{IsSmallNet};
 ghost use Rattle.ol_wire.specs.Stand.{IsNewSeat};
@@ -33,7 +33,7 @@ fn put_first(pool: &Pool, hand: &mut Hand)
 fn hired(table: &Shared, pool: &Pool, seat: Seat, hand: Hand) -> Worker
     requires seat { IsNewSeat table.now seat }
     requires hand { IsOfPool hand pool.now }
-    ensures { IsWorker table.now pool.now result }
+    ensures { IsSeated table.now result × IsOfPool result.hand pool.now }
 {
     let number = hand.number();
     Worker::new(number, seat, hand)
@@ -44,7 +44,7 @@ fn alone(alloc: Global, net: &Net, fuel: u32) -> Result<(Shared, Pool, Worker), 
     requires whole { count_by is_some net.now.nodes ≡ length net.now.nodes }
     requires small { IsSmallNet net.now }
     requires fuel { fuel ≤ 8000000 }
-    ensures worker { IfOk result (λ r. IsWorker r.0 r.1 r.2) }
+    ensures worker { IfOk result (λ r. IsSeated r.0 r.2 × IsOfPool r.2.hand r.1) }
     ensures alone { IfOk result (λ r. r.0.plan.seats ≡ 1) }
     ensures cells { IfOk result (λ r. r.1.cells ≡ cells_of r.0.plan.parts) }
 {
