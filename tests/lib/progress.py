@@ -1,5 +1,6 @@
 """How far a script is, on standard error, each ten seconds: nothing where it takes less, or where the variable below is set, as it is
 for the commands of a page, whose whole output is compared."""
+import concurrent.futures
 import os
 import sys
 import time
@@ -17,3 +18,9 @@ def shown(things, count):
             told = now
             print(f"{sys.argv[0]}: {done} of {count}, {now - begun:.0f} s", file=sys.stderr, flush=True)
         yield thing
+
+
+def in_pool(call, cases):
+    """What the call gives for each case, by as many threads as there are processors."""
+    with concurrent.futures.ThreadPoolExecutor(os.cpu_count() or 2) as pool:
+        return list(shown(pool.map(call, cases), len(cases)))

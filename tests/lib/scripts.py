@@ -3,9 +3,10 @@
     tests/scripts
 
 Each Python file has to compile, to use each name that it imports, and to have each name that it uses. `shellcheck`, where
-it is on this machine, has to find nothing in a shell script. And each script that can be run is called with a word that it
-doesn't know, `--no-such-word`: its status has to be another than 0, and its answer no error of Python's. The last line is
-'N passed, M failed'.
+it is on this machine, has to find nothing in a shell script. Each script that can be run is called with a word that it
+doesn't know, `--no-such-word`: its status has to be another than 0, and its answer no error of Python's. And scripts that
+try another runtime are called with a few, right and wrong ones: status and last lines have to be as they stand here. The
+last line is 'N passed, M failed'.
 """
 import ast
 import builtins
@@ -23,6 +24,32 @@ FOLDERS = ("", ".ci", "scripts", "tests", "tests/lib", "tests/vectors", "tests/f
 # These hand their words on, or take any.
 TAKE_ALL = ("ol", "ol-bench", ".ci/run", "scripts/start", "scripts/build-unproved")
 BAD_WORD = "--no-such-word"
+
+# The term of the first record of the vectors is `x`. These commands take it, or its net, for a runtime.
+NO_COUNTS = "fan 0\\ncroissant 0\\nbracket 0\\ncross-fan 0\\ncross-croissant 0\\ncross-bracket 0\\nerase 0\\nstuck 0\\n"
+NET_OF_X = "ol net 1\\nfree 2\\nnode croissant 0\\nlink f0 0.1\\nlink f1 0.0\\n"
+CHECK, JOURNALS = "tests/vectors/check", "tests/vectors/journals"
+
+# Calls: the words, the status, and the last lines of what is written.
+CALLS = [
+    ([CHECK, "--every", "5000", "--terms", f"printf 'x\\nbeta 0\\n{NO_COUNTS}'"], 0, "1 passed, 0 failed\n"),
+    ([CHECK, "--every", "5000", "--terms", f"printf 'x\\nbeta 1\\n{NO_COUNTS}'"], 1,
+     "x: different at `beta 1` and `beta 0`\n0 passed, 1 failed\n"),
+    ([CHECK, "--every", "5000", "--terms", "cat"], 1, "x: different at `no line` and `beta 0`\n0 passed, 1 failed\n"),
+    ([CHECK, "--every", "300", "--start", f"printf '{NET_OF_X}'"], 0, "1 passed, 0 failed\n"),
+    ([CHECK, "--every", "300", "--start", f"printf '{NET_OF_X}' | sed s/croissant/bracket/"], 1,
+     "x: different at f0, in by slot 1: bracket 0 and croissant 0\n0 passed, 1 failed\n"),
+    ([CHECK, "--every", "300", "--start", "exit 3"], 1, "x: status 3\n0 passed, 1 failed\n"),
+    ([CHECK, "--every", "5000", "--runtime", "cat"], 0, "1 passed, 0 failed\n"),
+    ([CHECK, "--every", "5000", "--runtime", "sed s/croissant/knot/"], 1,
+     "x, translation 1: line 3 is none of a net: `node knot 0`\n0 passed, 1 failed\n"),
+    ([CHECK, "--every", "5000", "--runtime", "sed /croissant/d"], 1,
+     "x, translation 1: 0.0 is no port\n0 passed, 1 failed\n"),
+    ([CHECK, "--every", "5000", "--runtime", "tail -n 1"], 1,
+     "x, translation 1: no line is `ol net 1`, and the first one isn't `step S`\n0 passed, 1 failed\n"),
+    ([JOURNALS, "echo ol trace 1", "700"], 0, "1 of 1 complete\n"),
+    ([JOURNALS, "echo", "700"], 1, "x, translation 1: bad text at line 1\n0 of 1 complete\n"),
+]
 
 
 def scripts():
@@ -83,12 +110,24 @@ def call_faults(path):
     return []
 
 
+def told_faults(call):
+    """What is wrong with the answer to one of the calls above."""
+    words, status, last = call
+    ran = subprocess.run([os.path.join(TOP, words[0]), *words[1:]], stdin=subprocess.DEVNULL, stdout=subprocess.PIPE,
+                         text=True, errors="replace", timeout=60)
+    if ran.returncode == status and ran.stdout.endswith(last):
+        return []
+    return [f"{' '.join(words)}: status {ran.returncode}, wanted {status}, with the last lines", *last.splitlines(), "got", *ran.stdout.splitlines()]
+
+
 def cases():
-    """Each thing to look at: a function, and the path that it is given."""
+    """Each thing to look at: a function, and the path or the call that it is given."""
     for path, first in scripts():
         yield (python_faults if "python" in first or path.endswith(".py") else shell_faults), path
         if os.access(os.path.join(TOP, path), os.X_OK) and path not in TAKE_ALL:
             yield call_faults, path
+    for call in CALLS:
+        yield told_faults, call
 
 
 def main(words):

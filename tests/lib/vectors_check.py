@@ -1,7 +1,7 @@
 """Runs `ol` on the terms of vectors-1.txt, vectors-2.txt and the lists beside them, and on nets.txt, and compares.
 
     tests/vectors/check [--write]
-    tests/vectors/check --runtime COMMAND
+    tests/vectors/check [--runtime COMMAND] [--terms COMMAND] [--start COMMAND] [--translation T] [--every N]
 
 Each recorded start, run, end and walk has to be what `ol` prints today, by translation 1 of vectors-1.txt and by
 translation 2 of vectors-2.txt. Each recorded trace has to be complete by `ol check`, and so has the one of today. The
@@ -15,24 +15,30 @@ the script `ol` at the top, whose line that its program isn't proved is left out
 Each net of nets.txt and each recorded start is given to `ol net -` as a net file; counts and net have to be those that
 are recorded, up to the numbers of nodes (same-net says how that is compared).
 
-With --runtime these nets alone are tried, on another runtime, and no `ol` is called: COMMAND is run by the shell, with
-a net file on standard input. It writes what `ol net -` writes, or the last net alone, as a net file or as `ol view`
-shows one, with any numbers of nodes, and ends with status 0 within a minute. It may write before that, or alone, what
-`ol trace` writes: `ol trace 2`, and a line for each pair. Then there have to be as many lines of each rule as are
-recorded, and of a term's net as many of each rule and wave. After `different at` what COMMAND wrote stands first.
+With a COMMAND another runtime is tried, and no `ol` is called. The shell runs it for each case, with the case on
+standard input, for at most a minute; with --every N it is run for each Nth case. What COMMAND wrote stands first in what
+is told.
+
+--runtime: COMMAND reads a net file, and writes what `ol net -` writes, or the last net alone, as a net file or as `ol
+view` shows one, with any numbers of nodes. Its status is 0. It may write before that, or alone, what `ol trace` writes:
+`ol trace 2`, and a line for each pair. Then there have to be as many lines of each rule as are recorded, and of a term's
+net as many of each rule and wave. All nets that are named above are tried.
+
+--terms: COMMAND reads a term, and has the text and the status of `ol run -`. --start: COMMAND reads a term, and writes
+its net, as a net file or as `ol view` shows one, with any numbers of nodes; its status is 0. T is 2, or the translation
+that is named. Of vectors-T.txt all terms are tried; with --terms the lines of the three lists too, but for those that
+need more than 2,000 interactions.
 """
 import collections
-import concurrent.futures
 import hashlib
+import itertools
 import os
-import signal
-import subprocess
-import sys
 import tempfile
 
 import asking
 import netfiles
 import progress
+import runtimes
 import summing
 import which_ol
 
@@ -101,32 +107,60 @@ def difference(text, last, waves):
 def net_fault(command, case):
     """What is wrong with the net that the command makes of a net, or None."""
     named, given, last, waves = case
-    ran = subprocess.Popen(command, shell=isinstance(command, str), stdin=subprocess.PIPE, stdout=subprocess.PIPE,
-                           stderr=None if isinstance(command, str) else subprocess.PIPE, start_new_session=True)
     try:
-        text, said = ran.communicate(given.encode(), timeout=60)
-        sys.stderr.write(which_ol.without_said(said or b"").decode())
-        if ran.returncode:
-            return f"{named}: status {ran.returncode}"
-        apart = difference(text.decode(), last, waves)
-        return f"{named}: different at {apart}" if apart else None
-    except subprocess.TimeoutExpired:
-        os.killpg(ran.pid, signal.SIGKILL)
-        ran.wait()
-        return f"{named}: no answer within a minute"
+        apart = difference(runtimes.ended(command, given), last, waves)
     except ValueError as fault:
         return f"{named}: {fault}"
+    return f"{named}: different at {apart}" if apart else None
 
 
-def in_pool(call, cases):
-    """What the call gives for each case."""
-    with concurrent.futures.ThreadPoolExecutor(os.cpu_count() or 2) as pool:
-        return list(progress.shown(pool.map(call, cases), len(cases)))
-
-
-def try_nets(command):
+def try_nets(command, every=1):
     """What is wrong with each net, or None."""
-    return in_pool(lambda case: net_fault(command, case), list(nets()))
+    return progress.in_pool(lambda case: net_fault(command, case), list(nets())[::every])
+
+
+def start_fault(command, record):
+    """What is wrong with the net that the command makes of a term, or None."""
+    term = record["term"][1].rstrip("\n")
+    try:
+        apart = netfiles.difference(netfiles.read(runtimes.ended(command, term)), netfiles.read(record["start"][1]))
+    except ValueError as fault:
+        return f"{term}: {fault}"
+    return f"{term}: different at {apart}" if apart else None
+
+
+def try_starts(command, translation, every):
+    """What is wrong with the net of each term, or None."""
+    return progress.in_pool(lambda case: start_fault(command, case[0]), list(records(translation))[::every])
+
+
+def recorded_runs(translation):
+    """Each term whose run is recorded, but for those that the fuel ends: its name, its text, the answer in short, and its whole text,
+    where that is recorded, or an empty one."""
+    for record, _ in records(translation):
+        term, (status, text) = record["term"][1].rstrip("\n"), record["run"]
+        yield term, term, in_short(status, text), text
+    for (place, term), line in zip(inputs(), lines_of(f"answers-{translation}.txt")):
+        answer = line.split(" ", 1)[1]
+        if not answer.startswith("3 "):
+            yield f"{place}: {term}", term, answer, ""
+
+
+def run_fault(command, case):
+    """What is wrong with the text and the status that the command has of a term, or None."""
+    named, term, wanted, whole = case
+    status, text = runtimes.ran(command, term)
+    told = runtimes.NO_END if status is None else in_short(status, text)
+    if told == wanted:
+        return None
+    lines = itertools.zip_longest(text.splitlines(), whole.splitlines(), fillvalue="no line")
+    apart = [(one, other) for one, other in lines if one != other] if status == 0 and whole else []
+    return "{}: different at `{}` and `{}`".format(named, *(apart or [(told, wanted)])[0])
+
+
+def try_terms(command, translation, every):
+    """What is wrong with the run of each term, or None."""
+    return progress.in_pool(lambda case: run_fault(command, case), list(recorded_runs(translation))[::every])
 
 
 def lines_of(name):
@@ -141,16 +175,20 @@ def inputs():
             yield f"{name}:{k + 1}", term
 
 
+def in_short(status, text):
+    """The status, a digest of the whole text, and its first line where that is short."""
+    first = text.split("\n")[0]
+    return f"{status} {hashlib.sha256(text.encode()).hexdigest()[:16]} {first if len(first) <= 40 else '-'}"
+
+
 def short(program, case):
-    """Two lines that tell the answers by both translations: the status, a digest of the whole text, and its first line where that is
-    short. And the statuses and first lines."""
+    """Two lines that tell the answers by both translations in short. And the statuses and first lines."""
     place, term = case
     told, first_lines = [], []
     for translation in ("1", "2"):
         status, text = which_ol.answer(program, ["run", "--translation", translation, "--fuel", "2000", "-"], term)
-        first = text.split("\n")[0]
-        told.append(f"{place} {status} {hashlib.sha256(text.encode()).hexdigest()[:16]} {first if len(first) <= 40 else '-'}")
-        first_lines.append((status, first))
+        told.append(f"{place} {in_short(status, text)}")
+        first_lines.append((status, text.split("\n")[0]))
     return told, first_lines
 
 
@@ -169,23 +207,34 @@ def try_program(write):
     """What is wrong with each answer of `ol`, or None."""
     program = which_ol.found()
     told = try_nets([program, "net", "-"])
-    answers = in_pool(lambda case: short(program, case), list(inputs()))
+    answers = progress.in_pool(lambda case: short(program, case), list(inputs()))
     for k in (0, 1):
         told += compared(f"answers-{k + 1}.txt", [lines[k] for lines, _ in answers], write)
     for lines, (one, other) in answers:
         if one[0] == other[0] == 0 and one[1] != other[1]:
             told.append(f"{lines[0]}\n  by translation 2 {lines[1]}")
     cases = [*records("1"), *records("2")]
-    return told + ["\n".join(lines) for lines in in_pool(lambda case: list(faults(program, case)), cases)]
+    return told + ["\n".join(lines) for lines in progress.in_pool(lambda case: list(faults(program, case)), cases)]
+
+
+def try_runtime(asked):
+    """What is wrong with each answer of another runtime, or None."""
+    told = try_starts(asked.start, asked.translation, asked.every) if asked.start else []
+    told += try_terms(asked.terms, asked.translation, asked.every) if asked.terms else []
+    return told + (try_nets(asked.runtime, asked.every) if asked.runtime else [])
 
 
 def main(words):
     asked = asking.parser(__doc__)
     asked.add_argument("--write", action="store_true", help="make the answers")
-    asked.add_argument("--runtime", metavar="COMMAND", help="try the nets alone, on another runtime")
+    asked.add_argument("--runtime", metavar="COMMAND", help="try a runtime on the nets")
+    asked.add_argument("--terms", metavar="COMMAND", help="try a runtime on the terms: what it writes of each")
+    asked.add_argument("--start", metavar="COMMAND", help="try a runtime on the terms: its net of each")
+    asked.add_argument("--translation", metavar="T", choices=["1", "2"], default="2", help="of --terms and --start (2)")
+    asked.add_argument("--every", metavar="N", type=asking.positive, default=1, help="try a runtime on each Nth case (1)")
     asked = asked.parse_args(words)
     try:
-        told = try_nets(asked.runtime) if asked.runtime else try_program(asked.write)
+        told = try_runtime(asked) if asked.runtime or asked.terms or asked.start else try_program(asked.write)
     except ValueError as fault:
         told = [f"a recorded file is in no format that is known: {fault}"]
     bad = [lines for lines in told if lines]

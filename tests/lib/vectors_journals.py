@@ -4,43 +4,41 @@
 
 COMMAND is run by the shell. It reads a net as `ol view` shows it and writes a journal, in either form. With N each Nth
 record of the two files is tried, from the first on. A line tells each answer that isn't `complete`; the last line is
-'A of B complete'. Which program is run, tests/lib/which_ol.py says. `complete` doesn't mean that the runtime is right: docs/RUNTIMES.md.
+'A of B complete', and the status 1 where these aren't all. Where COMMAND doesn't end within a minute, what it wrote
+until then is given to `ol check`. Which program `ol` is run, tests/lib/which_ol.py says. `complete` doesn't mean that the
+runtime is right: docs/RUNTIMES.md.
 """
-import concurrent.futures
-import os
-import subprocess
-import sys
 import tempfile
 
+import asking
 import netfiles
 import progress
+import runtimes
 import which_ol
 
 
 def answer(path, command, translation, record):
     """The term, and what `ol check` answers to the journal that the command writes of its net."""
-    try:
-        ran = subprocess.run(command, shell=True, input=record["start"][1].encode(), stdout=subprocess.PIPE, timeout=60)
-    except subprocess.TimeoutExpired:
-        return record["term"][1].rstrip("\n"), "no journal within a minute"
+    term = record["term"][1].rstrip("\n")
+    status, journal = runtimes.ran(command, record["start"][1])
     with tempfile.NamedTemporaryFile("w", suffix=".lam") as file:
-        file.write(record["term"][1].rstrip("\n"))
+        file.write(term)
         file.flush()
-        words = ["check", "--translation", translation, file.name, "-"]
-        return record["term"][1].rstrip("\n"), which_ol.answer(path, words, ran.stdout.decode("utf-8", "replace"))[1].rstrip("\n")
+        said = which_ol.answer(path, ["check", "--translation", translation, file.name, "-"], journal)[1].rstrip("\n")
+    return f"{term}, translation {translation}", f"{runtimes.NO_END}: {said}" if status is None else said
 
 
 def main(words):
-    if len(words) not in (1, 2) or words[0].startswith("--") or words[1:] and not words[1].strip("0").isdecimal():
-        print(__doc__, file=sys.stderr)
-        return 2
-    path, every = which_ol.found(), int(words[1]) if words[1:] else 1
-    cases = [(t, record) for t in ("1", "2") for record in netfiles.sections(f"vectors-{t}.txt", "term")][::every]
-    with concurrent.futures.ThreadPoolExecutor(os.cpu_count() or 2) as pool:
-        answers = pool.map(lambda case: (case[0], *answer(path, words[0], *case)), cases)
-        answers = list(progress.shown(answers, len(cases)))
-    for translation, term, said in answers:
+    asked = asking.parser(__doc__)
+    asked.add_argument("command", metavar="COMMAND", help="reads a net and writes a journal")
+    asked.add_argument("every", metavar="N", nargs="?", type=asking.positive, default=1, help="try each Nth record (1)")
+    asked = asked.parse_args(words)
+    path = which_ol.found()
+    cases = [(t, record) for t in ("1", "2") for record in netfiles.sections(f"vectors-{t}.txt", "term")][::asked.every]
+    answers = progress.in_pool(lambda case: answer(path, asked.command, *case), cases)
+    for named, said in answers:
         if said != "complete":
-            print(f"{term}, translation {translation}: {said}")
-    print(f"{sum(said == 'complete' for _, _, said in answers)} of {len(answers)} complete")
-    return 0
+            print(f"{named}: {said}")
+    complete = sum(said == "complete" for _, said in answers)
+    print(f"{complete} of {len(answers)} complete")
+    return 0 if complete == len(answers) else 1

@@ -1,6 +1,7 @@
 """Nets as `ol net` and `ol view` write them: read, written, and compared up to the numbers of their nodes."""
 import collections
 import os
+import re
 
 HERE = os.path.dirname(os.path.realpath(__file__))
 
@@ -12,6 +13,25 @@ MOST_UNREACHED = 2000
 # number, the index as it is written; `linked` has the partner of each port. `counts` are the nine lines before a net
 # and `pairs` its stuck pairs, where they are told.
 Net = collections.namedtuple("Net", "free nodes linked counts pairs")
+
+PORT = r"(?:f[0-9]+|[0-9]+\.[0-2])"
+NODE = "(?:(?:" + "|".join(kind for kind in SLOTS if kind != "eraser") + ") [0-9]+|eraser -)"
+FREE_LINE = re.compile("free [0-9]{1,7}")
+FILE_LINE = re.compile(f"node {NODE}|link {PORT} {PORT}")
+STEP_LINE, NODES_LINE = re.compile("step [0-9]+"), re.compile("nodes [0-9]+")
+VIEW_LINE = re.compile(f"f[0-9]+ {PORT}|[0-9]+ {NODE}(?: {PORT}){{1,3}}")
+COUNT_LINE, PAIR_LINE = re.compile("[a-z-]+ [0-9]+"), re.compile("pair [0-9]+ [0-9]+")
+
+
+class NoNet(ValueError):
+    """A text that is no net. Its words say why, in those of a net and not in Python's."""
+
+
+def expect(lines, first, *forms):
+    """Looks whether these lines have these forms, the last form standing for all that are left. `first` is the number of the first."""
+    for k, line in enumerate(lines):
+        if not forms[min(k, len(forms) - 1)].fullmatch(line):
+            raise NoNet(f"line {first + k} is none of a net: `{line}`")
 
 
 def port(word):
@@ -27,7 +47,7 @@ def name(place):
 def join(linked, one, other):
     for place in (one, other):
         if place in linked:
-            raise ValueError(f"{name(place)} is linked twice")
+            raise NoNet(f"{name(place)} is linked twice")
     linked[one], linked[other] = other, one
 
 
@@ -40,12 +60,15 @@ def whole(net):
     """The net, after a look whether each port that it has is linked, and no other."""
     ports = set(ports_of(net.free, net.nodes))
     for place in sorted(ports ^ set(net.linked), key=name):
-        raise ValueError(f"{name(place)} is " + ("not linked" if place in ports else "no port"))
+        raise NoNet(f"{name(place)} is " + ("not linked" if place in ports else "no port"))
     return net
 
 
-def read_file(lines, counts, pairs):
-    """A net in the form that begins with `ol net 1`."""
+def read_file(lines, counts, pairs, first):
+    """A net in the form that begins with `ol net 1`, which is line `first` of the text."""
+    expect(lines[1:], first + 1, FREE_LINE, FILE_LINE)
+    if len(lines) < 2:
+        raise NoNet("the line `free` is missing")
     free, nodes, linked = int(lines[1].removeprefix("free ")), {}, {}
     for line in lines[2:]:
         word, one, other = line.split()
@@ -58,6 +81,7 @@ def read_file(lines, counts, pairs):
 
 def read_view(lines):
     """A net in the form of `ol view`."""
+    expect(lines, 1, STEP_LINE, NODES_LINE, VIEW_LINE)
     free, nodes, linked = 0, {}, {}
     for words in map(str.split, lines[2:]):
         if words[0][0] == "f":
@@ -65,23 +89,26 @@ def read_view(lines):
         else:
             nodes[int(words[0])] = words[1], words[2]
             linked.update({(int(words[0]), s): port(word) for s, word in enumerate(words[3:])})
-    if any(linked.get(other) != one for one, other in linked.items()):
-        raise ValueError("a port whose partner isn't its partner")
+    for one, other in linked.items():
+        if linked.get(other) != one:
+            raise NoNet(f"{name(one)} has the partner {name(other)}, which has another one or none")
     return whole(Net(free, nodes, linked, None, None))
 
 
 def read(text):
-    """The net of a net file, of what `ol net` answers or of what `ol view` writes. ValueError: it is none of these."""
+    """The net of a net file, of what `ol net` answers or of what `ol view` writes. NoNet: it is none of these."""
     lines = text.splitlines()
-    try:
-        if lines[0].startswith("step "):
-            return read_view(lines)
-        title = lines.index("ol net 1")
-        if not title:
-            return read_file(lines, None, None)
-        return read_file(lines[title:], lines[:9], [tuple(map(int, line.split()[1:])) for line in lines[9:title]])
-    except (IndexError, KeyError) as fault:
-        raise ValueError("no net") from fault
+    if lines and lines[0].startswith("step "):
+        return read_view(lines)
+    if "ol net 1" not in lines:
+        raise NoNet("no line is `ol net 1`, and the first one isn't `step S`")
+    title = lines.index("ol net 1")
+    if not title:
+        return read_file(lines, None, None, 1)
+    expect(lines[:title], 1, *[COUNT_LINE] * 9, PAIR_LINE)
+    if title < 9:
+        raise NoNet(f"line {title + 1}: before a net there are nine counts, or none")
+    return read_file(lines[title:], lines[:9], [tuple(map(int, line.split()[1:])) for line in lines[9:title]], title + 1)
 
 
 def write(net):
