@@ -9,12 +9,13 @@ fenced block those up to the next command or the end of the block, else those wi
 isn't 0, a line `[status N]` stands at the end. A line `...` alone stands for any number of lines.
 
 The commands of one page run in order in one empty folder, which is thrown away at the end. `ol` and `./ol` are there
-the program, and `examples` and `tests` the folders of this repository. With --write each page gets the lines that were
-printed, where no `...` stands. The last line is 'N passed, M failed'.
+the program, so are `ol-bench` and `./ol-bench` if some command says `ol-bench`, and `examples` and `tests` are the
+folders of this repository. With --write each page gets the lines that were printed, where no `...` stands. The last line
+is 'N passed, M failed'.
 
-Commands of docs/BENCH.md are tried by tests/bench, since they need `ol-bench` besides. The program is what the variable
-OL names; else the proved crates/ol/out/ol, where it is there; else `ol` on PATH; else the script `ol` at the top, whose
-line that its program isn't proved is left out (tests/lib/which_ol.py).
+Commands of docs/BENCH.md are tried by tests/bench. The program is what the variable OL names; else the proved
+crates/ol/out/ol, where it is there; else `ol` on PATH; else the script `ol` at the top, whose line that its program
+isn't proved is left out (tests/lib/which_ol.py). So is `ol-bench`, by OL_BENCH and not on PATH.
 """
 import collections
 import os
@@ -93,8 +94,8 @@ def printed(text, folder, environment):
 class Page:
     """A page whose commands are tried, by programs that are given by their names."""
 
-    def __init__(self, path, programs, write):
-        self.path, self.programs, self.write = path, programs, write
+    def __init__(self, path, write):
+        self.path, self.programs, self.write = path, {}, write
         with open(path, encoding="utf-8") as file:
             self.lines = file.read().split("\n")
         self.commands = list(commands(self.lines))
@@ -107,7 +108,8 @@ class Page:
                 os.symlink(program, os.path.join(folder, name))
             for name in ("examples", "tests"):
                 os.symlink(os.path.join(TOP, name), os.path.join(folder, name))
-            environment = {**os.environ, progress.OFF: "1", "OL": self.programs["ol"], "PATH": folder + os.pathsep + os.environ["PATH"]}
+            named = {which_ol.VARIABLES[name]: program for name, program in self.programs.items()}
+            environment = {**os.environ, **named, progress.OFF: "1", "PATH": folder + os.pathsep + os.environ["PATH"]}
             for command in self.commands:
                 got = printed(command.text, folder, environment)
                 wanted = [line[len(command.indent):] for line in self.lines[command.first:command.end]]
@@ -132,14 +134,22 @@ class Page:
             print(f"{os.path.relpath(self.path, TOP)}: {len(changes)} written")
 
 
-def try_pages(text, words, pages, programs):
+def programs_for(pages):
+    """The programs that the commands of these pages call, by their names. `ol` is always one."""
+    texts = [command.text for page in pages for command in page.commands]
+    return {name: which_ol.found(name) for name in which_ol.VARIABLES if name == "ol" or any(name in text for text in texts)}
+
+
+def try_pages(text, words, pages):
     """The script whose head has this text: it tries these pages, or those that the words name."""
     asked = asking.parser(text)
     asked.add_argument("--write", action="store_true", help="put what is printed into the pages")
     asked.add_argument("pages", nargs="*", metavar="PAGE")
     asked = asked.parse_args(words)
-    found = programs()
-    tried = [Page(os.path.realpath(page), found, asked.write) for page in asked.pages or pages]
+    tried = [Page(os.path.realpath(page), asked.write) for page in asked.pages or pages]
+    found = programs_for(tried)
+    for page in tried:
+        page.programs = found
     faults = (fault for page in tried for fault in page.tried())
     passed = failed = 0
     for fault in progress.shown(faults, sum(len(page.commands) for page in tried)):
@@ -149,4 +159,4 @@ def try_pages(text, words, pages, programs):
 
 
 def main(words):
-    return try_pages(__doc__, words, pages(), lambda: {"ol": which_ol.found()})
+    return try_pages(__doc__, words, pages())
