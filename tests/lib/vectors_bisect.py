@@ -47,8 +47,10 @@ class Search:
 
     def nets(self, line):
         """The lines of the net after this line: those of `ol-bench`, and those of the command."""
-        theirs = runtimes.ended(f"{self.command} --after {line}", self.given)
-        return self.after(line, self.journal).splitlines(), theirs.splitlines()
+        theirs = runtimes.ended(f"{self.command} --after {line}", self.given).splitlines()
+        if not theirs or not theirs[0].startswith("step "):
+            raise ValueError(f"COMMAND --after {line} writes no line `step S` first, so no net")
+        return self.after(line, self.journal).splitlines(), theirs
 
     def is_right(self, line):
         ours, theirs = self.nets(line)
