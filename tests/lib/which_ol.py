@@ -34,7 +34,7 @@ def path_of(name):
     """The path of a program, whether or not it is there."""
     path = os.environ.get(VARIABLES[name])
     proved = made_from.program(name, "proved")
-    if not path and os.path.exists(proved):
+    if not path and os.access(proved, os.X_OK):
         path = proved
         if not made_from.is_current(name, "proved"):
             print(f"{os.path.relpath(proved, TOP)} isn't known to be the program of these sources. "
