@@ -6,7 +6,7 @@ use Rattle.ol_net.specs.Graph.{Graph}
 use Rattle.ol_view.specs.declared.answers.Check.TheVariants.{BadText}
 use Rattle.ol_view.specs.declared.forms.Form.{Form}
 use Rattle.ol_view.specs.Checks.{start_net_of_graph, IsFound}
-use Rattle.ol_bench.specs.declared.answers.End.TheVariants.{No}
+use Rattle.ol_subjects.specs.declared.answers.End.TheVariants.{No}
 use Rattle.ol_bench.specs.declared.following.Stop.TheVariants as stop
 use Rattle.ol_bench.specs.declared.replaying.Replay.{Replay}
 use Rattle.ol_bench.specs.Afters.{line_with}

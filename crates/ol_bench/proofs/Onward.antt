@@ -5,7 +5,7 @@ use Rattle.std.specs.Result.{IsErrOf}
 use Rattle.ol_io.specs.declared.calls.ReadAll.{ReadAll}
 use Rattle.ol_io.specs.declared.calls.ReadAll.TheVariants.{TooLong}
 use Rattle.ol_io.specs.Outside.{Rose}
-use Rattle.ol_bench.specs.declared.answers.End.{End}
+use Rattle.ol_subjects.specs.declared.answers.End.{End}
 use Rattle.ol_bench.specs.declared.top.Asked.{Asked}
 use Rattle.ol_bench.specs.declared.top.Status.{Status}
 use Rattle.ol_bench.specs.Commands.{IsAllWithin, IsCause, most_of}

@@ -12,7 +12,7 @@ use Rattle.ol_view.specs.declared.line_reading.Line.{Line}
 use Rattle.ol_view.specs.LineReading.{TellsOf}
 use Rattle.ol_view.specs.Checks.{start_net_of_graph, BeginsWithRun, IsFound, IsReadAgain}
 use Rattle.ol_view.proofs.FoundCases as found
-use Rattle.ol_bench.specs.declared.answers.End.TheVariants.{No}
+use Rattle.ol_subjects.specs.declared.answers.End.TheVariants.{No}
 use Rattle.ol_bench.specs.declared.following.Stop.TheVariants as stop
 use Rattle.ol_bench.specs.declared.replaying.Replay.{Replay}
 use Rattle.ol_bench.specs.Explained.{cause_words, IsExplainedOf, not_a_run}

@@ -3,8 +3,8 @@ use Rattle.std.proofs.Common.{◌≡◌, ℕ, ◌+◌, ◌<◌, List, ◌++◌, 
 use Rattle.ol_term.specs.Trees.{Tree}
 use Rattle.ol_beta.specs.Beta.{contracted, IsWithin, IsPastAfter}
 use Rattle.ol_beta.specs.Leftmost.{leftmost}
-use Rattle.ol_bench.specs.declared.answers.End.{End}
-use Rattle.ol_bench.specs.declared.answers.End.TheVariants.{Yes, No}
+use Rattle.ol_subjects.specs.declared.answers.End.{End}
+use Rattle.ol_subjects.specs.declared.answers.End.TheVariants.{Yes, No}
 use Rattle.ol_bench.specs.Steps.{term_line, address_line, redex_lines, last_line, past_line, Tells}
 use Rattle.ol_bench.specs.Steps.{normal, left, past, goes}
 

@@ -12,10 +12,10 @@ use Rattle.ol_view.specs.declared.forms.Form.{Form}
 use Rattle.ol_view.specs.declared.answers.Check.TheVariants.{BadText, NotARun}
 use Rattle.ol_view.specs.Checks.{start_net_of_graph, BeginsWithRun, IsFound}
 use Rattle.ol_view.specs.Laws.{IsTable}
-use Rattle.ol_bench.specs.declared.answers.End.{End}
-use Rattle.ol_bench.specs.declared.answers.End.TheVariants.{Yes, Nothing, Refused}
-use Rattle.ol_bench.specs.declared.subjects.Subject.{Subject}
-use Rattle.ol_bench.specs.Subjects.{IsSubject, Refuses}
+use Rattle.ol_subjects.specs.declared.answers.End.{End}
+use Rattle.ol_subjects.specs.declared.answers.End.TheVariants.{Yes, Nothing, Refused}
+use Rattle.ol_subjects.specs.declared.subjects.Subject.{Subject}
+use Rattle.ol_subjects.specs.Subjects.{IsSubject, Refuses}
 use Rattle.ol_bench.specs.NamedTexts.{named_text}
 
 -- a line of these words and a number

@@ -2,11 +2,11 @@
 use Rattle.std.specs.Prelude.{◌≡◌, ℕ, ◌≤◌, ◌==◌, if◌then◌else◌, Bool, true, false, List, [], Option}
 use Rattle.std.specs.Prelude.{codes, length, string_bytes}
 use Rattle.ol_io.specs.Outside.{Rose, IsAllOf, IsLonger}
-use Rattle.ol_bench.specs.declared.answers.End.{End}
-use Rattle.ol_bench.specs.declared.answers.End.TheVariants as end
+use Rattle.ol_subjects.specs.declared.answers.End.{End}
+use Rattle.ol_subjects.specs.declared.answers.End.TheVariants as end
 use Rattle.ol_bench.specs.declared.top.Asked.{Asked}
 use Rattle.ol_bench.specs.declared.top.Asked.TheVariants as asked
-use Rattle.ol_bench.specs.Subjects.{most_bytes}
+use Rattle.ol_subjects.specs.Subjects.{most_bytes}
 use Rattle.ol_bench.specs.Places.{IsWhere}
 use Rattle.ol_bench.specs.Steps.{IsStepsOf}
 use Rattle.ol_bench.specs.Tables.{IsCounted}

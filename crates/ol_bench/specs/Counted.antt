@@ -2,7 +2,7 @@
 use Rattle.std.specs.Prelude.{◌≡◌, ℕ, ◌&&◌, is_some, List, Option, None}
 use Rattle.ol_term.specs.Trees.{Tree}
 use Rattle.ol_net.specs.Graph.{Graph}
-use Rattle.ol_bench.specs.declared.answers.End.{End}
+use Rattle.ol_subjects.specs.declared.answers.End.{End}
 use Rattle.ol_bench.specs.declared.counting.Bounds.{Bounds}
 use Rattle.ol_bench.specs.declared.counting.Column.{Column}
 use Rattle.ol_bench.specs.Tables.{end_of, table_text, IsRunColumn, IsDemandColumn, IsLeftmostCount}

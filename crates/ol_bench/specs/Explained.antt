@@ -17,10 +17,10 @@ use Rattle.ol_view.specs.TraceTexts.{name_text}
 use Rattle.ol_view.specs.RuleNames.{rule_text}
 use Rattle.ol_view.specs.Forms.{BeginsWithEntry}
 use Rattle.ol_view.specs.Checks.{start_net_of_graph, IsRunTold, BeginsWithRun, IsFound}
-use Rattle.ol_bench.specs.declared.answers.End.{End}
-use Rattle.ol_bench.specs.declared.answers.End.TheVariants.{Yes, No, Refused}
-use Rattle.ol_bench.specs.declared.subjects.Subject.{Subject}
-use Rattle.ol_bench.specs.Subjects.{IsSubject, Refuses}
+use Rattle.ol_subjects.specs.declared.answers.End.{End}
+use Rattle.ol_subjects.specs.declared.answers.End.TheVariants.{Yes, No, Refused}
+use Rattle.ol_subjects.specs.declared.subjects.Subject.{Subject}
+use Rattle.ol_subjects.specs.Subjects.{IsSubject, Refuses}
 use Rattle.ol_bench.specs.Afters.{line_with}
 use Rattle.ol_bench.specs.Left.{TellsLeft}
 use Rattle.ol_bench.specs.Wanted.{IsBadLine}

@@ -1,6 +1,5 @@
 -- What clauses of public functions rest on.
 pub mod Places
-pub mod Subjects
 pub mod Steps
 pub mod Tables
 pub mod Rounds
@@ -16,7 +15,6 @@ pub mod Commands
 pub mod Writing
 pub mod Statuses
 -- What only contracts of private functions and proofs cite.
-pub mod Readied
 pub mod Counted
 pub mod Meetings
 pub mod Walked

@@ -11,13 +11,13 @@ use Rattle.ol_demand.specs.declared.answers.Demanded.TheVariants.{Done, Spent}
 use Rattle.ol_demand.specs.Answers.{IsAnswer}
 use Rattle.ol_view.specs.declared.forms.Form.TheVariants as form
 use Rattle.ol_view.specs.Forms.{header_of, text_of}
-use Rattle.ol_bench.specs.declared.answers.End.{End}
-use Rattle.ol_bench.specs.declared.answers.End.TheVariants.{Yes, No, Refused}
+use Rattle.ol_subjects.specs.declared.answers.End.{End}
+use Rattle.ol_subjects.specs.declared.answers.End.TheVariants.{Yes, No, Refused}
 use Rattle.ol_bench.specs.declared.ordering.Order.{Order}
 use Rattle.ol_bench.specs.declared.ordering.Order.TheVariants.{Least, Demand, Rounds}
-use Rattle.ol_bench.specs.declared.subjects.Subject.{Subject}
+use Rattle.ol_subjects.specs.declared.subjects.Subject.{Subject}
 use Rattle.ol_bench.specs.Rounds.{EndsInRounds, GoesOnInRounds}
-use Rattle.ol_bench.specs.Subjects.{IsSubject, Refuses}
+use Rattle.ol_subjects.specs.Subjects.{IsSubject, Refuses}
 
 -- the text tells this journal with its rules and its waves
 pub record Traces (g : Graph) (journal : List Entry) (text : List ℕ) : Type 0 where

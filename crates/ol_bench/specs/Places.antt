@@ -3,8 +3,8 @@ use Rattle.std.specs.Prelude.{◌≡◌, ◌≢◌, ℕ, ◌+◌, ◌-◌, ◌<�
 use Rattle.std.specs.Prelude.{if◌then◌else◌, List, [], ◌∷◌, ◌++◌, length, take, drop, codes}
 use Rattle.std.specs.Prelude.{count_by, slice_index, ◌⊎◌}
 use Rattle.std.specs.Fmt.{decimal}
-use Rattle.ol_bench.specs.declared.answers.End.{End}
-use Rattle.ol_bench.specs.declared.answers.End.TheVariants.{Yes, No}
+use Rattle.ol_subjects.specs.declared.answers.End.{End}
+use Rattle.ol_subjects.specs.declared.answers.End.TheVariants.{Yes, No}
 
 -- a line feed
 abbrev pub is_feed : ℕ → Bool

@@ -12,10 +12,10 @@ use Rattle.ol_net.specs.Nets.{NamedNet, HasNode, SameNet, net_under}
 use Rattle.ol_net.specs.Numbered.{net_of}
 use Rattle.ol_net.specs.PartTexts.{port_text}
 use Rattle.ol_view.specs.Laws.{IsTable}
-use Rattle.ol_bench.specs.declared.answers.End.{End}
-use Rattle.ol_bench.specs.declared.answers.End.TheVariants.{Yes, No, Refused}
-use Rattle.ol_bench.specs.declared.subjects.Subject.TheVariants.{Net}
-use Rattle.ol_bench.specs.Subjects.{IsSubject, Refuses}
+use Rattle.ol_subjects.specs.declared.answers.End.{End}
+use Rattle.ol_subjects.specs.declared.answers.End.TheVariants.{Yes, No, Refused}
+use Rattle.ol_subjects.specs.declared.subjects.Subject.TheVariants.{Net}
+use Rattle.ol_subjects.specs.Subjects.{IsSubject, Refuses}
 
 -- N is M with each node x written names x, and no two nodes of M are written alike
 pub record IsRenumbered (names : ℕ → ℕ) (M N : NamedNet ℕ) : Type 0 where

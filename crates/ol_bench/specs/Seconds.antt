@@ -1,8 +1,8 @@
 -- Private: words of private contracts alone: the answer where the first file's bytes are known.
 use Rattle.std.specs.Prelude.{◌≡◌, ℕ, true, List, Option, codes}
 use Rattle.ol_io.specs.Outside.{Rose, IsLonger}
-use Rattle.ol_bench.specs.declared.answers.End.{End}
-use Rattle.ol_bench.specs.declared.answers.End.TheVariants as end
+use Rattle.ol_subjects.specs.declared.answers.End.{End}
+use Rattle.ol_subjects.specs.declared.answers.End.TheVariants as end
 use Rattle.ol_bench.specs.declared.top.Asked.{Asked}
 use Rattle.ol_bench.specs.Commands.{has_second, second_most, limit_line, IsSecond, IsAnswer}
 

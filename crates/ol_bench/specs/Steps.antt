@@ -7,9 +7,9 @@ use Rattle.ol_term.specs.Trees.{Tree}
 use Rattle.ol_term.specs.Texts.{text_of_term}
 use Rattle.ol_beta.specs.Beta.{contracted, IsWithin, IsPast, IsPastAfter}
 use Rattle.ol_beta.specs.Leftmost.{leftmost}
-use Rattle.ol_bench.specs.declared.answers.End.{End}
-use Rattle.ol_bench.specs.declared.answers.End.TheVariants.{Yes, No, Refused}
-use Rattle.ol_bench.specs.Subjects.{IsTerm, RefusesTerm}
+use Rattle.ol_subjects.specs.declared.answers.End.{End}
+use Rattle.ol_subjects.specs.declared.answers.End.TheVariants.{Yes, No, Refused}
+use Rattle.ol_subjects.specs.Subjects.{IsTerm, RefusesTerm}
 use Rattle.ol_beta.specs.AddressTexts.{address_text}
 
 -- the line of a term

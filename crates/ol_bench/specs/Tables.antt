@@ -16,15 +16,15 @@ use Rattle.ol_demand.specs.declared.answers.Demanded.TheVariants.{Done}
 use Rattle.ol_demand.specs.Answers.{start_of, IsAnswer}
 use Rattle.ol_demand.specs.Demands.{HasMoreSteps}
 use Rattle.ol_beta.specs.Verdicts.{IsNormalForm, IsPastAt, IsShort}
-use Rattle.ol_bench.specs.declared.answers.End.{End}
-use Rattle.ol_bench.specs.declared.answers.End.TheVariants.{Yes, No, Refused}
+use Rattle.ol_subjects.specs.declared.answers.End.{End}
+use Rattle.ol_subjects.specs.declared.answers.End.TheVariants.{Yes, No, Refused}
 use Rattle.ol_bench.specs.declared.counting.Bounds.{Bounds}
 use Rattle.ol_bench.specs.declared.counting.Column.{Column}
 use Rattle.ol_bench.specs.declared.counting.Row.{Row}
 use Rattle.ol_bench.specs.declared.counting.Row.TheVariants as row
-use Rattle.ol_bench.specs.declared.subjects.Subject.{Subject}
-use Rattle.ol_bench.specs.declared.subjects.Subject.TheVariants as subject
-use Rattle.ol_bench.specs.Subjects.{IsTerm, IsNetOfTerm, Refuses}
+use Rattle.ol_subjects.specs.declared.subjects.Subject.{Subject}
+use Rattle.ol_subjects.specs.declared.subjects.Subject.TheVariants as subject
+use Rattle.ol_subjects.specs.Subjects.{IsTerm, IsNetOfTerm, Refuses}
 
 -- ---- the text
 

@@ -1,8 +1,8 @@
 -- What is written of an answer, to which sink, and with which status.
 use Rattle.std.specs.Prelude.{◌≡◌, ℕ, ◌<◌, List, length, take, Option, ◌⊎◌}
 use Rattle.ol_io.specs.Outside.{Rose, Appended}
-use Rattle.ol_bench.specs.declared.answers.End.{End}
-use Rattle.ol_bench.specs.declared.answers.End.TheVariants as end
+use Rattle.ol_subjects.specs.declared.answers.End.{End}
+use Rattle.ol_subjects.specs.declared.answers.End.TheVariants as end
 use Rattle.ol_bench.specs.declared.top.Status.{Status}
 use Rattle.ol_bench.specs.declared.top.Status.TheVariants as status
 

@@ -12,13 +12,11 @@ ghost use Rattle.ol_bench.specs.Same.{pair_at, port_on, left_text, AreAlike, Mee
 ghost use Rattle.ol_bench.specs.Same.{IsFirstAlone, IsComparison, IsSame};
 ghost use Rattle.ol_bench.specs.Meetings.{met_by, Answers, TellPairs, AreTables, EachMet, Finds};
 ghost use Rattle.ol_bench.specs.Walked.{HasWalked, SearchedFrom, SearchedAt};
-ghost use Rattle.ol_bench.specs.Subjects.{IsSubject};
+ghost use Rattle.ol_subjects.specs.Subjects.{IsSubject};
 
-use crate::answers::{Answer, End};
-use crate::subjects::{NetRead, Subject, read_subject};
-use crate::texts::{put, put_number};
 use ol_memory::NoMemory;
 use ol_net::{Kind, Net, NodeId, Port};
+use ol_subjects::{Answer, End, NetRead, Subject, put, put_number, read_subject};
 use std::alloc::Global;
 
 // The pairs of nodes that have met, one of each net, in the order in which they did; and whom each

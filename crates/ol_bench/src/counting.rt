@@ -2,19 +2,19 @@
 
 ghost use Rattle.std.specs.Prelude.{◌≡◌, ℕ, List, ◌+◌, ◌-◌, ◌<◌, ◌≤◌, ◌^◌, ◌++◌, ◌&&◌, length, take, codes, true, is_some, None, IfOk, OnOk, option_map};
 ghost use Rattle.ol_term.specs.Trees.{tree_of, is_below, term_size};
-ghost use Rattle.ol_bench.specs.Subjects.{most_bytes, IsTerm, IsNetOfTerm};
+ghost use Rattle.ol_subjects.specs.Subjects.{most_bytes, IsTerm, IsNetOfTerm};
 ghost use Rattle.ol_bench.specs.Tables.{at_right, cell_digits, end_of, in_row, net_row, row_name, row_text, table_text, IsRunColumn, IsDemandColumn, IsLeftmostCount, IsCounted};
 ghost use Rattle.ol_bench.specs.Counted.{IsOfNet, IsOfTerm};
 
-use crate::answers::{Answer, End};
 use crate::stepping::is_within;
-use crate::subjects::{NetRead, Subject, TermRead, read_subject, read_term};
-use crate::texts::{put, put_number};
 use ol_beta::{BetaFault, beta, redex};
 use ol_demand::{Demanded, demand};
 use ol_memory::NoMemory;
 use ol_net::Net;
 use ol_rules::{Counts, Ended, counts, run};
+use ol_subjects::{
+    Answer, End, NetRead, Subject, TermRead, put, put_number, read_subject, read_term,
+};
 use ol_term::{Term, TermFile, Translation};
 use std::alloc::Global;
 

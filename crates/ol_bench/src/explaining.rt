@@ -8,19 +8,18 @@ ghost use Rattle.ol_bench.specs.Found.{IsToldBy};
 ghost use Rattle.ol_bench.specs.Reasons.{IsReplayed, IsOffBy};
 ghost use Rattle.ol_bench.specs.Replays.{IsReplay};
 ghost use Rattle.ol_bench.specs.Explained.{IsExplained, IsExplainedOf};
-ghost use Rattle.ol_bench.specs.Subjects.{most_bytes};
+ghost use Rattle.ol_subjects.specs.Subjects.{most_bytes};
 
-use crate::answers::{Answer, End};
 use crate::causes::{cause_of, put_cause};
 use crate::following::{Stop, follow};
 use crate::left::run_and_left;
 use crate::naming::{put, put_number};
 use crate::replaying::Replay;
-use crate::subjects::{NetRead, Subject, read_subject};
 use crate::wanting::{bad_header, bad_line, past_the_end};
 use ol_diamond::Rewritten;
 use ol_memory::NoMemory;
 use ol_net::Net;
+use ol_subjects::{Answer, End, NetRead, Subject, read_subject};
 use ol_view::{Check, Line, check};
 use std::alloc::Global;
 

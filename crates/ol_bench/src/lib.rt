@@ -1,7 +1,6 @@
 //! The bench: answers for those who look closer at a term, a net or a journal. Each command is a
 //! function from bytes to an answer; `bench` reads the files of a command and writes its answer.
 //!
-//! - `subjects`: files made ready: from the bytes of a file to a term, or to a net
 //! - `counting`: the command `counts`: three ways to reduce, side by side
 //! - `ordering`: the command `journal`: a run in one of three orders
 //! - `placing`: the command `where`: the line and the column of a byte
@@ -18,12 +17,9 @@
 //! - `following`: a journal, followed line by line
 //! - `laws`: the law of runs in rounds
 //! - `naming`: a net as a text, under the names of a run
-//! - `answers`: what the commands answer
-//! - `texts`: pieces of texts
 //! - `top`: a command, from its files to what is written
 #![tactic(auto)]
 
-mod answers;
 mod causes;
 mod comparing;
 mod counting;
@@ -38,13 +34,10 @@ mod placing;
 mod playing;
 mod replaying;
 mod stepping;
-mod subjects;
-mod texts;
 mod top;
 mod waiting;
 mod wanting;
 
-pub use answers::{Answer, End};
 pub use comparing::same;
 pub use counting::{Bounds, Column, Row, counted};
 pub use explaining::explained;
@@ -53,5 +46,4 @@ pub use ordering::{Order, journal};
 pub use pausing::after;
 pub use placing::whereabouts;
 pub use stepping::steps;
-pub use subjects::Subject;
 pub use top::{Asked, Status, bench};

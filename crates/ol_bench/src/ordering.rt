@@ -7,17 +7,15 @@ ghost use Rattle.ol_rules.specs.Runs.{IsRun};
 ghost use Rattle.ol_view.specs.Checks.{start_net_of_graph};
 ghost use Rattle.ol_view.specs.declared.forms.Form.TheVariants.{Two};
 ghost use Rattle.ol_view.specs.Forms.{header_of};
-ghost use Rattle.ol_bench.specs.Subjects.{most_bytes};
+ghost use Rattle.ol_subjects.specs.Subjects.{most_bytes};
 ghost use Rattle.ol_bench.specs.Orders.{Traces, IsJournalOf, IsJournal};
 
-use crate::answers::{Answer, End};
 use crate::playing::play;
-use crate::subjects::{NetRead, Subject, read_subject};
-use crate::texts::put;
 use ol_demand::{Demanded, demand};
 use ol_memory::NoMemory;
 use ol_net::Net;
 use ol_rules::{Ended, Journal, run};
+use ol_subjects::{Answer, End, NetRead, Subject, put, read_subject};
 use ol_view::trace_text_2;
 use std::alloc::Global;
 

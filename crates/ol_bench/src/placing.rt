@@ -3,9 +3,8 @@
 ghost use Rattle.std.specs.Prelude.{◌≡◌, ◌≢◌, ℕ, ◌+◌, ◌-◌, ◌<◌, ◌≤◌, ◌++◌, ◌⊎◌, length, take, drop, count_by, slice_index, IfOk, OnOk};
 ghost use Rattle.ol_bench.specs.Places.{is_feed, blank, blanks, place_text, past_text, IsLineOf, IsWhere};
 
-use crate::answers::{Answer, End};
-use crate::texts::{put, put_number};
 use ol_memory::NoMemory;
+use ol_subjects::{Answer, End, put, put_number};
 use std::alloc::Global;
 
 const FEED: u8 = 10;

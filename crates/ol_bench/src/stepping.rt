@@ -4,17 +4,15 @@ ghost use Rattle.std.specs.Prelude.{◌≡◌, ℕ, ◌+◌, ◌<◌, ◌≤◌,
 ghost use Rattle.ol_term.specs.declared.translations.Translation.TheVariants.{Two};
 ghost use Rattle.ol_term.specs.Trees.{tree_of, is_below, is_named_below, term_size, depth};
 ghost use Rattle.ol_beta.specs.Beta.{IsWithin};
-ghost use Rattle.ol_bench.specs.Subjects.{IsTerm};
+ghost use Rattle.ol_subjects.specs.Subjects.{IsTerm};
 ghost use Rattle.ol_bench.specs.Steps.{address_line, last_line, past_line, term_line, Tells, IsStepsOf};
 ghost use Rattle.std.specs.List.{flat_map};
 ghost use Rattle.std.specs.Fmt.{decimal};
 
-use crate::answers::{Answer, End};
-use crate::subjects::{TermRead, read_term};
-use crate::texts::{put, put_number};
 use ol_beta::{Address, BetaFault, beta, redex};
 use ol_memory::NoMemory;
 use ol_net::Net;
+use ol_subjects::{Answer, End, TermRead, put, put_number, read_term};
 use ol_term::{Names, Term, TermFile, Translation, depth, print_term, size};
 use std::alloc::Global;
 

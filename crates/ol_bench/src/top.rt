@@ -4,11 +4,10 @@ ghost use Rattle.std.specs.Prelude.{◌≡◌, ℕ, List, Option, ◌≤◌, len
 ghost use Rattle.ol_io.specs.Readings.{AreOfSince};
 ghost use Rattle.ol_bench.specs.Commands.{IsAnswer, IsCause, IsWithinBounds, has_second, limit_line, most_of, name_of, second_most, second_of};
 ghost use Rattle.ol_bench.specs.Seconds.{IsCauseOnward};
-ghost use Rattle.ol_bench.specs.Subjects.{most_bytes};
+ghost use Rattle.ol_subjects.specs.Subjects.{most_bytes};
 ghost use Rattle.ol_bench.specs.Statuses.{status_number};
 ghost use Rattle.ol_bench.specs.Writing.{Told, WritesAnswer, change_of};
 
-use crate::answers::{Answer, End};
 use crate::comparing::same;
 use crate::counting::{Bounds, counted};
 use crate::explaining::explained;
@@ -16,10 +15,9 @@ use crate::ordering::{Order, journal};
 use crate::pausing::after;
 use crate::placing::whereabouts;
 use crate::stepping::steps;
-use crate::subjects::Subject;
-use crate::texts::put;
 use ol_io::{ReadAll, Sink, Source, Written, read_all, write_all};
 use ol_memory::NoMemory;
+use ol_subjects::{Answer, End, Subject, put};
 use std::alloc::Global;
 
 /// What is asked: a command, with its numbers and with the names of its files. To the source of a

@@ -18,12 +18,11 @@ ghost use Rattle.ol_bench.specs.Afters.{line_with};
 ghost use Rattle.ol_bench.specs.Fields.{IsField, Begins, GoesOn, IsEnd, IsCut, AreAt, IsFault, IsBrokenBy, IsBadBy};
 ghost use Rattle.ol_bench.specs.Wanted.{AreThose, IsLine, byte_words, choice_words, is_told, choices, end_at, greater_at, bytes_at, wanted_at};
 
-use crate::answers::{Answer, End};
 use crate::naming::{put as put_words, put_long, put_name};
-use crate::texts::{put, put_number};
 use ol_memory::NoMemory;
 use ol_net::Rule;
 use ol_rules::NodeName;
+use ol_subjects::{Answer, End, put, put_number};
 use ol_view::{Form, behind, name_at, number_at, rule_at, rule_word};
 use std::alloc::Global;
 

@@ -3,8 +3,9 @@ ghost use Rattle.std.specs.Prelude.{◌≤◌, IfOk};
 ghost use Rattle.ol_bench.specs.Commands.{IsWithinBounds};
 
 use crate::fakes::file;
-use ol_bench::{Asked, Status, Subject, bench};
+use ol_bench::{Asked, Status, bench};
 use ol_io::{MemSink, MemSource};
+use ol_subjects::Subject;
 use ol_term::Translation;
 use std::alloc::{AllocError, Global};
 use std::process::Abort;

@@ -2,7 +2,7 @@ use Rattle.std.proofs.Common.{◌≡◌, ◌≢◌, ◌++◌, min, codes, rules,
 use Rattle.ol_net.specs.PartTexts.{port_text}
 use Rattle.ol_net.specs.declared.parts.Port.TheVariants.{Free}
 use Rattle.ol_bench.specs.Same.{IsComparison, differ, lacks}
-use Rattle.ol_bench.specs.declared.answers.End.{End}
+use Rattle.ol_subjects.specs.declared.answers.End.{End}
 use Rattle.ol_bench.proofs.Renumbered.{one_free}
 use Rattle.ol_bench.proofs.comparing.compare.Goals as goal
 

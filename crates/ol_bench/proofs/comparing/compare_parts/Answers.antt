@@ -1,7 +1,7 @@
 use Rattle.std.proofs.Common.{◌≡◌, [], length, rules, sym, subst}
 use Rattle.ol_bench.specs.Same.{IsComparison, one, parts_differ, left}
 use Rattle.ol_bench.specs.Walked.{SearchedFrom}
-use Rattle.ol_bench.specs.declared.answers.End.{End}
+use Rattle.ol_subjects.specs.declared.answers.End.{End}
 use Rattle.ol_bench.proofs.Walking.{nothing_walked, has_walked}
 use Rattle.ol_bench.proofs.Seeking.{none_from_walk}
 use Rattle.ol_bench.proofs.comparing.compare_parts.Goals as goal

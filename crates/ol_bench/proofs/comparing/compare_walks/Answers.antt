@@ -2,7 +2,7 @@ use Rattle.std.proofs.Common.{ℕ, List, Option, Some, sym, subst}
 use Rattle.ol_net.specs.declared.parts.Port.{Port}
 use Rattle.ol_bench.specs.Same.{IsComparison, DiffersAt, differ, differs}
 use Rattle.ol_bench.specs.Meetings.{Finds}
-use Rattle.ol_bench.specs.declared.answers.End.{End}
+use Rattle.ol_subjects.specs.declared.answers.End.{End}
 use Rattle.ol_bench.proofs.Renumbered.{not_one}
 use Rattle.ol_bench.proofs.comparing.compare_walks.Goals as goal
 

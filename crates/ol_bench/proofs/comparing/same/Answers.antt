@@ -1,6 +1,6 @@
 use Rattle.std.proofs.Common.{subst}
-use Rattle.ol_bench.specs.declared.subjects.Subject.TheVariants.{Net}
-use Rattle.ol_bench.specs.Readied.{IsSubjectRead}
+use Rattle.ol_subjects.specs.declared.subjects.Subject.TheVariants.{Net}
+use Rattle.ol_subjects.specs.Readied.{IsSubjectRead}
 use Rattle.ol_bench.specs.Same.{refused_first}
 use Rattle.ol_bench.proofs.comparing.same.Goals as goal
 

@@ -1,7 +1,7 @@
 use Rattle.std.proofs.Common.{sym, subst}
-use Rattle.ol_bench.specs.Readied.{IsSubjectRead}
+use Rattle.ol_subjects.specs.Readied.{IsSubjectRead}
 use Rattle.ol_bench.specs.Tables.{IsCounted, refused, of_net}
-use Rattle.ol_bench.specs.declared.subjects.Subject.TheVariants as subject
+use Rattle.ol_subjects.specs.declared.subjects.Subject.TheVariants as subject
 use Rattle.ol_bench.proofs.OneSubject.{read_of}
 use Rattle.ol_bench.proofs.counting.of_net_file.Goals as goal
 

@@ -1,7 +1,7 @@
 use Rattle.std.proofs.Common.{sym, subst}
-use Rattle.ol_bench.specs.Readied.{IsTermRead}
+use Rattle.ol_subjects.specs.Readied.{IsTermRead}
 use Rattle.ol_bench.specs.Tables.{IsCounted, refused, of_term}
-use Rattle.ol_bench.specs.declared.subjects.Subject.TheVariants as subject
+use Rattle.ol_subjects.specs.declared.subjects.Subject.TheVariants as subject
 use Rattle.ol_bench.proofs.counting.of_term_file.Goals as goal
 
 pub returns-in-Refused : goal.returns-in-Refused

@@ -1,5 +1,5 @@
 use Rattle.std.proofs.Common.{subst}
-use Rattle.ol_bench.specs.Readied.{IsSubjectRead}
+use Rattle.ol_subjects.specs.Readied.{IsSubjectRead}
 use Rattle.ol_bench.specs.Orders.{refused, traced}
 use Rattle.ol_bench.proofs.ordering.journal.Goals as goal
 

@@ -1,5 +1,5 @@
 use Rattle.std.proofs.Common.{subst}
-use Rattle.ol_bench.specs.Readied.{IsSubjectRead}
+use Rattle.ol_subjects.specs.Readied.{IsSubjectRead}
 use Rattle.ol_bench.specs.Afters.{refused, answered}
 use Rattle.ol_bench.proofs.pausing.after.Goals as goal
 

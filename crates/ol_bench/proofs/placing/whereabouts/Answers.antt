@@ -1,7 +1,7 @@
 use Rattle.std.proofs.Common.{◌≢◌, ℕ, ◌<◌, ◌≤◌, ◌⊎◌, inl, inr, slice_index, sym, subst}
 use Rattle.std.proofs.lemmas.Bool.{cases_lt}
 use Rattle.ol_bench.specs.Places.{IsWhere, place, past}
-use Rattle.ol_bench.specs.declared.answers.End.TheVariants.{Yes, No}
+use Rattle.ol_subjects.specs.declared.answers.End.TheVariants.{Yes, No}
 use Rattle.ol_bench.proofs.placing.whereabouts.Goals as goal
 
 pub returns-then-at-bytes : goal.returns-then-at-bytes

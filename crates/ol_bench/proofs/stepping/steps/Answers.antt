@@ -1,6 +1,6 @@
 use Rattle.std.proofs.Common.{subst}
 use Rattle.ol_term.specs.declared.translations.Translation.TheVariants.{Two}
-use Rattle.ol_bench.specs.Readied.{IsTermRead}
+use Rattle.ol_subjects.specs.Readied.{IsTermRead}
 use Rattle.ol_bench.specs.Steps.{refused}
 use Rattle.ol_bench.proofs.stepping.steps.Goals as goal
 

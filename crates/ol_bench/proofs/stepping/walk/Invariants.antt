@@ -1,7 +1,7 @@
 use Rattle.std.proofs.Common.{◌≡◌, ℕ, ◌-◌, ◌≤◌, ◌++◌, true, List, length}
 use Rattle.ol_term.specs.Trees.{tree_of, is_below, is_named_below}
 use Rattle.ol_beta.specs.Beta.{IsWithin}
-use Rattle.ol_bench.specs.declared.answers.End.{End}
+use Rattle.ol_subjects.specs.declared.answers.End.{End}
 use Rattle.ol_bench.specs.Steps.{Tells}
 use Rattle.ol_bench.proofs.stepping.walk.Given as goal
 

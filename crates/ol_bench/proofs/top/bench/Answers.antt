@@ -1,5 +1,5 @@
 use Rattle.std.proofs.Common.{◌≡◌, refl}
-use Rattle.ol_bench.specs.declared.answers.End.TheVariants.{Yes, No, Nothing, Refused}
+use Rattle.ol_subjects.specs.declared.answers.End.TheVariants.{Yes, No, Nothing, Refused}
 use Rattle.ol_bench.proofs.Onward.{told_to}
 use Rattle.ol_bench.proofs.top.bench.Goals as goal
 

@@ -2,8 +2,8 @@ use Rattle.std.proofs.Common.{◌≡◌, length, ap, ◌∙◌, arith}
 use Rattle.ol_net.proofs.Linking.{length-all_live}
 use Rattle.ol_netfile.specs.NetTexts.{IsNetRead}
 use Rattle.ol_netfile.proofs.Unique.{text-few}
-use Rattle.ol_bench.specs.Subjects.{of_text}
-use Rattle.ol_bench.proofs.subjects.read_text.Goals as goal
+use Rattle.ol_subjects.specs.Subjects.{of_text}
+use Rattle.ol_subjects.proofs.subjects.read_text.Goals as goal
 
 pub returns-in-Ok : goal.returns-in-Ok
 returns-in-Ok c =

@@ -2,8 +2,8 @@
 
 ghost use Rattle.std.specs.Prelude.{◌≡◌, ◌≤◌, ◌++◌, length, codes, IfOk};
 ghost use Rattle.std.specs.Fmt.{decimal};
-ghost use Rattle.ol_bench.specs.Subjects.{most_bytes, Refuses};
-ghost use Rattle.ol_bench.specs.Readied.{IsTermRead, IsSubjectRead};
+ghost use Rattle.ol_subjects.specs.Subjects.{most_bytes, Refuses};
+ghost use Rattle.ol_subjects.specs.Readied.{IsTermRead, IsSubjectRead};
 
 use crate::texts::{put, put_number};
 use ol_memory::NoMemory;

@@ -1,14 +1,14 @@
--- Private: words of private contracts alone: what comes of a file.
+-- What comes of a file: its term and its net, or the line by which it is refused.
 use Rattle.std.specs.Prelude.{ℕ, ◌≤◌, ◌<◌, ◌^◌, List, length}
 use Rattle.ol_term.specs.declared.translations.Translation.{Translation}
 use Rattle.ol_term.specs.Trees.{Tree, tree_of, term_size}
 use Rattle.ol_net.specs.Graph.{Graph}
-use Rattle.ol_bench.specs.declared.subjects.Subject.{Subject}
-use Rattle.ol_bench.specs.declared.subjects.TermRead.{TermRead}
-use Rattle.ol_bench.specs.declared.subjects.TermRead.TheVariants as term
-use Rattle.ol_bench.specs.declared.subjects.NetRead.{NetRead}
-use Rattle.ol_bench.specs.declared.subjects.NetRead.TheVariants as net
-use Rattle.ol_bench.specs.Subjects.{IsTerm, IsNetOfTerm, IsSubject, RefusesTerm, Refuses}
+use Rattle.ol_subjects.specs.declared.subjects.Subject.{Subject}
+use Rattle.ol_subjects.specs.declared.subjects.TermRead.{TermRead}
+use Rattle.ol_subjects.specs.declared.subjects.TermRead.TheVariants as term
+use Rattle.ol_subjects.specs.declared.subjects.NetRead.{NetRead}
+use Rattle.ol_subjects.specs.declared.subjects.NetRead.TheVariants as net
+use Rattle.ol_subjects.specs.Subjects.{IsTerm, IsNetOfTerm, IsSubject, RefusesTerm, Refuses}
 
 -- the bytes have this term, and this is its net
 pub record IsReady (translation : Translation) (bytes : List ℕ) (t : Tree) (names : List (List ℕ))

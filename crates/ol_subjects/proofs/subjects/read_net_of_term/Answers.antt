@@ -1,7 +1,7 @@
 use Rattle.std.proofs.Common.{subst}
-use Rattle.ol_bench.specs.Readied.{IsTermRead}
-use Rattle.ol_bench.specs.Subjects.{of_term}
-use Rattle.ol_bench.proofs.subjects.read_net_of_term.Goals as goal
+use Rattle.ol_subjects.specs.Readied.{IsTermRead}
+use Rattle.ol_subjects.specs.Subjects.{of_term}
+use Rattle.ol_subjects.proofs.subjects.read_net_of_term.Goals as goal
 
 pub returns-in-Term : goal.returns-in-Term
 returns-in-Term c =

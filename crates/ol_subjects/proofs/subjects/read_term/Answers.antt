@@ -2,9 +2,9 @@ use Rattle.std.proofs.Common.{◌<◌, ◌≤◌, ◌⊎◌, inl, inr, refl, ari
 use Rattle.std.proofs.lemmas.Bool.{cases_lt}
 use Rattle.ol_term.specs.Trees.{tree_of}
 use Rattle.ol_translate.specs.Sizes.{size_of_translation}
-use Rattle.ol_bench.specs.Subjects.{syntax_at, deep, large}
+use Rattle.ol_subjects.specs.Subjects.{syntax_at, deep, large}
 use Rattle.ol_translate.proofs.TermSizes.{counted}
-use Rattle.ol_bench.proofs.subjects.read_term.Goals as goal
+use Rattle.ol_subjects.proofs.subjects.read_term.Goals as goal
 
 pub returns-in-Ok-translate : goal.returns-in-Ok-translate
 returns-in-Ok-translate c =

@@ -14,8 +14,8 @@ use Rattle.ol_netfile.specs.NetTexts.{IsNetRead, IsNetFault}
 use Rattle.ol_netfile.specs.FaultTexts.{fault_text}
 use Rattle.ol_netfile.specs.declared.faults.NetFault.{NetFault}
 use Rattle.ol_netfile.specs.declared.faults.NetFault.TheVariants.{NoMemory}
-use Rattle.ol_bench.specs.declared.subjects.Subject.{Subject}
-use Rattle.ol_bench.specs.declared.subjects.Subject.TheVariants.{Term, Net}
+use Rattle.ol_subjects.specs.declared.subjects.Subject.{Subject}
+use Rattle.ol_subjects.specs.declared.subjects.Subject.TheVariants.{Term, Net}
 
 -- The bytes are a text of this term with these free names. It is at most 1,000 deep, and its net has
 -- at most 200,000 nodes.
