@@ -23,7 +23,7 @@ use Rattle.ol_diamond.proofs.Rewirings.{Clear}
 use Rattle.ol_diamond.proofs.WaveEntries.{IsWaveEntry, WavedRun, ends, goes, entry_of}
 use Rattle.ol_diamond.proofs.WaveSteps.{step_has_wave}
 use Rattle.ol_bench.specs.Found.{IsOfPair}
-use Rattle.ol_bench.specs.Rounds.{AreRising}
+use Rattle.ol_replay.specs.Replays.{AreRising}
 use Rattle.ol_bench.proofs.Waits.{AreNamed, AllWait, steps, faces_of, apart, apart_named, all_stay}
 
 -- a link weighs as much from either end

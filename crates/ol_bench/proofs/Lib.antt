@@ -9,7 +9,6 @@ pub mod OneNet
 pub mod Renumbered
 pub mod Seeking
 pub mod Trying
-pub mod KeptRuns
 pub mod Ways
 pub mod Told
 pub mod WhyNot

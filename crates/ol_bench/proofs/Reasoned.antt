@@ -14,9 +14,10 @@ use Rattle.ol_view.specs.Checks.{start_net_of_graph, BeginsWithRun, IsFound, IsR
 use Rattle.ol_view.proofs.FoundCases as found
 use Rattle.ol_subjects.specs.declared.answers.End.TheVariants.{No}
 use Rattle.ol_bench.specs.declared.following.Stop.TheVariants as stop
-use Rattle.ol_bench.specs.declared.replaying.Replay.{Replay}
+use Rattle.ol_replay.specs.declared.replaying.Replay.{Replay}
 use Rattle.ol_bench.specs.Explained.{cause_words, IsExplainedOf, not_a_run}
-use Rattle.ol_bench.specs.Followed.{net_here, Stops, otherwise}
+use Rattle.ol_bench.specs.Followed.{Stops, otherwise}
+use Rattle.ol_replay.specs.Replays.{net_here}
 use Rattle.ol_bench.specs.Reasons.{IsOffBy}
 use Rattle.ol_bench.specs.Found.{IsToldBy}
 use Rattle.ol_bench.proofs.Told.{at_good}

@@ -8,8 +8,8 @@ use Rattle.ol_net.specs.Nets.{IsNet}
 use Rattle.ol_net.specs.Numbered.{net_of}
 use Rattle.ol_rules.specs.Running.{AllWait, StillWait}
 use Rattle.ol_rules.proofs.OneThread.{step_few}
-use Rattle.ol_bench.specs.declared.replaying.Replay.{Replay}
-use Rattle.ol_bench.specs.Replays.{Advances}
+use Rattle.ol_replay.specs.declared.replaying.Replay.{Replay}
+use Rattle.ol_replay.specs.Replays.{Advances}
 use Rattle.ol_bench.specs.Played.{IsPair, ArePairs, NewWait, Plays, IsCut}
 use Rattle.ol_bench.proofs.ActivePairs.{AreStillActive, left_after, OthersWait, of_pair, others_on, all_wait}
 use Rattle.ol_bench.proofs.RoundByRound.{grown}

@@ -38,11 +38,12 @@ use Rattle.ol_view.proofs.Finding.{UnderWay}
 use Rattle.ol_view.proofs.FormTexts.{text_on}
 use Rattle.ol_view.proofs.OneVerdict.{not_idle}
 use Rattle.ol_view.proofs.Replays.{idle_names}
-use Rattle.ol_bench.specs.declared.replaying.Replay.{Replay}
-use Rattle.ol_bench.specs.Replays.{IsReplay, Advances, AdvancesNamed, AreApart}
-use Rattle.ol_bench.specs.Followed.{net_here, IsTold, IsOff}
-use Rattle.ol_bench.proofs.KeptRuns as kept
-use Rattle.ol_bench.proofs.KeptRuns.{run_named, advanced}
+use Rattle.ol_replay.specs.declared.replaying.Replay.{Replay}
+use Rattle.ol_replay.specs.Replays.{IsReplay, Advances, AdvancesNamed, AreApart}
+use Rattle.ol_bench.specs.Followed.{IsTold, IsOff}
+use Rattle.ol_replay.specs.Replays.{net_here}
+use Rattle.ol_replay.proofs.KeptRuns as kept
+use Rattle.ol_replay.proofs.KeptRuns.{run_named, advanced}
 
 -- The text up to `at` is the trace of the run of these entries, which leads to g.
 pub record Way (form : Form) (old : Graph) (text : List ℕ) (g : Graph) (bases weights : List ℕ)

@@ -1,8 +1,7 @@
 -- Private: words of private contracts alone: how far a journal was followed, and why no further.
 use Rattle.std.specs.Prelude.{◌≡◌, ◌≢◌, ℕ, ◌+◌, ◌<◌, ◌≤◌, List, [], ◌∷◌, ◌++◌, length, drop, Option, IfSome, IfNone, ◌⊎◌}
 use Rattle.ol_net.specs.Graph.{Graph}
-use Rattle.ol_net.specs.Nets.{NamedNet, net_under}
-use Rattle.ol_net.specs.Numbered.{net_of}
+use Rattle.ol_net.specs.Nets.{NamedNet}
 use Rattle.ol_rules.specs.declared.journal.NodeName.{NodeName}
 use Rattle.ol_rules.specs.declared.journal.Entry.{Entry}
 use Rattle.ol_diamond.specs.declared.weighing.Rewritten.{Rewritten}
@@ -14,14 +13,10 @@ use Rattle.ol_view.specs.declared.line_reading.Line.{Line}
 use Rattle.ol_view.specs.LineReading.{TellsOf}
 use Rattle.ol_view.specs.Checks.{start_net_of_graph, IsFound, IsRunTold, BeginsWithRun, HasNoLine}
 use Rattle.ol_view.specs.Forms.{header_of, BeginsWithEntry}
-use Rattle.ol_bench.specs.declared.replaying.Replay.{Replay}
+use Rattle.ol_replay.specs.declared.replaying.Replay.{Replay}
 use Rattle.ol_bench.specs.declared.following.Stop.{Stop}
 use Rattle.ol_bench.specs.declared.following.Stop.TheVariants as stop
-use Rattle.ol_bench.specs.Replays.{names_of}
-
--- The last net of a run, under its names.
-abbrev pub net_here : Replay → NamedNet NodeName
-net_here r = net_under (names_of r) (net_of r.net)
+use Rattle.ol_replay.specs.Replays.{net_here}
 
 -- The text of a form begins with that of the run's entries, and what follows begins here.
 abbrev pub IsTold : Form → List ℕ → Graph → Replay → List ℕ → ℕ → Type 0

@@ -19,7 +19,6 @@ pub mod Counted
 pub mod Meetings
 pub mod Walked
 pub mod Seconds
-pub mod Replays
 pub mod Played
 pub mod Followed
 pub mod Found

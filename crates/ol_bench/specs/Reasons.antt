@@ -13,9 +13,10 @@ use Rattle.ol_view.specs.declared.forms.Form.{Form}
 use Rattle.ol_view.specs.declared.line_reading.Line.{Line}
 use Rattle.ol_view.specs.Checks.{start_net_of_graph}
 use Rattle.ol_bench.specs.declared.causes.Cause.{Cause}
-use Rattle.ol_bench.specs.declared.replaying.Replay.{Replay}
-use Rattle.ol_bench.specs.Replays.{names_of, IsReplay}
-use Rattle.ol_bench.specs.Followed.{net_here, IsOff}
+use Rattle.ol_replay.specs.declared.replaying.Replay.{Replay}
+use Rattle.ol_replay.specs.Replays.{names_of, IsReplay}
+use Rattle.ol_bench.specs.Followed.{IsOff}
+use Rattle.ol_replay.specs.Replays.{net_here}
 use Rattle.ol_bench.specs.Afters.{line_with}
 use Rattle.ol_bench.specs.Explained.{Decides, IsCause, cause_words}
 

@@ -1,14 +1,15 @@
 -- Runs in rounds: a round rewrites, once each, the pairs that are active when it begins, and no others.
-use Rattle.std.specs.Prelude.{◌≡◌, ℕ, suc, ◌+◌, ◌≤◌, true, List, [], ◌∷◌, ◌++◌, length, replicate, ◌↔◌}
+use Rattle.std.specs.Prelude.{◌≡◌, ℕ, suc, ◌+◌, ◌≤◌, List, [], ◌∷◌, ◌++◌, length, replicate, ◌↔◌}
 use Rattle.ol_edges.specs.Edges.{IsIn}
 use Rattle.ol_net.specs.Graph.{Graph}
 use Rattle.ol_net.specs.Nets.{NamedNet}
 use Rattle.ol_net.specs.Pairs.{IsActive, IsComplete}
 use Rattle.ol_rules.specs.declared.journal.NodeName.{NodeName}
 use Rattle.ol_rules.specs.declared.journal.Entry.{Entry}
-use Rattle.ol_rules.specs.Names.{comes_before, IsNamed}
+use Rattle.ol_rules.specs.Names.{IsNamed}
 use Rattle.ol_rules.specs.Runs.{IsRun}
 use Rattle.ol_view.specs.Checks.{start_net_of_graph}
+use Rattle.ol_replay.specs.Replays.{AreRising}
 
 -- the entry is that of an active pair
 pub record IsActiveEntry (N : NamedNet NodeName) (e : Entry) : Type 0 where
@@ -16,12 +17,6 @@ pub record IsActiveEntry (N : NamedNet NodeName) (e : Entry) : Type 0 where
   pub g : NodeName
   pub named : IsNamed e f g
   pub active : IsActive N f g e.rule
-
--- the smaller name of each entry comes before those of the later ones
-abbrev pub AreRising : List Entry → Type 0
-AreRising [] = Unit {0}
-AreRising (e ∷ es) =
-    ((d : Entry) → IsIn d es → comes_before e.first d.first ≡ true) × AreRising es
 
 -- the entries of the active pairs, all of them and each once, in the order of their smaller names
 pub record AreActivePairs (N : NamedNet NodeName) (es : List Entry) : Type 0 where

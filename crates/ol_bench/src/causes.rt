@@ -4,16 +4,16 @@ ghost use Rattle.std.specs.Prelude.{◌≡◌, ◌≢◌, ◌≤◌, ◌<◌, �
 ghost use Rattle.std.specs.Prelude.{string_bytes, slice_get, OnOk, IfSome, IfNone};
 ghost use Rattle.ol_rules.specs.declared.journal.Entry.{Entry};
 ghost use Rattle.ol_view.specs.LineReading.{TellsOf};
-ghost use Rattle.ol_bench.specs.Followed.{net_here};
+ghost use Rattle.ol_replay.specs.Replays.{net_here};
 ghost use Rattle.ol_bench.specs.Explained.{IsGone, Names, NoneNames, never_text, cause_words};
 ghost use Rattle.ol_bench.specs.Reasons.{IsReplayed, IsLive, IsNodeNamed};
 ghost use Rattle.ol_bench.specs.Reasons.{IsCauseAway, IsCauseIdle, IsCauseOther, IsCauseOff};
 
 use crate::naming::{put, put_long, put_name, put_number};
-use crate::replaying::Replay;
 use ol_diamond::Rewritten;
 use ol_memory::NoMemory;
 use ol_net::{NodeId, Port, Rule};
+use ol_replay::Replay;
 use ol_rules::{Entry, Journal, NodeName};
 use ol_view::{Line, rule_word};
 

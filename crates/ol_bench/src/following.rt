@@ -5,13 +5,13 @@ ghost use Rattle.ol_view.specs.declared.forms.Form.{Form};
 ghost use Rattle.ol_view.specs.EachForm.{header};
 ghost use Rattle.ol_view.specs.Forms.{header_of};
 ghost use Rattle.ol_view.specs.LineReading.{TellsOf};
-ghost use Rattle.ol_bench.specs.Replays.{IsReplay};
+ghost use Rattle.ol_replay.specs.Replays.{IsReplay};
 ghost use Rattle.ol_bench.specs.Followed.{Stops};
 
-use crate::replaying::Replay;
 use ol_diamond::{Rewritten, Weighing};
 use ol_memory::NoMemory;
 use ol_net::Net;
+use ol_replay::Replay;
 use ol_view::{Form, Line, line_at};
 use std::alloc::Global;
 

@@ -4,17 +4,17 @@ ghost use Rattle.std.specs.Prelude.{◌≡◌, ℕ, ◌<◌, ◌≤◌, ◌+◌,
 ghost use Rattle.std.specs.Prelude.{string_bytes, OnOk, IfOk};
 ghost use Rattle.ol_view.specs.EachForm.{wave_line_text, wave_lines_text};
 ghost use Rattle.ol_bench.specs.Afters.{line_with};
-ghost use Rattle.ol_bench.specs.Replays.{IsReplay};
+ghost use Rattle.ol_replay.specs.Replays.{IsReplay};
 ghost use Rattle.ol_bench.specs.Reasons.{IsReplayed};
 ghost use Rattle.ol_bench.specs.Left.{more_text};
 ghost use Rattle.ol_subjects.specs.declared.answers.End.{End};
 ghost use Rattle.ol_bench.specs.Found.{IsPairOf, AreFound, IsLeftText};
 
 use crate::naming::{put, put_name, put_number};
-use crate::replaying::Replay;
 use ol_diamond::{WaveList, waves};
 use ol_memory::NoMemory;
 use ol_net::{Facing, Net, NodeId, Port};
+use ol_replay::Replay;
 use ol_rules::{Entry, Journal};
 use ol_subjects::{Answer, End};
 use ol_view::rule_word;

@@ -11,7 +11,6 @@
 //! - `left`: the pairs that are left after a run
 //! - `wanting`: where a line that isn't one of a journal breaks off, and what is wanted there
 //! - `comparing`: the command `same`: whether two nets are one up to the numbers of their nodes
-//! - `replaying`: a run from a net, pair by pair
 //! - `playing`: a run from a net, round by round
 //! - `waiting`: which nodes may stand in an active pair
 //! - `following`: a journal, followed line by line
@@ -32,7 +31,6 @@ mod ordering;
 mod pausing;
 mod placing;
 mod playing;
-mod replaying;
 mod stepping;
 mod top;
 mod waiting;

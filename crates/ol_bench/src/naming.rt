@@ -5,11 +5,11 @@ ghost use Rattle.std.specs.Fmt.{decimal};
 ghost use Rattle.ol_net.specs.Graph.{kind_at, partner_of};
 ghost use Rattle.ol_view.specs.TraceTexts.{name_text};
 ghost use Rattle.ol_bench.specs.NamedTexts.{named_port, named_partner, named_free, named_partners, named_node, named_nodes, named_text};
-ghost use Rattle.ol_bench.specs.Replays.{names_of};
+ghost use Rattle.ol_replay.specs.Replays.{names_of};
 
-use crate::replaying::Replay;
 use ol_memory::NoMemory;
 use ol_net::{IndexOf, NodeId, Port};
+use ol_replay::Replay;
 use ol_rules::NodeName;
 use std::alloc::Global;
 use std::fmt;

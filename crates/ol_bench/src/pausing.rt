@@ -3,14 +3,14 @@
 ghost use Rattle.std.specs.Prelude.{◌≡◌, ◌≤◌, length, IfOk};
 ghost use Rattle.ol_view.specs.Laws.{IsTable};
 ghost use Rattle.ol_bench.specs.Afters.{IsAfter, IsAfterOf, line_with, shown_text};
-ghost use Rattle.ol_bench.specs.Replays.{names_of};
+ghost use Rattle.ol_replay.specs.Replays.{names_of};
 ghost use Rattle.ol_subjects.specs.Subjects.{most_bytes};
 
 use crate::following::{Stop, follow};
 use crate::naming::named_net;
-use crate::replaying::Replay;
 use ol_memory::NoMemory;
 use ol_net::Net;
+use ol_replay::Replay;
 use ol_subjects::{Answer, End, NetRead, Subject, put, put_number, read_subject};
 use std::alloc::Global;
 

@@ -8,13 +8,13 @@ ghost use Rattle.ol_rules.specs.declared.journal.NodeName.{NodeName};
 ghost use Rattle.ol_rules.specs.Running.{AllWait, StillWait};
 ghost use Rattle.ol_rules.specs.Runs.{IsRun};
 ghost use Rattle.ol_view.specs.Checks.{start_net_of_graph};
-ghost use Rattle.ol_bench.specs.Replays.{Advances};
+ghost use Rattle.ol_replay.specs.Replays.{Advances};
 ghost use Rattle.ol_bench.specs.Played.{IsPair, ArePairs, NewWait, Plays, IsCut, IsPlayed};
 
-use crate::replaying::Replay;
 use crate::waiting::{await_active, await_beside};
 use ol_memory::NoMemory;
 use ol_net::{Facing, Net, NodeId, Port};
+use ol_replay::Replay;
 use ol_rules::{Ended, Ran};
 use std::alloc::Global;
 use std::collections::BTreeSet;

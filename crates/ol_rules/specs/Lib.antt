@@ -7,8 +7,8 @@ pub mod Names
 pub mod Runs
 pub mod Laws
 pub mod Contracting
+pub mod Running
 -- What only contracts of private functions and proofs cite.
 pub mod Actors
 pub mod Counted
-pub mod Running
 pub mod BornLists

@@ -1,4 +1,4 @@
--- Private: what a run keeps on its way.
+-- What a run keeps on its way.
 use Rattle.std.specs.Prelude.{◌≡◌, ℕ, ◌-◌, ◌≤◌, true, nat_lt, if◌then◌else◌, ◌+◌, ◌<◌, List, []}
 use Rattle.std.specs.Prelude.{◌∷◌, ◌++◌, length, Option, MatchOption, slice_index_or, ◌⊎◌}
 use Rattle.std.specs.Ordering.{nat_cmp}

@@ -1,5 +1,5 @@
 use Rattle.std.proofs.Common.{length, ◌-◌, ◌≤◌}
-use Rattle.ol_bench.specs.Replays.{IsReplay}
+use Rattle.ol_replay.specs.Replays.{IsReplay}
 use Rattle.ol_bench.proofs.Ways.{Way}
 use Rattle.ol_bench.proofs.following.follow.Given as goal
 

@@ -23,8 +23,8 @@ use Rattle.ol_demand.specs.Asking.{IsNaming, AreNamesOf}
 use Rattle.ol_demand.specs.declared.rewriting.Run.{Run}
 use Rattle.ol_demand.proofs.Entries.{the_pair, entry_names, named_step, after_step, names_of_next}
 use Rattle.ol_view.specs.Checks.{start_net_of_graph}
-use Rattle.ol_bench.specs.declared.replaying.Replay.{Replay}
-use Rattle.ol_bench.specs.Replays.{names_of, AreNames, IsReplay, entry_for, Advances}
+use Rattle.ol_replay.specs.declared.replaying.Replay.{Replay}
+use Rattle.ol_replay.specs.Replays.{names_of, AreNames, IsReplay, entry_for, Advances}
 
 -- the names at the start
 abbrev at_start : Graph → ℕ → NodeName

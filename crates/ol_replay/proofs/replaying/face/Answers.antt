@@ -2,7 +2,7 @@ use Rattle.std.proofs.Common.{◌≡◌, true, nat_eq, eq-eqb, sym, subst}
 use Rattle.ol_net.specs.Nets.{free, slot, Linked}
 use Rattle.ol_net.specs.Numbered.{net_of, numbered_port}
 use Rattle.ol_diamond.proofs.Facing.{otherwise}
-use Rattle.ol_bench.proofs.replaying.face.Goals as goal
+use Rattle.ol_replay.proofs.replaying.face.Goals as goal
 
 pub returns-then-slot-eq0-clause-idle : goal.returns-then-slot-eq0-clause-idle
 returns-then-slot-eq0-clause-idle c = λ e r.

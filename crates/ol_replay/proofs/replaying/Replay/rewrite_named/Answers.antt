@@ -3,7 +3,7 @@ use Rattle.ol_net.specs.Graph.{Graph}
 use Rattle.ol_net.specs.Numbered.{net_of}
 use Rattle.ol_rules.specs.declared.journal.NodeName.{NodeName}
 use Rattle.ol_diamond.specs.Replaying.{node_number, AreIdle}
-use Rattle.ol_bench.proofs.replaying.Replay.rewrite_named.Goals as goal
+use Rattle.ol_replay.proofs.replaying.Replay.rewrite_named.Goals as goal
 
 apart : (g : Graph) (bases : List ℕ) (a b : NodeName) (f h : ℕ) → Some f ≡ node_number bases a →
     Some h ≡ node_number bases b → (f < h → AreIdle (net_of g) f h) → (x y : ℕ) →

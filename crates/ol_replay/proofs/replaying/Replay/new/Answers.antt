@@ -1,6 +1,6 @@
 use Rattle.std.proofs.Common.{ℕ, List, [], ◌∷◌, ◌++◌, ap, ◌∙◌}
-use Rattle.ol_bench.proofs.KeptRuns.{begins}
-use Rattle.ol_bench.proofs.replaying.Replay.new.Goals as goal
+use Rattle.ol_replay.proofs.KeptRuns.{begins}
+use Rattle.ol_replay.proofs.replaying.Replay.new.Goals as goal
 
 pub returns-clause-replay : goal.returns-clause-replay
 returns-clause-replay c =

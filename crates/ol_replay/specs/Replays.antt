@@ -1,9 +1,10 @@
--- Private: words of private contracts alone: a run on its way, and what a rewrite adds to it.
-use Rattle.std.specs.Prelude.{◌≡◌, ℕ, suc, ◌+◌, ◌*◌, ◌-◌, ◌<◌, ◌≤◌, true, [], ◌∷◌, ◌++◌, length}
+-- A run on its way, and what a rewrite adds to it.
+use Rattle.std.specs.Prelude.{◌≡◌, ℕ, suc, ◌+◌, ◌*◌, ◌-◌, ◌<◌, ◌≤◌, true, List, [], ◌∷◌, ◌++◌, length}
 use Rattle.std.specs.Prelude.{Some, slice_get}
+use Rattle.ol_edges.specs.Edges.{IsIn}
 use Rattle.ol_net.specs.declared.parts.Rule.{Rule}
 use Rattle.ol_net.specs.Graph.{Graph}
-use Rattle.ol_net.specs.Nets.{slot, Linked, IsNet, net_under}
+use Rattle.ol_net.specs.Nets.{NamedNet, slot, Linked, IsNet, net_under}
 use Rattle.ol_net.specs.Numbered.{net_of}
 use Rattle.ol_rules.specs.declared.journal.NodeName.{NodeName}
 use Rattle.ol_rules.specs.declared.journal.NodeName.TheVariants.{Init, Born}
@@ -14,11 +15,15 @@ use Rattle.ol_rules.specs.Running.{name_in}
 use Rattle.ol_rules.specs.Steps.{StepsAt}
 use Rattle.ol_diamond.specs.Replaying.{node_number, AreIdle}
 use Rattle.ol_view.specs.Checks.{start_net_of_graph}
-use Rattle.ol_bench.specs.declared.replaying.Replay.{Replay}
+use Rattle.ol_replay.specs.declared.replaying.Replay.{Replay}
 
 -- the names of its numbers
 abbrev pub names_of : Replay → ℕ → NodeName
 names_of r = name_in r.start r.names.items
+
+-- The last net of a run, under its names.
+abbrev pub net_here : Replay → NamedNet NodeName
+net_here r = net_under (names_of r) (net_of r.net)
 
 -- Names of all numbers: a start node's number names it, a greater number has a later name, and from
 -- next on come the nodes that this ticket will make.
@@ -79,3 +84,9 @@ abbrev pub AreApart : Replay → NodeName → NodeName → Type 0
 AreApart r first second =
     (x y : ℕ) → node_number r.bases.items first ≡ Some x →
     node_number r.bases.items second ≡ Some y → x < y → AreIdle (net_of r.net) x y
+
+-- the smaller name of each entry comes before those of the later ones
+abbrev pub AreRising : List Entry → Type 0
+AreRising [] = Unit {0}
+AreRising (e ∷ es) =
+    ((d : Entry) → IsIn d es → comes_before e.first d.first ≡ true) × AreRising es

@@ -2,8 +2,8 @@ use Rattle.std.proofs.Common.{◌-◌, [], ◌∷◌, ◌++◌, length, inl, inr
 use Rattle.ol_rules.specs.declared.journal.NodeName.{NodeName}
 use Rattle.ol_rules.specs.Runs.{names_born}
 use Rattle.ol_rules.proofs.OneThread.{step_few}
-use Rattle.ol_bench.specs.Replays.{names_of}
-use Rattle.ol_bench.proofs.replaying.Replay.rewrite.Goals as goal
+use Rattle.ol_replay.specs.Replays.{names_of}
+use Rattle.ol_replay.proofs.replaying.Replay.rewrite.Goals as goal
 
 pub returns-then-not-face-clause-idle : goal.returns-then-not-face-clause-idle
 returns-then-not-face-clause-idle c = λ e l. c.if-not-face.ensures.idle refl

@@ -5,7 +5,7 @@ ghost use Rattle.ol_net.specs.Nets.{slot, Linked};
 ghost use Rattle.ol_net.specs.Numbered.{net_of};
 ghost use Rattle.ol_rules.specs.Runs.{names_born};
 ghost use Rattle.ol_diamond.specs.Replaying.{node_number, AreIdle};
-ghost use Rattle.ol_bench.specs.Replays.{names_of, IsReplay, Advances, AdvancesNamed, AreApart};
+ghost use Rattle.ol_replay.specs.Replays.{names_of, IsReplay, Advances, AdvancesNamed, AreApart};
 
 use ol_memory::NoMemory;
 use ol_net::{Facing, Net, NodeId, Port};
