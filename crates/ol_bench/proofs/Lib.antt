@@ -1,8 +1,4 @@
 pub mod Blanks
-pub mod Named
-pub mod Walks
-pub mod OneSubject
-pub mod Traced
 pub mod Tables
 pub mod Walking
 pub mod OneNet
@@ -23,8 +19,3 @@ pub mod Alone
 pub mod Leaving
 pub mod Finds
 pub mod Lefts
-pub mod ActivePairs
-pub mod OneRound
-pub mod RoundByRound
-pub mod Turns
-pub mod RoundWaves

@@ -8,9 +8,9 @@ use Rattle.ol_bench.specs.declared.top.Asked.{Asked}
 use Rattle.ol_bench.specs.declared.top.Asked.TheVariants as asked
 use Rattle.ol_subjects.specs.Subjects.{most_bytes}
 use Rattle.ol_bench.specs.Places.{IsWhere}
-use Rattle.ol_bench.specs.Steps.{IsStepsOf}
-use Rattle.ol_bench.specs.Tables.{IsCounted}
-use Rattle.ol_bench.specs.Orders.{IsJournal}
+use Rattle.ol_orders.specs.Steps.{IsStepsOf}
+use Rattle.ol_orders.specs.Tables.{IsCounted}
+use Rattle.ol_orders.specs.Orders.{IsJournal}
 use Rattle.ol_bench.specs.Afters.{IsAfter}
 use Rattle.ol_bench.specs.Explained.{IsExplained}
 use Rattle.ol_bench.specs.Same.{IsSame}

@@ -1,10 +1,5 @@
 -- What clauses of public functions rest on.
 pub mod Places
-pub mod Steps
-pub mod Tables
-pub mod Rounds
-pub mod Laws
-pub mod Orders
 pub mod Same
 pub mod NamedTexts
 pub mod Afters
@@ -15,11 +10,9 @@ pub mod Commands
 pub mod Writing
 pub mod Statuses
 -- What only contracts of private functions and proofs cite.
-pub mod Counted
 pub mod Meetings
 pub mod Walked
 pub mod Seconds
-pub mod Played
 pub mod Followed
 pub mod Found
 pub mod Fields

@@ -9,14 +9,12 @@ ghost use Rattle.ol_bench.specs.Statuses.{status_number};
 ghost use Rattle.ol_bench.specs.Writing.{Told, WritesAnswer, change_of};
 
 use crate::comparing::same;
-use crate::counting::{Bounds, counted};
 use crate::explaining::explained;
-use crate::ordering::{Order, journal};
 use crate::pausing::after;
 use crate::placing::whereabouts;
-use crate::stepping::steps;
 use ol_io::{ReadAll, Sink, Source, Written, read_all, write_all};
 use ol_memory::NoMemory;
+use ol_orders::{Bounds, Order, counted, journal, steps};
 use ol_subjects::{Answer, End, Subject, put};
 use std::alloc::Global;
 

@@ -4,7 +4,8 @@ ghost use Rattle.std.specs.Prelude.{◌≤◌, IfOk};
 ghost use Rattle.ol_bench.specs.Commands.{IsWithinBounds};
 
 use clap::{Arg, ArgAction, ArgMatches, Command, Error};
-use ol_bench::{Asked, Bounds, Order};
+use ol_bench::Asked;
+use ol_orders::{Bounds, Order};
 use ol_subjects::Subject;
 use ol_term::Translation;
 use std::alloc::{AllocError, Global};

@@ -2,8 +2,9 @@
 ghost use Rattle.std.specs.Prelude.{◌≤◌, IfOk};
 ghost use Rattle.ol_bench.specs.Commands.{IsWithinBounds};
 
-use ol_bench::{Asked, Bounds, Order, Status, bench};
+use ol_bench::{Asked, Status, bench};
 use ol_io::{MemFile, MemSink, MemSource};
+use ol_orders::{Bounds, Order};
 use ol_subjects::Subject;
 use ol_term::Translation;
 use std::alloc::{AllocError, Global};

@@ -1,5 +1,0 @@
-use Rattle.ol_bench.proofs.Turns.{IsPlaying}
-use Rattle.ol_bench.proofs.playing.play_round.Given as goal
-
-abbrev pub invariant-loop-pair : goal.invariant-loop-pair
-invariant-loop-pair l = IsPlaying l.initial.replay l.replay l.waiting l.pairs l.pair-index l.fuel

@@ -1,0 +1,9 @@
+pub mod Named
+pub mod Walks
+pub mod OneSubject
+pub mod Traced
+pub mod ActivePairs
+pub mod OneRound
+pub mod RoundByRound
+pub mod Turns
+pub mod RoundWaves

@@ -1,0 +1,26 @@
+use Rattle.std.proofs.Common.{Some, None, sym, ◌∙◌, subst}
+use Rattle.ol_net.specs.Graph.{Graph}
+use Rattle.ol_rules.specs.Counting.{counts_of}
+use Rattle.ol_demand.specs.Answers.{IsSpent, IsAnswer}
+use Rattle.ol_orders.specs.Tables.{IsDemandColumn}
+use Rattle.ol_orders.proofs.counting.demand_column.Goals as goal
+
+pub returns-then-free_ports-eq0 : goal.returns-then-free_ports-eq0
+returns-then-free_ports-eq0 c = IsDemandColumn.no_root (sym c.free_ports.ensures.free ∙ c.if-free_ports-eq0.true)
+
+pub returns-in-Spent : goal.returns-in-Spent
+returns-in-Spent c =
+    subst (λ (g : Graph). IsDemandColumn g c.args.heads c.args.fuel None) c.in_ok-last.ensures.copy
+    (IsDemandColumn.goes_on (c.in_ok-demanded.ensures.spent.0 (subst IsSpent (sym c.in-Spent.is) tt)))
+
+pub returns : goal.returns
+returns c =
+    subst (λ n. IsDemandColumn c.args.net.now c.args.heads c.args.fuel
+    (Some (record { counts = n; stuck = c.stuck-stuck.result }))) (sym c.counts-counts.ensures)
+    (subst (λ (g : Graph). IsDemandColumn g c.args.heads c.args.fuel
+    (Some (record {
+      counts = counts_of c.in-Done.journal;
+      stuck = c.stuck-stuck.result;
+    }))) c.in_ok-last.ensures.copy
+    (IsDemandColumn.ended (subst (IsAnswer c.in_ok-last.last c.args.heads c.args.fuel
+    c.demand.new.net) c.in-Done.is c.in_ok-demanded.ensures.answer) c.stuck-stuck.ensures.stuck))
