@@ -5,17 +5,4 @@ pub mod OneNet
 pub mod Renumbered
 pub mod Seeking
 pub mod Trying
-pub mod Ways
-pub mod Told
-pub mod WhyNot
-pub mod Rules
-pub mod Breaks
-pub mod Cuts
-pub mod Reasoned
-pub mod BadLines
 pub mod Onward
-pub mod Waits
-pub mod Alone
-pub mod Leaving
-pub mod Finds
-pub mod Lefts

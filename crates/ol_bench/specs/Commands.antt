@@ -11,8 +11,8 @@ use Rattle.ol_bench.specs.Places.{IsWhere}
 use Rattle.ol_orders.specs.Steps.{IsStepsOf}
 use Rattle.ol_orders.specs.Tables.{IsCounted}
 use Rattle.ol_orders.specs.Orders.{IsJournal}
-use Rattle.ol_bench.specs.Afters.{IsAfter}
-use Rattle.ol_bench.specs.Explained.{IsExplained}
+use Rattle.ol_explain.specs.Afters.{IsAfter}
+use Rattle.ol_explain.specs.Explained.{IsExplained}
 use Rattle.ol_bench.specs.Same.{IsSame}
 
 -- the name of the file, the first one where there are two

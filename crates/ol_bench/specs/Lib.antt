@@ -1,11 +1,6 @@
 -- What clauses of public functions rest on.
 pub mod Places
 pub mod Same
-pub mod NamedTexts
-pub mod Afters
-pub mod Left
-pub mod Wanted
-pub mod Explained
 pub mod Commands
 pub mod Writing
 pub mod Statuses
@@ -13,7 +8,3 @@ pub mod Statuses
 pub mod Meetings
 pub mod Walked
 pub mod Seconds
-pub mod Followed
-pub mod Found
-pub mod Fields
-pub mod Reasons

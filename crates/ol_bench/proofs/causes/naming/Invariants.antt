@@ -1,6 +1,0 @@
-use Rattle.ol_bench.proofs.WhyNot.{NoneBefore}
-use Rattle.ol_bench.proofs.causes.naming.Given as goal
-
--- no entry so far names the node
-abbrev pub invariant-loop-m : goal.invariant-loop-m
-invariant-loop-m l = NoneBefore l.journal l.name l.m

@@ -1,0 +1,13 @@
+pub mod Ways
+pub mod Told
+pub mod WhyNot
+pub mod Rules
+pub mod Breaks
+pub mod Cuts
+pub mod Reasoned
+pub mod BadLines
+pub mod Waits
+pub mod Alone
+pub mod Leaving
+pub mod Finds
+pub mod Lefts

@@ -1,0 +1,66 @@
+-- The words of a cause are put piece by piece.
+use Rattle.std.proofs.Common.{rules, ◌≡◌, ℕ, List, ◌++◌, OnOk, sym, ap, ◌∙◌, subst}
+use Rattle.std.specs.Prelude.{string_bytes, codes}
+use Rattle.std.specs.Fmt.{decimal}
+use Rattle.std.proofs.lemmas.List.{append_assoc}
+use Rattle.ol_view.specs.TraceTexts.{name_text}
+use Rattle.ol_view.specs.RuleNames.{rule_text}
+use Rattle.ol_explain.specs.Explained.{cause_words}
+use Rattle.ol_explain.proofs.causes.put_cause.Goals as goal
+
+two : (b0 b1 w n : List ℕ) → b1 ≡ b0 ++ w → b1 ++ n ≡ b0 ++ (w ++ n)
+two b0 b1 w n e = search (rules, append_assoc)
+
+four : (b0 b1 b2 b3 a1 a2 a3 a4 : List ℕ) → b1 ≡ b0 ++ a1 → b2 ≡ b1 ++ a2 → b3 ≡ b2 ++ a3 →
+    b3 ++ a4 ≡ b0 ++ (a1 ++ a2 ++ a3 ++ a4)
+four b0 b1 b2 b3 a1 a2 a3 a4 e1 e2 e3 = search (rules, append_assoc)
+
+five : (b0 b1 b2 b3 b4 a1 a2 a3 a4 a5 : List ℕ) → b1 ≡ b0 ++ a1 → b2 ≡ b1 ++ a2 → b3 ≡ b2 ++ a3 → b4 ≡ b3 ++ a4 →
+    b4 ++ a5 ≡ b0 ++ (a1 ++ a2 ++ a3 ++ a4 ++ a5)
+five b0 b1 b2 b3 b4 a1 a2 a3 a4 a5 e1 e2 e3 e4 = search (rules, append_assoc)
+
+pub returns-in_ok-put-in-FacesSlot-2 : goal.returns-in_ok-put-in-FacesSlot-2
+returns-in_ok-put-in-FacesSlot-2 c =
+    let b0 = string_bytes c.args.text.now in
+    let end = c.put_name-in-FacesSlot-2 in
+    subst (λ words. OnOk end.result (string_bytes end.new.text ≡ words))
+    (five b0 (string_bytes c.put_name-in-FacesSlot.new.text) (string_bytes c.put-in-FacesSlot.new.text)
+    (string_bytes c.put_number-in-FacesSlot.new.text) (string_bytes c.put-in-FacesSlot-2.new.text)
+    (name_text c.args.first) (codes " faces slot ") (decimal c.in-FacesSlot.slot) (codes " of ")
+    (name_text c.in-FacesSlot.name) c.in_ok-put_name-in-FacesSlot.ensures c.in_ok-put-in-FacesSlot.ensures
+    c.in_ok-put_number-in-FacesSlot.ensures c.in_ok-put-in-FacesSlot-2.ensures
+    ∙ ap (λ x. b0 ++ cause_words c.args.first c.args.second x) (sym c.in-FacesSlot.is))
+    end.ensures
+
+pub returns-in_ok-put_name-in-NoRule-2 : goal.returns-in_ok-put_name-in-NoRule-2
+returns-in_ok-put_name-in-NoRule-2 c =
+    let b0 = string_bytes c.args.text.now in
+    let end = c.put-in-NoRule-2 in
+    subst (λ words. OnOk end.result (string_bytes end.new.text ≡ words))
+    (four b0 (string_bytes c.put_name-in-NoRule.new.text) (string_bytes c.put-in-NoRule.new.text)
+    (string_bytes c.put_name-in-NoRule-2.new.text) (name_text c.args.first) (codes " and ")
+    (name_text c.args.second) (codes " have no rule") c.in_ok-put_name-in-NoRule.ensures
+    c.in_ok-put-in-NoRule.ensures c.in_ok-put_name-in-NoRule-2.ensures
+    ∙ ap (λ x. b0 ++ cause_words c.args.first c.args.second x) (sym c.in-NoRule.is))
+    end.ensures
+
+pub returns-in_ok-put-in-OtherRule : goal.returns-in_ok-put-in-OtherRule
+returns-in_ok-put-in-OtherRule c =
+    let b0 = string_bytes c.args.text.now in
+    let b1 = string_bytes c.put-in-OtherRule.new.text in
+    let end = c.put-in-OtherRule-2 in
+    subst (λ words. OnOk end.result (string_bytes end.new.text ≡ words))
+    (ap (λ word. b1 ++ word) c.rule_word.ensures
+    ∙ two b0 b1 (codes "the rule is ") (rule_text c.in-OtherRule.rule) c.in_ok-put-in-OtherRule.ensures
+    ∙ ap (λ x. b0 ++ cause_words c.args.first c.args.second x) (sym c.in-OtherRule.is))
+    end.ensures
+
+pub returns-in_ok-put-in-OtherWave : goal.returns-in_ok-put-in-OtherWave
+returns-in_ok-put-in-OtherWave c =
+    let b0 = string_bytes c.args.text.now in
+    let end = c.put_number-in-OtherWave in
+    subst (λ words. OnOk end.result (string_bytes end.new.text ≡ words))
+    (two b0 (string_bytes c.put-in-OtherWave.new.text) (codes "the wave is ") (decimal c.in-OtherWave.wave)
+    c.in_ok-put-in-OtherWave.ensures
+    ∙ ap (λ x. b0 ++ cause_words c.args.first c.args.second x) (sym c.in-OtherWave.is))
+    end.ensures

@@ -1,0 +1,11 @@
+-- What clauses of public functions rest on.
+pub mod NamedTexts
+pub mod Afters
+pub mod Left
+pub mod Wanted
+pub mod Explained
+-- What only contracts of private functions and proofs cite.
+pub mod Followed
+pub mod Found
+pub mod Fields
+pub mod Reasons

@@ -1,0 +1,165 @@
+//! The command `explain`: what a journal is found to be, which pairs are left after a run, what is
+//! wanted in bad text, and of a line that isn't one of a run why.
+
+ghost use Rattle.std.specs.Prelude.{◌≡◌, ◌≤◌, ◌<◌, length, codes, IfOk, IfSome};
+ghost use Rattle.ol_view.specs.LineReading.{TellsOf};
+ghost use Rattle.ol_explain.specs.Afters.{line_with};
+ghost use Rattle.ol_explain.specs.Found.{IsToldBy};
+ghost use Rattle.ol_explain.specs.Reasons.{IsReplayed, IsOffBy};
+ghost use Rattle.ol_replay.specs.Replays.{IsReplay};
+ghost use Rattle.ol_explain.specs.Explained.{IsExplained, IsExplainedOf};
+ghost use Rattle.ol_subjects.specs.Subjects.{most_bytes};
+
+use crate::causes::{cause_of, put_cause};
+use crate::following::{Stop, follow};
+use crate::left::run_and_left;
+use crate::naming::{put, put_number};
+use crate::wanting::{bad_header, bad_line, past_the_end};
+use ol_diamond::Rewritten;
+use ol_memory::NoMemory;
+use ol_net::Net;
+use ol_replay::Replay;
+use ol_subjects::{Answer, End, NetRead, Subject, read_subject};
+use ol_view::{Check, Line, check};
+use std::alloc::Global;
+
+// The answer of these words and a number.
+fn line_of(alloc: Global, words: &str, number: u32, end: End) -> Result<Answer, NoMemory>
+    ensures text { IfOk result (λ a. a.text.items ≡ line_with words.now number) }
+    ensures end { IfOk result (λ a. a.end ≡ end) }
+{
+    let mut text = String::new(alloc);
+    put(&mut text, words)?;
+    put_number(&mut text, number)?;
+    put(&mut text, "\n")?;
+    let text = text.into_bytes();
+    Ok(Answer { text, end })
+}
+
+// The answer that no pair is left.
+fn complete(alloc: Global) -> Result<Answer, NoMemory>
+    ensures text { IfOk result (λ a. a.text.items ≡ codes "complete\n") }
+    ensures end { IfOk result (λ a. a.end ≡ End.Yes) }
+{
+    let mut text = String::new(alloc);
+    put(&mut text, "complete\n")?;
+    let text = text.into_bytes();
+    let end = End::Yes;
+    Ok(Answer { text, end })
+}
+
+// The answer of a line that isn't the next one of a run.
+fn off(
+    alloc: Global,
+    replay: &Replay,
+    line: Line,
+    made: Option<Rewritten>,
+) -> Result<Answer, NoMemory>
+    requires few { length replay.now.journal < 8000000 }
+    requires replay { IsReplayed replay.now }
+    requires wrong { IfSome made (λ of. TellsOf line.told of.rule of.wave → ⊥) }
+    ensures text { IfOk result (λ a. IsOffBy replay.now line made a.text.items) }
+    ensures end { IfOk result (λ a. a.end ≡ End.No) }
+{
+    let cause = cause_of(replay, line, made);
+    let mut text = String::new(alloc);
+    put(&mut text, "not a run at line ")?;
+    put_number(&mut text, replay.journal.len() + 2)?;
+    put(&mut text, "\n")?;
+    put_cause(&mut text, line.first, line.second, cause)?;
+    put(&mut text, "\n")?;
+    let text = text.into_bytes();
+    let end = End::No;
+    Ok(Answer { text, end })
+}
+
+// The answer where all lines are good.
+fn ended(alloc: Global, net: &Net, journal: &[u8], replay: &mut Replay) -> Result<Answer, NoMemory>
+    requires few { length net.now.nodes ≤ 200000 }
+    requires told { IsToldBy net.now journal.now replay.old }
+    requires replay { IsReplay net.now replay.old }
+    ensures { IfOk result (λ a. IsExplainedOf net.now journal.now a.text.items a.end) }
+{
+    net.is_net();
+    match check(alloc, net, journal)? {
+        Check::Complete => {
+            let answer = complete(alloc)?;
+            Ok(answer)
+        }
+        Check::Run { k } => {
+            let answer = run_and_left(alloc, net, k, replay)?;
+            Ok(answer)
+        }
+        Check::BadText { .. } => unreachable!(),
+        Check::NotARun { .. } => unreachable!(),
+    }
+}
+
+fn of_net(alloc: Global, net: &Net, journal: &[u8]) -> Result<Answer, NoMemory>
+    requires few { length net.now.nodes ≤ 200000 }
+    ensures { IfOk result (λ a. IsExplainedOf net.now journal.now a.text.items a.end) }
+{
+    let mut followed = follow(alloc, net, journal, 8_000_000)?;
+    match followed.stop {
+        Stop::NoHeader => {
+            let answer = bad_header(alloc, journal)?;
+            Ok(answer)
+        }
+        Stop::Good => {
+            if followed.at < journal.len() {
+                let answer = past_the_end(alloc, followed.at)?;
+                return Ok(answer);
+            }
+            let answer = ended(alloc, net, journal, &mut followed.replay)?;
+            Ok(answer)
+        }
+        Stop::NoLine { form } => {
+            let bad = followed.replay.journal.len() + 2;
+            let answer = bad_line(alloc, form, journal, followed.at, bad)?;
+            Ok(answer)
+        }
+        Stop::Otherwise { line, made } => {
+            let answer = off(alloc, &followed.replay, line, made)?;
+            Ok(answer)
+        }
+    }
+}
+
+/// What a journal is found to be against the net of a file: the line of `ol check`; and below it,
+/// of a run that isn't complete, the pairs that are left, of bad text, what is wanted at which
+/// byte, and of a line that isn't the next one of a run, why it isn't.
+///
+/// - `Yes`: `complete`, or `run` with the number of entries, and the lines with which the journal
+///   could go on: of each active pair its rule, its wave and its two names. There are at most 20 of
+///   them, in the order of their first names, and a last line tells how many more there are.
+/// - `No`: the number of the first bad line. Where that is none of the grammar, the byte from which
+///   on no text is, and what is wanted there; where only its names aren't in order, that a greater
+///   one is; and where it comes behind as many lines as a journal may have, the byte at which it
+///   begins, and that `the end, after 8000000 entries` is wanted. Where it is a line of the
+///   grammar, its cause: a name of a node that isn't born yet, that is gone, with the line by which
+///   it went, or that never was one; what the first node faces, where it isn't the second one; that
+///   the two have no rule; or which rule or which wave is the pair's, where the line tells another.
+/// - `Refused`: `ol` refuses the file with the term or the net, by this line.
+///
+/// The file has at most 1,048,576 bytes with a term, and 33,554,432 with a net. `NoMemory`: no
+/// memory was found.
+pub fn explained(
+    alloc: Global,
+    bytes: &[u8],
+    journal: &[u8],
+    subject: Subject,
+) -> Result<Answer, NoMemory>
+    requires short { length bytes.now ≤ most_bytes subject }
+    ensures { IfOk result (λ a. IsExplained bytes.now journal.now a.text.items subject a.end) }
+{
+    match read_subject(alloc, bytes, subject)? {
+        NetRead::Refused(text) => {
+            let end = End::Refused;
+            Ok(Answer { text, end })
+        }
+        NetRead::Net(net) => {
+            let answer = of_net(alloc, &net, journal)?;
+            Ok(answer)
+        }
+    }
+}

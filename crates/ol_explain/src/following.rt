@@ -1,0 +1,113 @@
+//! A journal, followed line by line by a run from a net.
+
+ghost use Rattle.std.specs.Prelude.{◌≡◌, ◌≢◌, ℕ, ◌++◌, ◌≤◌, List, length, drop, true, false, IfOk, IfSome, IfNone, IsSomeAnd};
+ghost use Rattle.ol_view.specs.declared.forms.Form.{Form};
+ghost use Rattle.ol_view.specs.EachForm.{header};
+ghost use Rattle.ol_view.specs.Forms.{header_of};
+ghost use Rattle.ol_view.specs.LineReading.{TellsOf};
+ghost use Rattle.ol_replay.specs.Replays.{IsReplay};
+ghost use Rattle.ol_explain.specs.Followed.{Stops};
+
+use ol_diamond::{Rewritten, Weighing};
+use ol_memory::NoMemory;
+use ol_net::Net;
+use ol_replay::Replay;
+use ol_view::{Form, Line, line_at};
+use std::alloc::Global;
+
+/// Why a journal is followed no further.
+#[derive(Clone, Copy)]
+pub enum Stop {
+    /// Its first line isn't one of a journal.
+    NoHeader,
+    /// It ends here, or as many entries as were asked for are made.
+    Good,
+    /// No line of the grammar, by this form, stands here.
+    NoLine { form: Form },
+    /// This line stands here, and isn't one of the run: its pair isn't active, or what was made of
+    /// the pair isn't what the line tells.
+    Otherwise { line: Line, made: Option<Rewritten> },
+}
+
+/// A journal that was followed: the run of its first entries, and where in the text their lines
+/// end.
+#[derive(Drop)]
+pub struct Followed {
+    pub replay: Replay,
+    pub at: usize,
+    pub stop: Stop,
+}
+
+// The form that the first line tells.
+fn form_of(text: &[u8]) -> Option<Form>
+    ensures form { IfSome result (λ form.
+        text.now ≡ header_of form ++ drop (length header) text.now) }
+    ensures none { IfNone result
+        ((form : Form) (rest : List ℕ) → text.now ≢ header_of form ++ rest) }
+{
+    if text.starts_with("ol trace 1\n".as_bytes()) {
+        return Some(Form::One);
+    }
+    if text.starts_with("ol trace 2\n".as_bytes()) {
+        return Some(Form::Two);
+    }
+    None
+}
+
+// Whether the line tells of what was rewritten: of a pair that was active and, in the second form,
+// its rule and its wave.
+fn is_so(line: Line, made: Option<Rewritten>) -> bool
+    ensures so { result ≡ true → IsSomeAnd made (λ of. TellsOf line.told of.rule of.wave) }
+    ensures not { result ≡ false → IfSome made (λ of. TellsOf line.told of.rule of.wave → ⊥) }
+{
+    let Some(made) = made else {
+        return false;
+    };
+    match line.told {
+        Some((rule, wave)) => rule == made.rule && wave == made.wave,
+        None => true,
+    }
+}
+
+/// The run of the first entries of a journal, at most so many: up to the first line that isn't
+/// good. The journal may be of either form. `NoMemory`: no memory was found.
+pub fn follow(alloc: Global, net: &Net, text: &[u8], most: u32) -> Result<Followed, NoMemory>
+    requires small { length net.now.nodes ≤ 200000 }
+    requires most { most ≤ 8000000 }
+    ensures replay { IfOk result (λ f. IsReplay net.now f.replay) }
+    ensures stops { IfOk result (λ f. Stops net.now text.now most f.replay f.at f.stop) }
+{
+    net.is_net();
+    let mut replay = Replay::new(alloc, net)?;
+    let Some(form) = form_of(text) else {
+        let stop = Stop::NoHeader;
+        return Ok(Followed {
+            replay,
+            at: 0,
+            stop,
+        });
+    };
+    let mut weighing = Weighing::new(alloc, net)?;
+    let mut at = 11;
+    while at < text.len() {
+        if replay.journal.len() == most {
+            let stop = Stop::Good;
+            return Ok(Followed { replay, at, stop });
+        }
+        let Some(line) = line_at(form, text, at) else {
+            let stop = Stop::NoLine { form };
+            return Ok(Followed { replay, at, stop });
+        };
+        let made = weighing.rewrite(line.first, line.second)?;
+        if !is_so(line, made) {
+            let stop = Stop::Otherwise { line, made };
+            return Ok(Followed { replay, at, stop });
+        }
+        if !replay.rewrite_named(line.first, line.second)? {
+            unreachable!()
+        }
+        at = line.next;
+    }
+    let stop = Stop::Good;
+    Ok(Followed { replay, at, stop })
+}

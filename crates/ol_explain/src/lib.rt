@@ -1,0 +1,21 @@
+//! What a journal says: how far it is that of a run, the net there, and why it goes no further.
+//!
+//! - `following`: a journal, followed line by line
+//! - `pausing`: the command `after`: the net after the first lines of a journal
+//! - `explaining`: the command `explain`: what a journal is found to be, and why
+//! - `causes`: why a line of a journal isn't one of a run
+//! - `left`: the pairs that are left after a run
+//! - `wanting`: where a line that isn't one of a journal breaks off, and what is wanted there
+//! - `naming`: a net as a text, under the names of a run
+#![tactic(auto)]
+
+mod causes;
+mod explaining;
+mod following;
+mod left;
+mod naming;
+mod pausing;
+mod wanting;
+
+pub use explaining::explained;
+pub use pausing::after;

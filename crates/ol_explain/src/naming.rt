@@ -1,0 +1,156 @@
+//! The text of a net under the names of a run.
+
+ghost use Rattle.std.specs.Prelude.{◌≡◌, ◌++◌, length, IfSome, OnOk, IfOk, string_bytes};
+ghost use Rattle.std.specs.Fmt.{decimal};
+ghost use Rattle.ol_net.specs.Graph.{kind_at, partner_of};
+ghost use Rattle.ol_view.specs.TraceTexts.{name_text};
+ghost use Rattle.ol_explain.specs.NamedTexts.{named_port, named_partner, named_free, named_partners, named_node, named_nodes, named_text};
+ghost use Rattle.ol_replay.specs.Replays.{names_of};
+
+use ol_memory::NoMemory;
+use ol_net::{IndexOf, NodeId, Port};
+use ol_replay::Replay;
+use ol_rules::NodeName;
+use std::alloc::Global;
+use std::fmt;
+
+/// Appends some words.
+pub fn put(text: &mut String, piece: &str) -> Result<(), NoMemory>
+    ensures { OnOk result (string_bytes text.new ≡ string_bytes text.old ++ piece.now) }
+{
+    text.push_str(piece)?;
+    Ok(())
+}
+
+// Appends what is shown.
+fn put_shown<D: fmt::Display>(text: &mut String, shown: &D) -> Result<(), NoMemory>
+    ensures { OnOk result (IfSome (D.output shown.now)
+        (λ bytes. string_bytes text.new ≡ string_bytes text.old ++ bytes)) }
+{
+    write!(text, "{shown}")?;
+    Ok(())
+}
+
+/// Appends a number.
+pub fn put_number(text: &mut String, number: u32) -> Result<(), NoMemory>
+    ensures { OnOk result (string_bytes text.new ≡ string_bytes text.old ++ decimal number) }
+{
+    write!(text, "{number}")?;
+    Ok(())
+}
+
+/// Appends a number.
+pub fn put_long(text: &mut String, number: u64) -> Result<(), NoMemory>
+    ensures { OnOk result (string_bytes text.new ≡ string_bytes text.old ++ decimal number) }
+{
+    write!(text, "{number}")?;
+    Ok(())
+}
+
+/// Appends a name.
+pub fn put_name(text: &mut String, name: NodeName) -> Result<(), NoMemory>
+    ensures { OnOk result (string_bytes text.new ≡ string_bytes text.old ++ name_text name) }
+{
+    match name {
+        NodeName::Init(k) => put_number(text, k),
+        NodeName::Born { ticket, place } => {
+            put_number(text, ticket)?;
+            put(text, ".")?;
+            put_number(text, place as u32)
+        }
+    }
+}
+
+// Appends a port, a slot by the name of its node.
+fn put_port(text: &mut String, replay: &Replay, port: Port) -> Result<(), NoMemory>
+    ensures { OnOk result (string_bytes text.new
+        ≡ string_bytes text.old ++ named_port (names_of replay.now) port) }
+{
+    match port {
+        Port::Free(_) => put_shown(text, &port),
+        Port::Of { node, slot } => {
+            put_name(text, replay.name_of(node))?;
+            put(text, ".")?;
+            put_number(text, slot as u32)
+        }
+    }
+}
+
+// Appends a space and the partner of a port.
+fn put_partner(text: &mut String, replay: &Replay, of: Port) -> Result<(), NoMemory>
+    ensures { OnOk result (string_bytes text.new ≡ string_bytes text.old
+        ++ named_partner (names_of replay.now) (partner_of replay.now.net of)) }
+{
+    if let Some(partner) = replay.net.partner(of) {
+        put(text, " ")?;
+        put_port(text, replay, partner)?;
+    }
+    Ok(())
+}
+
+fn put_free_ports(text: &mut String, replay: &Replay) -> Result<(), NoMemory>
+    ensures { OnOk result (string_bytes text.new ≡ string_bytes text.old
+        ++ named_free (names_of replay.now) replay.now.net replay.now.net.free) }
+{
+    for k in 0..replay.net.free_ports() {
+        put_shown(text, &Port::Free(k))?;
+        put_partner(text, replay, Port::Free(k))?;
+        put(text, "\n")?;
+    }
+    Ok(())
+}
+
+fn put_partners(text: &mut String, replay: &Replay, node: NodeId, slots: u8) -> Result<(), NoMemory>
+    ensures { OnOk result (string_bytes text.new ≡ string_bytes text.old
+        ++ named_partners (names_of replay.now) replay.now.net node.0 slots) }
+{
+    for slot in 0..slots {
+        put_partner(text, replay, Port::Of { node, slot })?;
+    }
+    Ok(())
+}
+
+// Appends the line of a node, if it is live.
+fn put_node(text: &mut String, replay: &Replay, node: NodeId) -> Result<(), NoMemory>
+    ensures { OnOk result (string_bytes text.new ≡ string_bytes text.old ++ named_node
+        (names_of replay.now) replay.now.net node.0 (kind_at replay.now.net.nodes node.0)) }
+{
+    let Some((kind, index)) = replay.net.kind_of(node) else {
+        return Ok(());
+    };
+    put_name(text, replay.name_of(node))?;
+    put(text, " ")?;
+    put_shown(text, &kind)?;
+    put(text, " ")?;
+    put_shown(text, &IndexOf { kind, index })?;
+    put_partners(text, replay, node, kind.slots())?;
+    put(text, "\n")?;
+    Ok(())
+}
+
+fn put_nodes(text: &mut String, replay: &Replay) -> Result<(), NoMemory>
+    ensures { OnOk result (string_bytes text.new ≡ string_bytes text.old
+        ++ named_nodes (names_of replay.now) replay.now.net (length replay.now.net.nodes)) }
+{
+    for n in 0..replay.net.born() {
+        put_node(text, replay, NodeId(n))?;
+    }
+    Ok(())
+}
+
+/// The text of the last net of a run: as `ol view` prints a net, with names in place of numbers. A
+/// name is the number of a start node, or `ticket.place` of one that was born, and a slot is
+/// written behind it with a dot. The nodes stand in the order of their names. `NoMemory`: no memory
+/// was found.
+pub fn named_net(alloc: Global, replay: &Replay) -> Result<Vec<u8>, NoMemory>
+    ensures { IfOk result (λ text.
+        text.items ≡ named_text (names_of replay.now) replay.now.net) }
+{
+    let mut text = String::new(alloc);
+    put(&mut text, "nodes ")?;
+    put_number(&mut text, replay.net.nodes())?;
+    put(&mut text, "\n")?;
+    put_free_ports(&mut text, replay)?;
+    put_nodes(&mut text, replay)?;
+    Ok(text.into_bytes())
+}

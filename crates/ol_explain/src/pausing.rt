@@ -1,0 +1,116 @@
+//! The command `after`: the net after the first lines of a journal.
+
+ghost use Rattle.std.specs.Prelude.{◌≡◌, ◌≤◌, length, IfOk};
+ghost use Rattle.ol_view.specs.Laws.{IsTable};
+ghost use Rattle.ol_explain.specs.Afters.{IsAfter, IsAfterOf, line_with, shown_text};
+ghost use Rattle.ol_replay.specs.Replays.{names_of};
+ghost use Rattle.ol_subjects.specs.Subjects.{most_bytes};
+
+use crate::following::{Stop, follow};
+use crate::naming::named_net;
+use ol_memory::NoMemory;
+use ol_net::Net;
+use ol_replay::Replay;
+use ol_subjects::{Answer, End, NetRead, Subject, put, put_number, read_subject};
+use std::alloc::Global;
+
+// The answer that there is nothing to show: these words and a number.
+fn nothing(alloc: Global, words: &str, number: u32) -> Result<Answer, NoMemory>
+    ensures text { IfOk result (λ a. a.text.items ≡ line_with words.now number) }
+    ensures end { IfOk result (λ a. a.end ≡ End.Nothing) }
+{
+    let mut text = Vec::new(alloc);
+    put(&mut text, words.as_bytes())?;
+    put_number(alloc, &mut text, number as u64)?;
+    put(&mut text, b"\n")?;
+    let end = End::Nothing;
+    Ok(Answer { text, end })
+}
+
+// The last net of a run, behind the number of its steps.
+fn shown(alloc: Global, replay: &Replay) -> Result<Answer, NoMemory>
+    ensures text { IfOk result (λ a. a.text.items ≡ shown_text (names_of replay.now)
+        (length replay.now.journal) replay.now.net) }
+    ensures end { IfOk result (λ a. a.end ≡ End.Yes) }
+    ensures tabled { IsTable replay.now.net }
+{
+    replay.net.is_tabled();
+    let net = named_net(alloc, replay)?;
+    let mut text = Vec::new(alloc);
+    put(&mut text, b"step ")?;
+    put_number(alloc, &mut text, replay.journal.len() as u64)?;
+    put(&mut text, b"\n")?;
+    put(&mut text, &net)?;
+    let end = End::Yes;
+    Ok(Answer { text, end })
+}
+
+// The net after so many lines.
+fn of_net(alloc: Global, net: &Net, journal: &[u8], lines: u32) -> Result<Answer, NoMemory>
+    requires few { length net.now.nodes ≤ 200000 }
+    requires lines { (1 ≤ lines) × (lines ≤ 8000001) }
+    ensures { IfOk result (λ a. IsAfterOf net.now journal.now lines a.text.items a.end) }
+{
+    let followed = follow(alloc, net, journal, lines - 1)?;
+    match followed.stop {
+        Stop::NoHeader => {
+            let answer = nothing(alloc, "bad text at line ", 1)?;
+            Ok(answer)
+        }
+        Stop::Good => {
+            let has = followed.replay.journal.len() + 1;
+            if has == lines {
+                let answer = shown(alloc, &followed.replay)?;
+                return Ok(answer);
+            }
+            let answer = nothing(alloc, "the last line is line ", has)?;
+            Ok(answer)
+        }
+        Stop::NoLine { .. } => {
+            let line = followed.replay.journal.len() + 2;
+            let answer = nothing(alloc, "bad text at line ", line)?;
+            Ok(answer)
+        }
+        Stop::Otherwise { .. } => {
+            let bad = followed.replay.journal.len() + 2;
+            let answer = nothing(alloc, "not a run at line ", bad)?;
+            Ok(answer)
+        }
+    }
+}
+
+/// The net after the first lines of a journal, as `ol view` shows a net, under the journal's names:
+/// a number for a start node, and `ticket.place` for one that was born. Lines are numbered as
+/// `ol check` numbers them, from 1: so line 1 is followed by the first net. There are at most
+/// 8,000,001 lines, and the later ones aren't read.
+///
+/// - `Yes`: the net.
+/// - `Nothing`: one of these lines is no line of a journal, or isn't one of a run, as `ol check`
+///   says; or the journal has fewer lines.
+/// - `Refused`: `ol` refuses the file, by this line.
+///
+/// The file has at most 1,048,576 bytes with a term, and 33,554,432 with a net. `NoMemory`: no
+/// memory was found.
+pub fn after(
+    alloc: Global,
+    bytes: &[u8],
+    journal: &[u8],
+    subject: Subject,
+    lines: u32,
+) -> Result<Answer, NoMemory>
+    requires short { length bytes.now ≤ most_bytes subject }
+    requires lines { (1 ≤ lines) × (lines ≤ 8000001) }
+    ensures { IfOk result (λ a.
+        IsAfter bytes.now journal.now lines a.text.items subject a.end) }
+{
+    match read_subject(alloc, bytes, subject)? {
+        NetRead::Refused(text) => {
+            let end = End::Refused;
+            Ok(Answer { text, end })
+        }
+        NetRead::Net(net) => {
+            let answer = of_net(alloc, &net, journal, lines)?;
+            Ok(answer)
+        }
+    }
+}
