@@ -1,8 +1,2 @@
 pub mod Blanks
-pub mod Tables
-pub mod Walking
-pub mod OneNet
-pub mod Renumbered
-pub mod Seeking
-pub mod Trying
 pub mod Onward

@@ -13,7 +13,7 @@ use Rattle.ol_orders.specs.Tables.{IsCounted}
 use Rattle.ol_orders.specs.Orders.{IsJournal}
 use Rattle.ol_explain.specs.Afters.{IsAfter}
 use Rattle.ol_explain.specs.Explained.{IsExplained}
-use Rattle.ol_bench.specs.Same.{IsSame}
+use Rattle.ol_same.specs.Same.{IsSame}
 
 -- the name of the file, the first one where there are two
 abbrev pub name_of : Asked → List ℕ

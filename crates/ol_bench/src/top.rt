@@ -8,12 +8,12 @@ ghost use Rattle.ol_subjects.specs.Subjects.{most_bytes};
 ghost use Rattle.ol_bench.specs.Statuses.{status_number};
 ghost use Rattle.ol_bench.specs.Writing.{Told, WritesAnswer, change_of};
 
-use crate::comparing::same;
 use crate::placing::whereabouts;
 use ol_explain::{after, explained};
 use ol_io::{ReadAll, Sink, Source, Written, read_all, write_all};
 use ol_memory::NoMemory;
 use ol_orders::{Bounds, Order, counted, journal, steps};
+use ol_same::same;
 use ol_subjects::{Answer, End, Subject, put};
 use std::alloc::Global;
 

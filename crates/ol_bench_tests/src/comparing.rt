@@ -1,7 +1,7 @@
 //! Two nets that are one up to the numbers of their nodes, and two that aren't.
 ghost use Rattle.std.specs.Prelude.{◌≤◌, length};
 
-use ol_bench::same;
+use ol_same::same;
 use ol_subjects::End;
 use std::alloc::Global;
 use std::process::Abort;
