@@ -1,15 +1,16 @@
 //! What a ticket is drawn for.
-ghost use Rattle.std.specs.Prelude.{◌≡◌, ◌+◌, ◌*◌, ◌<◌, ◌≤◌, None, Some, MatchOption, slice_index};
+ghost use Rattle.std.specs.Prelude.{◌≡◌, ◌+◌, ◌*◌, ◌<◌, ◌≤◌, None, Some, MatchOption, IsTrue, IsFalse, slice_index};
+ghost use Rattle.ol_net.specs.Rules.{rule_of};
 ghost use Rattle.ol_rules.specs.Rewriting.{is_meeting, index_after};
 ghost use Rattle.ol_wire.specs.References.{kind_in, index_in, place_in};
-ghost use Rattle.ol_wire.specs.Events.{rule_between, event_of, earlier, later, IsStuckPair};
+ghost use Rattle.ol_wire.specs.Events.{event_of, earlier, later, IsStuckPair};
 ghost use Rattle.ol_wire.specs.Blocks.{copies_of_f, copies_of_g};
 ghost use Rattle.ol_wire.specs.LinkLists.{joins_in};
 ghost use Rattle.ol_wire.specs.Credit.{active_in};
 ghost use Rattle.ol_wire.specs.Rewrites.{event_for, IsRewriteFor};
 
 use crate::reference::{index_in, kind_in, place_in};
-use ol_net::{Rule, rule_of};
+use ol_net::{Kind, Rule, rule_of};
 use ol_rules::is_meeting;
 
 /// The rewrite of two nodes, by their references. The one that acts comes first.
@@ -20,25 +21,47 @@ pub(crate) struct Rewrite {
     pub(crate) g: u64,
 }
 
-/// The rule of two nodes, the first of which acts.
-fn rule_between(f: u64, g: u64) -> Option<Rule>
-    ensures { result ≡ rule_between f g }
+/// The kind and the index of a node.
+fn node_in(reference: u64) -> (Kind, u32)
+    ensures { result ≡ (kind_in reference, index_in reference) }
 {
-    rule_of((kind_in(f), index_in(f)), (kind_in(g), index_in(g)))
+    (kind_in(reference), index_in(reference))
+}
+
+/// Of two nodes that face each other, whether the first one acts, if one does. An eraser acts on
+/// any node, and else the one of the lower index acts.
+fn acts_first(one: (Kind, u32), two: (Kind, u32)) -> bool
+    ensures one { IsTrue result → rule_of one.0 one.1 two.0 two.1 ≡ None
+        → rule_of two.0 two.1 one.0 one.1 ≡ None }
+    ensures two { IsFalse result → rule_of one.0 one.1 two.0 two.1 ≡ None }
+{
+    if one.0.is_eraser() {
+        return true;
+    }
+    if two.0.is_eraser() {
+        return false;
+    }
+    one.1 <= two.1
 }
 
 /// The rewrite of two nodes that face each other, whichever of them acts, if they have a rule.
+#[inline(always)]
 pub(crate) fn rewrite_of(left: u64, right: u64) -> Option<Rewrite>
     ensures { MatchOption result (IsStuckPair left right) (IsRewriteFor left right) }
 {
-    if let Some(rule) = rule_between(left, right) {
-        return Some(Rewrite {
-            rule,
-            f: left,
-            g: right,
-        });
+    let one = node_in(left);
+    let two = node_in(right);
+    if acts_first(one, two) {
+        return match rule_of(one, two) {
+            Some(rule) => Some(Rewrite {
+                rule,
+                f: left,
+                g: right,
+            }),
+            None => None,
+        };
     }
-    match rule_between(right, left) {
+    match rule_of(two, one) {
         Some(rule) => Some(Rewrite {
             rule,
             f: right,
@@ -50,6 +73,7 @@ pub(crate) fn rewrite_of(left: u64, right: u64) -> Option<Rewrite>
 
 /// Whether a pair is active, as a number: 1 where one of its nodes has a rule with the other. Where
 /// the left reference is empty there is no pair.
+#[inline(always)]
 pub(crate) fn active_in(left: u64, right: u64) -> u32
     ensures active { result ≡ active_in left right }
     ensures small { result ≤ 1 }
@@ -57,12 +81,16 @@ pub(crate) fn active_in(left: u64, right: u64) -> u32
     if left == 0 {
         return 0;
     }
-    match rule_between(left, right) {
+    let one = node_in(left);
+    let two = node_in(right);
+    let rule = if acts_first(one, two) {
+        rule_of(one, two)
+    } else {
+        rule_of(two, one)
+    };
+    match rule {
         Some(_) => 1,
-        None => match rule_between(right, left) {
-            Some(_) => 1,
-            None => 0,
-        },
+        None => 0,
     }
 }
 
