@@ -16,21 +16,21 @@ impl Parts {
         requires { IsSmall self }
         ensures { result ≡ name_at self place }
     {
+        let blocks = self.block(0);
+        if blocks <= place {
+            let ticket = (place - blocks) / BLOCK;
+            let j = place - blocks - BLOCK * ticket;
+            if ticket < self.fuel && 2 <= j && j < 10 {
+                return NodeName::Born {
+                    ticket,
+                    place: ((j - 2) / 2) as u8,
+                };
+            }
+            return NodeName::Init(0);
+        }
         let nodes = self.start_node(0);
         if nodes <= place && place < self.start_wire(0) {
             return NodeName::Init((place - nodes) / 2);
-        }
-        let blocks = self.block(0);
-        if blocks <= place && place < self.size() {
-            let ticket = (place - blocks) / BLOCK;
-            let j = (place - blocks) % BLOCK;
-            if 2 <= j && j < 10 {
-                let at = (j - 2) / 2;
-                return NodeName::Born {
-                    ticket,
-                    place: at as u8,
-                };
-            }
         }
         NodeName::Init(0)
     }
