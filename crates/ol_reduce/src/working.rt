@@ -1,5 +1,5 @@
 //! What a worker does: it takes cells from the pool and makes turns on them, and where no cell
-//! waits, it goes round over all cells and asks whether all is done.
+//! waits, it asks whether all is done, and from time to time goes round over all cells.
 ghost use Rattle.std.specs.Prelude.{◌≡◌, ◌==◌, ℕ, List, [], ◌∷◌, ◌+◌, ◌/◌, ◌%◌, ◌^◌, ◌<◌, ◌≤◌, true, false, None, Some, IsTrue, IsFalse};
 ghost use Rattle.ol_pool.specs.Pools.{IsHandOf as IsOfPool};
 ghost use Rattle.ol_wire.specs.Layout.{cells_of};
@@ -21,11 +21,12 @@ use ol_wire::{Shared, Turn};
 use std::sync::Wait;
 
 /// Takes cells from the pool and makes a turn on each, up to the first that answers `Spent`. Where
-/// no cell waits, it makes turns on the next 64 cells of its own round over all cells, so that a
-/// pair whose cell the pool refused is found too. Then it asks `quiet`, ends where that is true,
-/// and else pauses and tries again. A cell in which a turn published a pair is put into the pool.
-/// Where a turn answers `Spent` its pair stays, and the pool gets a hint of its cell: there the
-/// rounds of the other workers go on, so that each soon finds that the fuel is used up.
+/// no cell waits, it asks `quiet`, ends where that is true, and else pauses and tries again. Each
+/// 64th time it makes turns on the next 64 cells of its own round over all cells before it asks, so
+/// that a pair whose cell the pool refused is found too. A cell in which a turn published a pair is
+/// put into the pool. Where a turn answers `Spent` its pair stays, and the pool gets a hint of its
+/// cell: there the rounds of the other workers go on, and each time, so that each soon finds that
+/// the fuel is used up.
 ///
 /// - `Spent` comes only where its last turn answered `Spent`.
 /// - `Quiet` comes only where `quiet` answered true for its seat at the end of the call, which
@@ -73,11 +74,18 @@ pub fn worker<R: Wait, G: Gate>(
     unreachable!()
 }
 
-// How far a worker is in its call: how many turns it made, where its round goes on, and how long it
-// pauses.
+// How often a worker finds no cell until a part of its round is due.
+const WAITS_A_ROUND: u32 = 64;
+
+// How often in a row a worker without a cell pauses.
+const PAUSES: u32 = 16;
+
+// How far a worker is in its call: how many turns it made, how often no cell waited, where its
+// round goes on, and how long it pauses.
 #[derive(Drop)]
 pub(crate) struct Pace {
     turns: u64,
+    waits: u32,
     next: u32,
     pause: Backoff,
 }
@@ -88,15 +96,27 @@ impl Pace {
     fn new(number: u32) -> Pace {
         Pace {
             turns: 0,
+            waits: 0,
             next: number.wrapping_mul(0x9E37_79B9),
             pause: Backoff::new(),
         }
     }
 
-    // The round goes on from the cell that the pool has a hint of, if there is one.
-    fn follow_hint(&mut self, pool: &Pool) {
+    // Whether a part of the round is due where no cell waits. It is each time where the pool has a
+    // hint of a cell, from that cell on.
+    fn is_round_due(&mut self, pool: &Pool) -> bool {
         if let Some(cell) = pool.hinted() {
             self.next = cell;
+            return true;
+        }
+        self.waits = self.waits.wrapping_add(1);
+        self.waits % WAITS_A_ROUND == 0
+    }
+
+    // Pauses, so that one who has no cell seldom disturbs those who have.
+    fn rest(&self) {
+        for _ in 0..PAUSES {
+            self.pause.snooze();
         }
     }
 
@@ -113,8 +133,8 @@ impl Pace {
     }
 }
 
-// A turn on a cell that waits, or else, where no cell waits, a part of the round and a look whether
-// all is done.
+// A turn on a cell that waits, or else, where no cell waits, a part of the round if it is due, and a
+// look whether all is done.
 fn go_on<G: Gate>(
     shared: &Shared,
     pool: &Pool,
@@ -149,13 +169,32 @@ fn wait_on<G: Gate>(
     ensures kept { HasKept shared.now pool.now own.old own.new }
     ensures goes { GoesOn shared.now own.old.seat result own.new }
 {
-    pace.follow_hint(pool);
-    if go_round(shared, pool, own, gate, pace) {
+    if go_round_if_due(shared, pool, own, gate, pace) {
         return Some(End::Spent);
     }
     let end = ask(shared, own);
-    pace.pause.snooze();
+    pace.rest();
     end
+}
+
+// Makes a part of the round if it is due. Tells whether its last turn answered Spent.
+fn go_round_if_due<G: Gate>(
+    shared: &Shared,
+    pool: &Pool,
+    own: &mut Worker,
+    gate: &G,
+    pace: &mut Pace,
+) -> bool
+    requires work { IsAtWork shared.now pool.now own.old }
+    ensures kept { HasKept shared.now pool.now own.old own.new }
+    ensures missed { own.new.hand.missed ≡ own.old.hand.missed }
+    ensures goes { Goes shared.now own.old.seat result own.new.seat }
+{
+    if pace.is_round_due(pool) {
+        go_round(shared, pool, own, gate, pace)
+    } else {
+        false
+    }
 }
 
 // Asks whether no active pair is left.

@@ -7,11 +7,11 @@ pub returns-clause-kept : goal.returns-clause-kept
 returns-clause-kept g c =
     let b = c.args.shared.now in
     let p = c.args.pool.now in
-    kept_on b p c.args.own.now c.go_round.new.own c.ask-end.new.own c.go_round.ensures.kept
-    (kept_asked b p c.go_round.new.own c.ask-end.new.own c.ask-end.result c.ask-end.ensures.seat
-    c.go_round.ensures.kept.hand c.ask-end.ensures.hand c.ask-end.ensures.number c.ask-end.ensures.asked)
+    kept_on b p c.args.own.now c.go_round_if_due.new.own c.ask-end.new.own c.go_round_if_due.ensures.kept
+    (kept_asked b p c.go_round_if_due.new.own c.ask-end.new.own c.ask-end.result c.ask-end.ensures.seat
+    c.go_round_if_due.ensures.kept.hand c.ask-end.ensures.hand c.ask-end.ensures.number c.ask-end.ensures.asked)
 
 pub returns-clause-goes : goal.returns-clause-goes
-returns-clause-goes g c = asked_on c.args.shared.now c.args.own.now.seat c.go_round.new.own.seat
-    c.ask-end.new.own c.ask-end.result c.if-go_round.ensures.goes c.ask-end.ensures.asked
-    (ap (λ (h : HandState). h.missed) c.ask-end.ensures.hand ∙ c.go_round.ensures.missed ∙ c.requires.missed)
+returns-clause-goes g c = asked_on c.args.shared.now c.args.own.now.seat c.go_round_if_due.new.own.seat
+    c.ask-end.new.own c.ask-end.result c.if-go_round_if_due.ensures.goes c.ask-end.ensures.asked
+    (ap (λ (h : HandState). h.missed) c.ask-end.ensures.hand ∙ c.go_round_if_due.ensures.missed ∙ c.requires.missed)
