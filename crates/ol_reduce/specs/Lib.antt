@@ -4,7 +4,9 @@ pub mod Turned
 pub mod Worked
 pub mod Working
 pub mod Reduced
+pub mod Counted
 -- What only contracts of private functions and proofs cite.
+pub mod OnceFrozen
 pub mod Following
 pub mod Drafts
 pub mod Left

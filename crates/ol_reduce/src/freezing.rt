@@ -29,14 +29,23 @@ use std::alloc::Global;
 pub fn freeze(alloc: Global, words: &Words) -> Result<Net, NoMemory>
     ensures frozen { IfOk result (λ g. EachAfter words.now (λ net. IsFrozen net g)) }
 {
-    let blocks = words.blocks(alloc)?;
-    let journal = words.journal_by(alloc, &blocks.pairs)?;
-    let net = freeze_by(alloc, words, &blocks, &journal)?;
+    let (net, _journal) = freeze_with_journal(alloc, words)?;
     Ok(net)
 }
 
-/// The same, by what the blocks hold and by the journal, so that neither is looked for again.
-pub(crate) fn freeze_by(
+/// The same, with the journal of the words, which the net is made by.
+pub(crate) fn freeze_with_journal(alloc: Global, words: &Words) -> Result<(Net, Journal), NoMemory>
+    ensures frozen { IfOk result (λ r. EachAfter words.now (λ net. IsFrozen net r.0)) }
+    ensures journal { IfOk result (λ r. r.1 ≡ journal_drawn words.now) }
+{
+    let blocks = words.blocks(alloc)?;
+    let journal = words.journal_by(alloc, &blocks.pairs)?;
+    let net = freeze_by(alloc, words, &blocks, &journal)?;
+    Ok((net, journal))
+}
+
+// The same, by what the blocks hold and by the journal, so that neither is looked for again.
+fn freeze_by(
     alloc: Global,
     words: &Words,
     blocks: &Blocks,

@@ -2,6 +2,7 @@
 //! is left, a pass over all cells, and the net that the words of a closed table stand for.
 //!
 //! - `reducing`: a net rewritten by any number of workers
+//! - `counting`: the same for a caller who doesn't read the journal
 //! - `gathering`: from seats to workers and back, and the work of all of them
 //! - `workers`: a worker: a seat at the table, and a hand in the pool
 //! - `working`: what a worker does
@@ -17,6 +18,7 @@
 
 mod answers;
 mod chains;
+mod counting;
 mod draft;
 mod freezing;
 mod gathering;
@@ -29,6 +31,7 @@ mod workers;
 mod working;
 
 pub use answers::{End, Sweep, turns_tell};
+pub use counting::{Counted, reduce_counted};
 pub use freezing::freeze;
 pub use reduced::Reduced;
 pub use reducing::reduce;

@@ -2,16 +2,18 @@
 ghost use Rattle.std.specs.Prelude.{◌≡◌, ◌<◌, ◌≤◌, length, is_some, count_by, IfOk, ◌↔◌};
 ghost use Rattle.ol_wire.specs.Closed.{journal_drawn};
 ghost use Rattle.ol_wire.specs.Sizes.{IsSmallNet};
-ghost use Rattle.ol_reduce.specs.Reduced.{EndsWithin, IsDoneAnswer, Reduces};
+ghost use Rattle.ol_reduce.specs.OnceFrozen.{IsDoneOnceFrozen};
+ghost use Rattle.ol_reduce.specs.Reduced.{EndsWithin, IsDoneAnswer, IsSpent, Reduces};
 
 use crate::answers::End;
-use crate::freezing::freeze_by;
+use crate::freezing::freeze_with_journal;
 use crate::gathering::run_workers;
 use crate::reduced::Reduced;
 use ol_diamond::one_thread_agrees;
 use ol_io::Gate;
 use ol_memory::NoMemory;
 use ol_net::Net;
+use ol_wire::Words;
 use std::alloc::Global;
 use std::sync::Wait;
 use std::thread::Threads;
@@ -45,23 +47,49 @@ pub fn reduce<R: Threads + Wait + Sync, G: Gate + Sync>(
     ensures reduced { IfOk result (λ r. Reduces net.now fuel workers r) }
     ensures done { IfOk result (λ r. IsDoneAnswer r ↔ EndsWithin net.now fuel) }
 {
-    one_thread_agrees();
-    net.is_net();
-    let (words, end) = run_workers(rt, alloc, net, workers, fuel, gate)?;
-    words.runs();
-    words.over();
-    words.settled();
-    let blocks = words.blocks(alloc)?;
-    let journal = words.journal_by(alloc, &blocks.pairs)?;
+    let (words, end) = reduce_words(rt, alloc, net, workers, fuel, gate)?;
     match end {
         End::Quiet => {
-            let last = freeze_by(alloc, &words, &blocks, &journal)?;
+            let (last, journal) = freeze_with_journal(alloc, &words)?;
             Ok(Reduced::Done {
                 net: last,
                 journal,
                 words,
             })
         }
-        End::Spent => Ok(Reduced::Spent { journal, words }),
+        End::Spent => {
+            let journal = words.whole_journal(alloc)?;
+            Ok(Reduced::Spent { journal, words })
+        }
     }
+}
+
+/// The closed words of the net that the workers have rewritten, and how their work ended: with
+/// `Quiet` exactly where the one-thread run has at most `fuel` steps.
+///
+/// `NoMemory`: there was no memory for the words, the pool or the workers.
+pub(crate) fn reduce_words<R: Threads + Wait + Sync, G: Gate + Sync>(
+    rt: &R,
+    alloc: Global,
+    net: &Net,
+    workers: u32,
+    fuel: u32,
+    gate: &G,
+) -> Result<(Words, End), NoMemory>
+    requires whole { count_by is_some net.now.nodes ≡ length net.now.nodes }
+    requires small { IsSmallNet net.now }
+    requires fuel { fuel ≤ 8000000 }
+    requires workers { (0 < workers) × (workers ≤ 64) }
+    ensures quiet { IfOk result (λ r. r.1 ≡ End.Quiet → IsDoneOnceFrozen net.now fuel workers r.0) }
+    ensures spent { IfOk result (λ r. r.1 ≡ End.Spent →
+        IsSpent net.now fuel workers (journal_drawn r.0) r.0) }
+    ensures ends { IfOk result (λ r. (r.1 ≡ End.Quiet) ↔ EndsWithin net.now fuel) }
+{
+    one_thread_agrees();
+    net.is_net();
+    let (words, end) = run_workers(rt, alloc, net, workers, fuel, gate)?;
+    words.runs();
+    words.over();
+    words.settled();
+    Ok((words, end))
 }
