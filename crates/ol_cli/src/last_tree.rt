@@ -11,7 +11,7 @@ use ol_io::Gate;
 use ol_memory::NoMemory;
 use ol_net::Net;
 use ol_readback::{ReadTree, read_back};
-use ol_reduce::{Reduced, reduce};
+use ol_reduce::{Counted, reduce_counted};
 use std::alloc::Global;
 use std::sync::Wait;
 use std::thread::Threads;
@@ -37,10 +37,10 @@ pub fn last_tree<R: Threads + Wait + Sync, G: Gate + Sync>(
     ensures names { IfOk result (λ tree. IfSome tree (AreNamed (net.now.free - 1))) }
 {
     net.is_net();
-    let reduced = reduce(rt, alloc, net, numbers.workers, numbers.fuel, gate)?;
+    let reduced = reduce_counted(rt, alloc, net, numbers.workers, numbers.fuel, gate)?;
     match reduced {
-        Reduced::Spent { .. } => Ok(None),
-        Reduced::Done { net: last, .. } => {
+        Counted::Spent { .. } => Ok(None),
+        Counted::Done { net: last, .. } => {
             last.is_net();
             let tree = read_back(alloc, &last, numbers.heads, 2 * last.nodes() as u64)?;
             Ok(Some(tree))

@@ -22,8 +22,8 @@ use ol_io::{Gate, Source};
 use ol_memory::NoMemory;
 use ol_net::Net;
 use ol_netfile::{fault_text, read_net, stuck_text, write_net};
-use ol_reduce::{Reduced, reduce};
-use ol_rules::{Counts, counts};
+use ol_reduce::{Counted, reduce_counted};
+use ol_rules::Counts;
 use ol_term::Translation;
 use std::alloc::Global;
 use std::sync::Wait;
@@ -140,14 +140,14 @@ fn rewrite<R: Threads + Wait + Sync, G: Gate + Sync>(
     ensures closed { IfOk result (λ a. a.closed ≡ None) }
 {
     net.is_net();
-    match reduce(rt, alloc, net, workers, fuel, gate)? {
-        Reduced::Spent { .. } => {
+    match reduce_counted(rt, alloc, net, workers, fuel, gate)? {
+        Counted::Spent { .. } => {
             let text = spent_line(alloc, fuel)?;
             Ok(Answer::text_alone(text, Status::Spent))
         }
-        Reduced::Done {
+        Counted::Done {
             net: last,
-            journal,
+            counts,
             ..
         } => {
             last.is_net();
@@ -157,7 +157,7 @@ fn rewrite<R: Threads + Wait + Sync, G: Gate + Sync>(
                 let text = count_line(alloc, "limit nodes", MOST_NODES)?;
                 return Ok(Answer::text_alone(text, Status::Limit));
             }
-            let text = net_lines(alloc, &last, counts(&journal), stuck)?;
+            let text = net_lines(alloc, &last, counts, stuck)?;
             Ok(Answer::text_alone(text, Status::Done))
         }
     }

@@ -15,8 +15,7 @@ use ol_io::{Gate, Source};
 use ol_memory::NoMemory;
 use ol_net::Net;
 use ol_readback::{read_back, tree_text};
-use ol_reduce::{Reduced, reduce};
-use ol_rules::counts;
+use ol_reduce::{Counted, reduce_counted};
 use ol_term::TermFile;
 use std::alloc::Global;
 use std::sync::Wait;
@@ -70,9 +69,9 @@ pub fn run_net<R: Threads + Wait + Sync, G: Gate + Sync>(
         HandsOfTerm (run_by numbers) file.now a.status a.text.items a.closed) }
 {
     net.is_net();
-    let reduced = reduce(rt, alloc, net, numbers.workers, numbers.fuel, gate)?;
+    let reduced = reduce_counted(rt, alloc, net, numbers.workers, numbers.fuel, gate)?;
     match reduced {
-        Reduced::Spent { journal: _, words } => {
+        Counted::Spent { words } => {
             words.once();
             let text = spent_line(alloc, numbers.fuel)?;
             let status = Status::Spent;
@@ -83,16 +82,16 @@ pub fn run_net<R: Threads + Wait + Sync, G: Gate + Sync>(
                 closed,
             })
         }
-        Reduced::Done {
+        Counted::Done {
             net: last,
-            journal,
+            counts,
             words,
         } => {
             words.once();
             last.is_net();
             let tree = read_back(alloc, &last, numbers.heads, 2 * last.nodes() as u64)?;
             let term = tree_text(alloc, &tree, &file.names)?;
-            let text = answer_lines(alloc, &term, counts(&journal), last.stuck())?;
+            let text = answer_lines(alloc, &term, counts, last.stuck())?;
             let status = Status::Done;
             let closed = Some(words);
             Ok(Answer {
