@@ -23,14 +23,14 @@ after_first n tree names faults mid faults' given contents then ended name st te
     (subst (λ k. EndsSecond n tree names (seen mid faults' k given ended) name st text) d h)
 
 abbrev pub has_tree : (n : RunNumbers) (bytes : List ℕ) (names : List (List ℕ))
-    (tree : List ReadNode) → IsReadOf n bytes names tree → HasTree n.translation bytes n.fuel n.heads
+    (tree : List ReadNode) → IsReadOf n bytes names tree → HasTree n.translation bytes n.fuel.most n.heads.most
 has_tree n bytes names tree r = record { term = r.term; names = names; tree = tree; file = r.file; read = r.read }
 
 both_cause : (n : RunNumbers) (s : Seen) (first second : Text) (bytes : List ℕ)
     (names : List (List ℕ)) (tree : List ReadNode) (st : Status) (text : List ℕ) →
     IsAllOf (s.contents 0 first) bytes → IsReadOf n bytes names tree →
     EndsSecond n tree names (on_second s) second st text →
-    JobCause s st text (jobs.Equal n.translation n.workers n.fuel n.heads first second)
+    JobCause s st text (jobs.Equal n.translation n.workers.count n.fuel.most n.heads.most first second)
 both_cause n s first second bytes names tree st text whole r (refused isnt c) = by_second whole
     (has_tree n bytes names tree r) isnt c
 both_cause n s first second bytes names tree st text whole r
@@ -43,7 +43,7 @@ pub second_cause : (n : RunNumbers) (first second : Text) (bytes : List ℕ) (na
     mid ≡ faults → then ≡ (λ n. contents (n + 1)) → IsAllOf (contents 0 first) bytes →
     IsReadOf n bytes names tree → EndsSecond n tree names (seen mid faults' then given ended) second st text →
     JobCause (seen faults faults' contents given ended) st text
-    (jobs.Equal n.translation n.workers n.fuel n.heads first second)
+    (jobs.Equal n.translation n.workers.count n.fuel.most n.heads.most first second)
 second_cause n first second bytes names tree faults mid faults' given contents then ended st text e d whole r h =
     both_cause n (seen faults faults' contents given ended) first second bytes names tree st text
     whole r (after_first n tree names faults mid faults' given

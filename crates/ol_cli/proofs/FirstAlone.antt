@@ -26,13 +26,13 @@ all_of told all bytes e whole = sym (rw e at whole)
 pub read_first : (n : RunNumbers) (first second : Text) (files : Text → Option (List ℕ))
     (bytes : List ℕ) (names : List (List ℕ)) (tree : List ReadNode) → IsAllOf (files first) bytes →
     IsReadOf n bytes names tree →
-    RefusesFirst files (equal n.translation n.workers n.fuel n.heads first second) → ⊥
+    RefusesFirst files (equal n.translation n.workers.count n.fuel.most n.heads.most first second) → ⊥
 read_first n first second files bytes names tree whole r (all, told, (st, text, isnt, h)) =
     let same = all_of (files first) all bytes told whole in
-    let h' = subst (λ b. FileAnswer (run n.translation n.workers n.fuel n.heads first) b st text) same h in
-    isnt (read_file n.translation n.workers n.fuel n.heads first bytes
+    let h' = subst (λ b. FileAnswer (run n.translation n.workers.count n.fuel.most n.heads.most first) b st text) same h in
+    isnt (read_file n.translation n.workers.count n.fuel.most n.heads.most first bytes
     (has_tree n bytes names tree r) st text
-    (of_file_answer (run n.translation n.workers n.fuel n.heads first) bytes st text h'))
+    (of_file_answer (run n.translation n.workers.count n.fuel.most n.heads.most first) bytes st text h'))
 
 -- the first file of `check` is a term file, so it isn't refused
 pub term_first : (tr : Translation) (term journal : Text) (files : Text → Option (List ℕ))

@@ -56,7 +56,7 @@ use Rattle.ol_cli.proofs.StartNet.{start_net_is_fit, is_less}
 use Rattle.ol_cli.proofs.EveryRun.{every_run_prints, every_run_is_longer}
 use Rattle.ol_cli.proofs.OneAnswer.{file_net, file_names, one_job, own_job}
 use Rattle.ol_cli.proofs.Exact.{ends_exact}
-use Rattle.ol_cli.specs.Limits.{plain_fuel, plain_heads}
+use Rattle.ol_limits.specs.Limits.{plain_fuel, plain_heads}
 
 -- ---- the tree that is written
 

@@ -24,7 +24,7 @@ use Rattle.ol_cli.specs.Answers.{Seen}
 use Rattle.ol_cli.specs.Cases.{FileCause, by_file, by_net_file, CauseOf, failed, past, given}
 use Rattle.ol_cli.specs.Cases.{FileAnswer}
 use Rattle.ol_cli.specs.Net.{NetFileAnswer}
-use Rattle.ol_cli.specs.Limits.{most_net_bytes}
+use Rattle.ol_limits.specs.Limits.{most_net_bytes}
 use Rattle.ol_cli.specs.RefusalTexts.{net_bytes_text}
 use Rattle.ol_cli.specs.Cases.{TermAnswer}
 use Rattle.ol_cli.specs.TermFiles.{TermHands}

@@ -19,7 +19,7 @@ use Rattle.ol_cli.specs.TermFiles.{IsTermFile, OnTerm, TermFileAnswer}
 use Rattle.ol_cli.specs.Texts.{line, usage_text}
 use Rattle.ol_cli.specs.declared.status.Status.{Status}
 use Rattle.ol_cli.specs.declared.status.Status.TheVariants as status
-use Rattle.ol_cli.specs.Limits.{most_term_bytes, most_journal_bytes, most_net_bytes}
+use Rattle.ol_limits.specs.Limits.{most_term_bytes, most_journal_bytes, most_net_bytes}
 
 -- the number that a process ends with
 abbrev pub status_number : Status → ℕ

@@ -25,7 +25,7 @@ use Rattle.ol_cli.specs.TermFiles.{IsTermFile, OnTerm, TermFileAnswer}
 use Rattle.ol_cli.specs.Texts.{usage_text}
 use Rattle.ol_cli.specs.declared.status.Status.{Status}
 use Rattle.ol_cli.specs.declared.status.Status.TheVariants as status
-use Rattle.ol_cli.specs.Limits.{most_term_bytes, most_journal_bytes, most_net_bytes, most_nodes}
+use Rattle.ol_limits.specs.Limits.{most_term_bytes, most_journal_bytes, most_net_bytes, most_nodes}
 
 -- the job has one file with a term; `net` has one with its flag alone, and `equal` has two
 abbrev pub HasTermFile : Asked → Type 0

@@ -9,7 +9,7 @@ use Rattle.ol_cli.specs.Texts.{Exceeds, count_line, line}
 use Rattle.ol_cli.specs.declared.status.Status.{Status}
 use Rattle.ol_view.specs.declared.answers.Check.TheVariants as check
 use Rattle.ol_cli.specs.declared.status.Status.TheVariants as status
-use Rattle.ol_cli.specs.Limits.{most_journal_bytes}
+use Rattle.ol_limits.specs.Limits.{most_journal_bytes}
 
 -- what is found of a journal
 abbrev pub found_text : Check → List ℕ

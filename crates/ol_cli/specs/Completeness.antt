@@ -14,13 +14,13 @@ use Rattle.ol_words.specs.declared.jobs.Job.TheVariants as jobs
 use Rattle.ol_cli.specs.declared.status.Status.{Status}
 use Rattle.ol_cli.specs.declared.status.Status.TheVariants as status
 use Rattle.ol_cli.specs.Jobs.{AskFor, Files, term_bytes, translation_in}
-use Rattle.ol_cli.specs.Limits.{plain_fuel}
+use Rattle.ol_limits.specs.Limits.{plain_fuel}
 use Rattle.ol_cli.specs.Run.{RunEnds, start_net_of_term}
 use Rattle.ol_cli.specs.Demand.{DemandEnds}
 use Rattle.ol_cli.specs.Answers.{IsAnswer}
 use Rattle.ol_cli.specs.TermFiles.{IsTermFile}
 use Rattle.ol_cli.specs.Net.{IsNetFile, NetRunEnds}
-use Rattle.ol_cli.specs.Limits.{most_journal_bytes, most_nodes}
+use Rattle.ol_limits.specs.Limits.{most_journal_bytes, most_nodes}
 
 -- where the job rewrites a term until no pair is active, the one-thread run of this term ends
 -- within the job's fuel; and where it

@@ -9,7 +9,7 @@ use Rattle.ol_cli.specs.declared.status.Status.{Status}
 use Rattle.ol_cli.specs.Answers.{Seen}
 use Rattle.ol_cli.specs.Cases.{GaveWithin, CauseOf}
 use Rattle.ol_cli.specs.RefusalTexts.{bytes_text, journal_text, net_bytes_text}
-use Rattle.ol_cli.specs.Limits.{most_term_bytes, most_journal_bytes, most_net_bytes}
+use Rattle.ol_limits.specs.Limits.{most_term_bytes, most_journal_bytes, most_net_bytes}
 
 -- how many bytes a file may have, and the line that refuses one with more
 abbrev pub most_bytes : FileKind → ℕ

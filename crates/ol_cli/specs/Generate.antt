@@ -5,7 +5,7 @@ use Rattle.ol_term.specs.declared.translations.Translation.{Translation}
 use Rattle.ol_wire.specs.Closed.{ClosedTable}
 use Rattle.ol_words.specs.declared.jobs.Job.{Job as Asked}
 use Rattle.ol_words.specs.declared.jobs.Job.TheVariants.{Run as run}
-use Rattle.ol_cli.specs.Limits.{plain_fuel, plain_heads, plain_workers}
+use Rattle.ol_limits.specs.Limits.{plain_fuel, plain_heads, plain_workers}
 use Rattle.ol_cli.specs.Run.{RunAnswer}
 use Rattle.ol_cli.specs.TermFiles.{FileHands, TermFileAnswer}
 use Rattle.ol_cli.specs.declared.status.Status.{Status}

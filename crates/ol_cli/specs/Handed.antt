@@ -6,7 +6,7 @@ use Rattle.ol_wire.specs.Closed.{ClosedTable}
 use Rattle.ol_words.specs.declared.jobs.Job.{Job as Asked}
 use Rattle.ol_words.specs.declared.jobs.Job.TheVariants.{Check as check, Gen as gen}
 use Rattle.ol_cli.specs.Answers.{Gave, Seen}
-use Rattle.ol_cli.specs.Limits.{most_term_bytes}
+use Rattle.ol_limits.specs.Limits.{most_term_bytes}
 use Rattle.ol_cli.specs.Generate.{MakingHands}
 use Rattle.ol_cli.specs.Jobs.{AskFor, file_name}
 use Rattle.ol_cli.specs.TermFiles.{FileHands}

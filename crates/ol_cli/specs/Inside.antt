@@ -29,7 +29,7 @@ use Rattle.ol_cli.specs.Cases.{TermAnswer}
 use Rattle.ol_cli.specs.TermFiles.{TermHands}
 use Rattle.ol_cli.specs.Handed.{JobHands, WhereEnded, WordsHand}
 use Rattle.ol_cli.specs.ReadAgain.{AnswerIsReadAgain, FileIsReadAgain, WordsAreReadAgain}
-use Rattle.ol_cli.specs.Limits.{most_fuel, most_workers}
+use Rattle.ol_limits.specs.Limits.{most_fuel, most_workers}
 
 -- the numbers of a job are within the limits of their options
 abbrev pub IsWithinLimits : Asked → Type 0
@@ -50,13 +50,13 @@ IsWithinLimits (equal translation workers fuel heads first second) = (1 ≤ work
 
 -- the jobs of these numbers, on files of these names
 abbrev pub run_on : RunNumbers → Text → Asked
-run_on n name = run n.translation n.workers n.fuel n.heads name
+run_on n name = run n.translation n.workers.count n.fuel.most n.heads.most name
 
 abbrev pub certify_on : RunNumbers → (steps : ℕ) → Text → Asked
-certify_on n steps name = certify n.translation steps n.workers n.fuel n.heads name
+certify_on n steps name = certify n.translation steps n.workers.count n.fuel.most n.heads.most name
 
 abbrev pub equal_on : RunNumbers → (first second : Text) → Asked
-equal_on n first second = equal n.translation n.workers n.fuel n.heads first second
+equal_on n first second = equal n.translation n.workers.count n.fuel.most n.heads.most first second
 
 -- the same of jobs on a term, where the name doesn't matter
 abbrev pub run_by : RunNumbers → Asked

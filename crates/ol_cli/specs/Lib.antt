@@ -1,5 +1,4 @@
 -- What clauses of public functions rest on.
-pub mod Limits
 pub mod Texts
 pub mod Shapes
 pub mod Jobs

@@ -27,7 +27,7 @@ use Rattle.ol_cli.specs.declared.status.Status.TheVariants as status
 use Rattle.ol_netfile.specs.declared.faults.NetFault.TheVariants as fault
 use Rattle.ol_cli.specs.Run.{RunEnds, RunsOut}
 use Rattle.ol_cli.specs.Shapes.{DoneOrSpent, TellsFuel}
-use Rattle.ol_cli.specs.Limits.{most_net_bytes, most_nodes}
+use Rattle.ol_limits.specs.Limits.{most_net_bytes, most_nodes}
 
 -- The net of the term, with the numbers of its translation, has this text.
 pub record WritesNet (translation : Translation) (t : Tree) (names : List (List ℕ)) (text : List ℕ) : Type 0 where

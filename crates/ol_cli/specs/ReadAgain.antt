@@ -13,7 +13,7 @@ use Rattle.ol_words.specs.declared.jobs.Job.TheVariants.{Demand as demand}
 use Rattle.ol_cli.specs.declared.status.Status.{Status}
 use Rattle.ol_cli.specs.declared.status.Status.TheVariants as status
 use Rattle.ol_cli.specs.Jobs.{AskFor, term_bytes}
-use Rattle.ol_cli.specs.Limits.{plain_fuel, plain_heads}
+use Rattle.ol_limits.specs.Limits.{plain_fuel, plain_heads}
 use Rattle.ol_cli.specs.Run.{Prints}
 use Rattle.ol_cli.specs.Walk.{Walks}
 use Rattle.ol_cli.specs.Demand.{Demands}

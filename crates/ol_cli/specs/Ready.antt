@@ -19,7 +19,7 @@ use Rattle.ol_cli.specs.RefusalTexts.{syntax_text, bytes_text}
 use Rattle.ol_cli.specs.TermFiles.{IsTermFile, IsPastLimit}
 use Rattle.ol_cli.specs.Answers.{Seen}
 use Rattle.ol_cli.specs.Cases.{GaveAll, CauseOf}
-use Rattle.ol_cli.specs.Limits.{most_term_bytes, most_depth, most_nodes}
+use Rattle.ol_limits.specs.Limits.{most_term_bytes, most_depth, most_nodes}
 
 -- the bytes are refused so
 abbrev pub Refuses : Translation → List ℕ → Status → List ℕ → Type 0

@@ -1,7 +1,7 @@
 -- Private: names for texts that the words of public clauses write out: the lines of refusals, and
 -- what `view` writes.
 use Rattle.std.specs.Prelude.{List, codes, ℕ, ◌++◌}
-use Rattle.ol_cli.specs.Limits.{most_term_bytes, most_depth, most_nodes, most_journal_bytes, most_net_bytes}
+use Rattle.ol_limits.specs.Limits.{most_term_bytes, most_depth, most_nodes, most_journal_bytes, most_net_bytes}
 use Rattle.ol_cli.specs.Texts.{count_line, line}
 
 abbrev pub fault_text : List ℕ

@@ -24,7 +24,7 @@ use Rattle.ol_cli.specs.Cases.{GaveAll, FileCause}
 pub record IsReadOf (n : RunNumbers) (bytes : List ℕ) (names : List (List ℕ)) (tree : List ReadNode) : Type 0 where
   pub term : Tree
   pub file : IsTermFile n.translation bytes term names
-  pub read : ReadsLast n.translation term names n.fuel n.heads tree
+  pub read : ReadsLast n.translation term names n.fuel.most n.heads.most tree
 
 -- what comes of a file
 abbrev pub ComesOfSide : RunNumbers → Seen → Text → Side → Type 0

@@ -24,7 +24,7 @@ use Rattle.ol_cli.specs.View.{Views}
 use Rattle.ol_cli.specs.Walk.{Walks}
 use Rattle.ol_cli.specs.declared.status.Status.{Status}
 use Rattle.ol_cli.specs.declared.status.Status.TheVariants as status
-use Rattle.ol_cli.specs.Limits.{most_term_bytes, most_depth, most_nodes}
+use Rattle.ol_limits.specs.Limits.{most_term_bytes, most_depth, most_nodes}
 
 -- the bytes are a text of this term with these free names, and no limit is passed
 pub record IsTermFile (translation : Translation) (bytes : List ℕ) (t : Tree) (names : List (List ℕ)) : Type 0 where

@@ -5,10 +5,10 @@ ghost use Rattle.ol_cli.specs.Called.{ReadsAtMost, OfFilesRead, seen_of};
 ghost use Rattle.ol_cli.specs.Files.{most_bytes, limit_text, ComesOfFile, IsShort};
 
 use crate::answer::{Answer, refusal};
-use crate::limits::{MOST_JOURNAL_BYTES, MOST_NET_BYTES, MOST_TERM_BYTES};
 use crate::status::Status;
 use crate::texts::count_line;
 use ol_io::{ReadAll, Source, read_all};
+use ol_limits::{MOST_JOURNAL_BYTES, MOST_NET_BYTES, MOST_TERM_BYTES};
 use ol_memory::NoMemory;
 use std::alloc::Global;
 

@@ -1,10 +1,9 @@
 //! The tree that is read back from the net that the workers leave.
-ghost use Rattle.std.specs.Prelude.{◌≡◌, ◌≤◌, ◌<◌, ◌-◌, length, count_by, is_some, IfOk, IfSome};
+ghost use Rattle.std.specs.Prelude.{◌≡◌, ◌<◌, ◌-◌, length, count_by, is_some, IfOk, IfSome};
 ghost use Rattle.ol_readback.specs.Texts.{AreNamed};
 ghost use Rattle.ol_wire.specs.Sizes.{IsSmallNet};
 ghost use Rattle.ol_cli.specs.Inside.{ReadsOrRunsOut};
 ghost use Rattle.ol_cli.specs.Ready.{HoldsOfTerms};
-ghost use Rattle.ol_cli.specs.Limits.{most_fuel, most_workers};
 
 use crate::numbers::RunNumbers;
 use ol_io::Gate;
@@ -29,20 +28,24 @@ pub fn last_tree<R: Threads + Wait + Sync, G: Gate + Sync>(
     requires root { 0 < net.now.free }
     requires whole { count_by is_some net.now.nodes ≡ length net.now.nodes }
     requires small { IsSmallNet net.now }
-    requires workers { (1 ≤ numbers.workers) × (numbers.workers ≤ most_workers) }
-    requires fuel { numbers.fuel ≤ most_fuel }
-    requires heads { 1 ≤ numbers.heads }
     ensures reads { IfOk result (λ tree. HoldsOfTerms net.now (λ translation t names.
-        ReadsOrRunsOut translation t names numbers.fuel numbers.heads tree)) }
+        ReadsOrRunsOut translation t names numbers.fuel.most numbers.heads.most tree)) }
     ensures names { IfOk result (λ tree. IfSome tree (AreNamed (net.now.free - 1))) }
 {
     net.is_net();
-    let reduced = reduce_counted(rt, alloc, net, numbers.workers, numbers.fuel, gate)?;
+    let reduced = reduce_counted(
+        rt,
+        alloc,
+        net,
+        numbers.workers.count,
+        numbers.fuel.most,
+        gate,
+    )?;
     match reduced {
         Counted::Spent { .. } => Ok(None),
         Counted::Done { net: last, .. } => {
             last.is_net();
-            let tree = read_back(alloc, &last, numbers.heads, 2 * last.nodes() as u64)?;
+            let tree = read_back(alloc, &last, numbers.heads.most, 2 * last.nodes() as u64)?;
             Ok(Some(tree))
         }
     }

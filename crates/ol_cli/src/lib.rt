@@ -9,7 +9,6 @@
 //! - `status`: how a call of the program ended
 //! - `texts`: the texts that the program writes
 //! - `verdicts`: the texts of verdicts
-//! - `limits`: the limits of what is read, made ready and printed
 //! - `numbers`: the numbers of the jobs that rewrite a term's net and read it back
 //! - `laws`: the laws of answers
 #![tactic(auto)]
@@ -19,7 +18,6 @@ mod commands;
 mod files;
 mod last_tree;
 mod laws;
-mod limits;
 mod numbers;
 mod ready;
 mod status;

@@ -1,51 +1,56 @@
 //! The numbers of the jobs that rewrite a term's net and read it back.
-ghost use Rattle.std.specs.Prelude.{◌≡◌};
-ghost use Rattle.ol_cli.specs.Limits.{plain_fuel, plain_heads, plain_workers};
+ghost use Rattle.std.specs.Prelude.{◌≡◌, ◌≤◌};
+ghost use Rattle.ol_limits.specs.Limits.{most_fuel, most_workers};
+ghost use Rattle.ol_limits.specs.Limits.{plain_fuel, plain_heads, plain_workers};
 
-use crate::limits::{PLAIN_FUEL, PLAIN_HEADS, PLAIN_WORKERS};
+use ol_limits::{Fuel, Heads, Workers};
 use ol_term::Translation;
 
 /// The numbers of a job that rewrites a term's net and reads it back.
 ///
 /// - `translation`: by which the term becomes a net.
-/// - `workers`: how many rewrite, 1 to 64.
-/// - `fuel`: how many interactions may be made, at most 8,000,000.
-/// - `heads`: how many subterms of the answer are asked for their heads, at least 1.
+/// - `workers`: how many rewrite.
+/// - `fuel`: how many interactions may be made.
+/// - `heads`: how many subterms of the answer are asked for their heads.
 #[derive(Clone, Copy)]
 pub struct RunNumbers {
     pub translation: Translation,
-    pub workers: u32,
-    pub fuel: u32,
-    pub heads: u32,
+    pub workers: Workers,
+    pub fuel: Fuel,
+    pub heads: Heads,
 }
 
 impl RunNumbers {
     /// These numbers.
     pub fn of(translation: Translation, workers: u32, fuel: u32, heads: u32) -> RunNumbers
-        ensures { result ≡ record {
-          translation = translation;
-          workers = workers;
-          fuel = fuel;
-          heads = heads;
-        } }
+        requires workers { (1 ≤ workers) × (workers ≤ most_workers) }
+        requires fuel { fuel ≤ most_fuel }
+        requires heads { 1 ≤ heads }
+        ensures translation { result.translation ≡ translation }
+        ensures workers { result.workers.count ≡ workers }
+        ensures fuel { result.fuel.most ≡ fuel }
+        ensures heads { result.heads.most ≡ heads }
     {
         RunNumbers {
             translation,
-            workers,
-            fuel,
-            heads,
+            workers: Workers::of(workers),
+            fuel: Fuel::of(fuel),
+            heads: Heads::of(heads),
         }
     }
 
     /// The numbers of `run` without options but the translation.
     pub fn plain(translation: Translation) -> RunNumbers
-        ensures { result ≡ record {
-          translation = translation;
-          workers = plain_workers;
-          fuel = plain_fuel;
-          heads = plain_heads;
-        } }
+        ensures translation { result.translation ≡ translation }
+        ensures workers { result.workers.count ≡ plain_workers }
+        ensures fuel { result.fuel.most ≡ plain_fuel }
+        ensures heads { result.heads.most ≡ plain_heads }
     {
-        RunNumbers::of(translation, PLAIN_WORKERS, PLAIN_FUEL, PLAIN_HEADS)
+        RunNumbers {
+            translation,
+            workers: Workers::plain(),
+            fuel: Fuel::plain(),
+            heads: Heads::plain(),
+        }
     }
 }

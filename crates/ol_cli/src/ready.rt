@@ -4,14 +4,14 @@ ghost use Rattle.ol_io.specs.Readings.{Reading};
 ghost use Rattle.ol_term.specs.declared.translations.Translation.{Translation};
 ghost use Rattle.ol_cli.specs.Called.{ReadsAtMost, OfFilesRead, seen_of};
 ghost use Rattle.ol_cli.specs.Ready.{ComesOfTerm, IsMadeReady, IsNetReady, Refuses};
-ghost use Rattle.ol_cli.specs.Limits.{most_term_bytes};
+ghost use Rattle.ol_limits.specs.Limits.{most_term_bytes};
 
 use crate::answer::Answer;
 use crate::files::{File, FileKind, read_file};
-use crate::limits::{MOST_DEPTH, MOST_NODES};
 use crate::status::Status;
 use crate::texts::{count_line, syntax_line};
 use ol_io::Source;
+use ol_limits::{MOST_DEPTH, MOST_NODES};
 use ol_memory::NoMemory;
 use ol_net::Net;
 use ol_parse::{ParseFault, parse};

@@ -26,6 +26,7 @@ use crate::numbers::RunNumbers;
 use crate::status::Status;
 use crate::texts::line;
 use ol_io::{Gate, Sink, Source, Written, write_all};
+use ol_limits::{Fuel, Heads, Workers};
 use ol_memory::NoMemory;
 use ol_wire::Words;
 use ol_words::{Job, UsageFault, job};
@@ -313,12 +314,19 @@ fn answer_job<R: Threads + Wait + Sync, S: Source, G: Gate + Sync>(
             edges,
             heads,
             name,
-        } => answer_walk(alloc, *translation, *edges, *heads, name.as_str(), src),
+        } => answer_walk(
+            alloc,
+            *translation,
+            *edges,
+            Heads::of(*heads),
+            name.as_str(),
+            src,
+        ),
         Job::View {
             translation,
             after,
             name,
-        } => answer_view(alloc, *translation, *after, name.as_str(), src),
+        } => answer_view(alloc, *translation, Fuel::of(*after), name.as_str(), src),
         Job::Trace {
             translation,
             workers,
@@ -328,8 +336,8 @@ fn answer_job<R: Threads + Wait + Sync, S: Source, G: Gate + Sync>(
             rt,
             alloc,
             *translation,
-            *workers,
-            *fuel,
+            Workers::of(*workers),
+            Fuel::of(*fuel),
             name.as_str(),
             src,
             gate,
@@ -349,7 +357,14 @@ fn answer_job<R: Threads + Wait + Sync, S: Source, G: Gate + Sync>(
             fuel,
             heads,
             name,
-        } => answer_demand(alloc, *translation, *fuel, *heads, name.as_str(), src),
+        } => answer_demand(
+            alloc,
+            *translation,
+            Fuel::of(*fuel),
+            Heads::of(*heads),
+            name.as_str(),
+            src,
+        ),
         Job::Certify {
             translation,
             steps,
@@ -371,7 +386,15 @@ fn answer_job<R: Threads + Wait + Sync, S: Source, G: Gate + Sync>(
             if *from_term {
                 return answer_net_of_term(alloc, *translation, name.as_str(), src);
             }
-            answer_net(rt, alloc, *workers, *fuel, name.as_str(), src, gate)
+            answer_net(
+                rt,
+                alloc,
+                Workers::of(*workers),
+                Fuel::of(*fuel),
+                name.as_str(),
+                src,
+                gate,
+            )
         }
         Job::Equal {
             translation,

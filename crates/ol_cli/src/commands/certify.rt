@@ -1,10 +1,9 @@
 //! The command `certify`: a term's own reduction beside that of its net.
-ghost use Rattle.std.specs.Prelude.{◌≡◌, ◌≤◌, ◌+◌, true, IfOk, None};
+ghost use Rattle.std.specs.Prelude.{◌≡◌, ◌+◌, true, IfOk, None};
 ghost use Rattle.ol_term.specs.Trees.{tree_of};
 ghost use Rattle.ol_cli.specs.Called.{ReadsAtMost, OfFilesRead, seen_of};
 ghost use Rattle.ol_cli.specs.Inside.{AnswersTerm, ComesOf, certify_on, certify_by};
 ghost use Rattle.ol_cli.specs.Ready.{IsNetOf, IsReducible};
-ghost use Rattle.ol_cli.specs.Limits.{most_fuel, most_workers};
 
 use crate::answer::Answer;
 use crate::last_tree::last_tree;
@@ -33,9 +32,6 @@ pub fn answer_certify<R: Threads + Wait + Sync, S: Source, G: Gate + Sync>(
     gate: &G,
 ) -> Result<Answer, NoMemory>
     requires known { S.knows src.old name.now ≡ true }
-    requires workers { (1 ≤ numbers.workers) × (numbers.workers ≤ most_workers) }
-    requires fuel { numbers.fuel ≤ most_fuel }
-    requires heads { 1 ≤ numbers.heads }
     ensures comes { OfFilesRead S.Source src.old src.new (λ files.
         IfOk result (ComesOf (certify_on numbers steps name.now)
         (seen_of S.Source files src.old src.new))) }
@@ -61,16 +57,13 @@ fn certify_net<R: Threads + Wait + Sync, G: Gate + Sync>(
 ) -> Result<Answer, NoMemory>
     requires net { IsNetOf numbers.translation (tree_of file.now.term) file.now.names net.now }
     requires term { IsReducible (tree_of file.now.term) }
-    requires workers { (1 ≤ numbers.workers) × (numbers.workers ≤ most_workers) }
-    requires fuel { numbers.fuel ≤ most_fuel }
-    requires heads { 1 ≤ numbers.heads }
     ensures answer { IfOk result (λ a.
         AnswersTerm (certify_by numbers steps) file.now a.status a.text.items) }
     ensures closed { IfOk result (λ a. a.closed ≡ None) }
 {
     match last_tree(rt, alloc, net, numbers, gate)? {
         None => {
-            let text = spent_line(alloc, numbers.fuel)?;
+            let text = spent_line(alloc, numbers.fuel.most)?;
             Ok(Answer::text_alone(text, Status::Spent))
         }
         Some(tree) => {

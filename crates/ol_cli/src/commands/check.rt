@@ -7,7 +7,7 @@ ghost use Rattle.ol_cli.specs.Answers.{RefusesFirst};
 ghost use Rattle.ol_cli.specs.Cases.{CauseOf};
 ghost use Rattle.ol_cli.specs.Inside.{ComesOf};
 ghost use Rattle.ol_cli.specs.Check.{JournalAnswer};
-ghost use Rattle.ol_cli.specs.Limits.{most_journal_bytes};
+ghost use Rattle.ol_limits.specs.Limits.{most_journal_bytes};
 ghost use Rattle.ol_cli.specs.RefusalTexts.{journal_text};
 ghost use Rattle.ol_cli.specs.Ready.{HoldsOfTerms};
 

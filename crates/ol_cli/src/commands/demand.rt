@@ -1,12 +1,11 @@
 //! The command `demand`: a term's net is read back, and only the pairs that the reading meets are
 //! rewritten.
-ghost use Rattle.std.specs.Prelude.{◌≡◌, ◌≤◌, true, IfOk, None};
+ghost use Rattle.std.specs.Prelude.{◌≡◌, true, IfOk, None};
 ghost use Rattle.ol_term.specs.Trees.{tree_of};
 ghost use Rattle.ol_words.specs.declared.jobs.Job.TheVariants.{Demand as demand};
 ghost use Rattle.ol_cli.specs.Called.{ReadsAtMost, OfFilesRead, seen_of};
 ghost use Rattle.ol_cli.specs.Inside.{AnswersTerm, ComesOf, IsReadByNames, demand_by};
 ghost use Rattle.ol_cli.specs.Ready.{IsNetOf};
-ghost use Rattle.ol_cli.specs.Limits.{most_fuel};
 
 use crate::answer::Answer;
 use crate::ready::{Ready, read_term};
@@ -14,6 +13,7 @@ use crate::status::Status;
 use crate::texts::{answer_lines, spent_line};
 use ol_demand::{Demanded, demand};
 use ol_io::Source;
+use ol_limits::{Fuel, Heads};
 use ol_memory::NoMemory;
 use ol_net::Net;
 use ol_readback::tree_text;
@@ -26,16 +26,14 @@ use std::alloc::Global;
 pub fn answer_demand<S: Source>(
     alloc: Global,
     translation: Translation,
-    fuel: u32,
-    heads: u32,
+    fuel: Fuel,
+    heads: Heads,
     name: &str,
     src: &mut S,
 ) -> Result<Answer, NoMemory>
     requires known { S.knows src.old name.now ≡ true }
-    requires fuel { fuel ≤ most_fuel }
-    requires heads { 1 ≤ heads }
     ensures comes { OfFilesRead S.Source src.old src.new (λ files.
-        IfOk result (ComesOf (demand translation fuel heads name.now)
+        IfOk result (ComesOf (demand translation fuel.most heads.most name.now)
         (seen_of S.Source files src.old src.new))) }
     ensures source { ReadsAtMost S.Source 1 src.old src.new }
 {
@@ -53,24 +51,22 @@ fn demand_net(
     net: &Net,
     file: &TermFile,
     translation: Translation,
-    fuel: u32,
-    heads: u32,
+    fuel: Fuel,
+    heads: Heads,
 ) -> Result<Answer, NoMemory>
     requires net { IsNetOf translation (tree_of file.now.term) file.now.names net.now }
-    requires fuel { fuel ≤ most_fuel }
-    requires heads { 1 ≤ heads }
     ensures answer { IfOk result (λ a.
-        AnswersTerm (demand_by translation fuel heads) file.now a.status a.text.items) }
+        AnswersTerm (demand_by translation fuel.most heads.most) file.now a.status a.text.items) }
     ensures read { IfOk result (λ a.
-        IsReadByNames (demand_by translation fuel heads) file.now a.status a.text.items) }
+        IsReadByNames (demand_by translation fuel.most heads.most) file.now a.status a.text.items) }
     ensures closed { IfOk result (λ a. a.closed ≡ None) }
 {
     let mut last = net.copy()?;
     last.is_net();
-    let demanded = demand(alloc, &mut last, fuel, heads)?;
+    let demanded = demand(alloc, &mut last, fuel.most, heads.most)?;
     match demanded {
         Demanded::Spent { .. } => {
-            let text = spent_line(alloc, fuel)?;
+            let text = spent_line(alloc, fuel.most)?;
             Ok(Answer::text_alone(text, Status::Spent))
         }
         Demanded::Done { tree, journal } => {

@@ -6,7 +6,6 @@ ghost use Rattle.ol_cli.specs.Called.{ReadsAtMost, OfFilesRead, seen_of};
 ghost use Rattle.ol_cli.specs.Answers.{RefusesFirst};
 ghost use Rattle.ol_cli.specs.Inside.{ComesOf, equal_on};
 ghost use Rattle.ol_cli.specs.Sides.{ComesOfSide, EndsSecond};
-ghost use Rattle.ol_cli.specs.Limits.{most_fuel, most_workers};
 
 use crate::answer::Answer;
 use crate::last_tree::last_tree;
@@ -44,9 +43,6 @@ pub fn answer_equal<R: Threads + Wait + Sync, S: Source, G: Gate + Sync>(
 ) -> Result<Answer, NoMemory>
     requires first { S.knows src.old first.now ≡ true }
     requires second { S.knows src.old second.now ≡ true }
-    requires workers { (1 ≤ numbers.workers) × (numbers.workers ≤ most_workers) }
-    requires fuel { numbers.fuel ≤ most_fuel }
-    requires heads { 1 ≤ numbers.heads }
     ensures comes { OfFilesRead S.Source src.old src.new (λ files.
         IfOk result (ComesOf (equal_on numbers first.now second.now)
         (seen_of S.Source files src.old src.new))) }
@@ -78,9 +74,6 @@ fn answer_second<R: Threads + Wait + Sync, S: Source, G: Gate + Sync>(
 ) -> Result<Answer, NoMemory>
     requires known { S.knows src.old second.now ≡ true }
     requires named { AreNamed (length names.now) tree.now }
-    requires workers { (1 ≤ numbers.workers) × (numbers.workers ≤ most_workers) }
-    requires fuel { numbers.fuel ≤ most_fuel }
-    requires heads { 1 ≤ numbers.heads }
     ensures caused { OfFilesRead S.Source src.old src.new (λ files.
         IfOk result (λ a. EndsSecond numbers tree.now names.now
         (seen_of S.Source files src.old src.new)
@@ -113,9 +106,6 @@ fn read_side<R: Threads + Wait + Sync, S: Source, G: Gate + Sync>(
     gate: &G,
 ) -> Result<Side, NoMemory>
     requires known { S.knows src.old name.now ≡ true }
-    requires workers { (1 ≤ numbers.workers) × (numbers.workers ≤ most_workers) }
-    requires fuel { numbers.fuel ≤ most_fuel }
-    requires heads { 1 ≤ numbers.heads }
     ensures comes { OfFilesRead S.Source src.old src.new (λ files.
         IfOk result (ComesOfSide numbers
         (seen_of S.Source files src.old src.new) name.now)) }
@@ -127,7 +117,7 @@ fn read_side<R: Threads + Wait + Sync, S: Source, G: Gate + Sync>(
         Ready::Refused(answer) => Ok(Side::Refused(answer)),
         Ready::Net { net, file } => match last_tree(rt, alloc, &net, numbers, gate)? {
             None => {
-                let text = spent_line(alloc, numbers.fuel)?;
+                let text = spent_line(alloc, numbers.fuel.most)?;
                 Ok(Side::Refused(Answer::text_alone(text, Status::Spent)))
             }
             Some(tree) => Ok(Side::Read {

@@ -8,7 +8,7 @@ ghost use Rattle.ol_cli.specs.TermFiles.{FileHands};
 ghost use Rattle.ol_cli.specs.Handed.{WhereEnded};
 ghost use Rattle.ol_cli.specs.Inside.{ComesOf};
 ghost use Rattle.ol_cli.specs.ReadAgain.{FileIsReadAgain};
-ghost use Rattle.ol_cli.specs.Limits.{most_term_bytes};
+ghost use Rattle.ol_limits.specs.Limits.{most_term_bytes};
 
 use crate::answer::Answer;
 use crate::commands::run::run_net;

@@ -9,16 +9,15 @@ ghost use Rattle.ol_cli.specs.Inside.{ComesOf};
 ghost use Rattle.ol_cli.specs.Net.{NetAnswer, NetFileAnswer, WritesNet};
 ghost use Rattle.ol_cli.specs.NetLines.{AreLinesOf};
 ghost use Rattle.ol_cli.specs.Ready.{HoldsOfTerms};
-ghost use Rattle.ol_cli.specs.Limits.{most_net_bytes, most_nodes};
-ghost use Rattle.ol_cli.specs.Limits.{most_fuel, most_workers};
+ghost use Rattle.ol_limits.specs.Limits.{most_net_bytes, most_nodes};
 
 use crate::answer::Answer;
 use crate::files::{File, FileKind, read_file};
-use crate::limits::MOST_NODES;
 use crate::ready::{Ready, read_term};
 use crate::status::Status;
 use crate::texts::{append, count_line, count_lines, spent_line, term_line};
 use ol_io::{Gate, Source};
+use ol_limits::{Fuel, MOST_NODES, Workers};
 use ol_memory::NoMemory;
 use ol_net::Net;
 use ol_netfile::{fault_text, read_net, stuck_text, write_net};
@@ -69,18 +68,16 @@ fn net_text(alloc: Global, net: &Net) -> Result<Vec<u8>, NoMemory>
 pub fn answer_net<R: Threads + Wait + Sync, S: Source, G: Gate + Sync>(
     rt: &R,
     alloc: Global,
-    workers: u32,
-    fuel: u32,
+    workers: Workers,
+    fuel: Fuel,
     name: &str,
     src: &mut S,
     gate: &G,
 ) -> Result<Answer, NoMemory>
     requires known { S.knows src.old name.now ≡ true }
-    requires workers { (1 ≤ workers) × (workers ≤ most_workers) }
-    requires fuel { fuel ≤ most_fuel }
     ensures comes { OfFilesRead S.Source src.old src.new (λ files.
         IfOk result (λ a. (translation : Translation) →
-        ComesOf (jobs.Net translation false workers fuel name.now)
+        ComesOf (jobs.Net translation false workers.count fuel.most name.now)
         (seen_of S.Source files src.old src.new) a)) }
     ensures source { ReadsAtMost S.Source 1 src.old src.new }
 {
@@ -99,14 +96,12 @@ fn evaluate_file<R: Threads + Wait + Sync, G: Gate + Sync>(
     rt: &R,
     alloc: Global,
     bytes: &[u8],
-    workers: u32,
-    fuel: u32,
+    workers: Workers,
+    fuel: Fuel,
     gate: &G,
 ) -> Result<Answer, NoMemory>
     requires short { length bytes.now ≤ most_net_bytes }
-    requires workers { (1 ≤ workers) × (workers ≤ most_workers) }
-    requires fuel { fuel ≤ most_fuel }
-    ensures answer { IfOk result (λ a. NetFileAnswer fuel bytes.now a.status a.text.items) }
+    ensures answer { IfOk result (λ a. NetFileAnswer fuel.most bytes.now a.status a.text.items) }
     ensures closed { IfOk result (λ a. a.closed ≡ None) }
 {
     match read_net(alloc, bytes) {
@@ -128,21 +123,19 @@ fn rewrite<R: Threads + Wait + Sync, G: Gate + Sync>(
     rt: &R,
     alloc: Global,
     net: &Net,
-    workers: u32,
-    fuel: u32,
+    workers: Workers,
+    fuel: Fuel,
     gate: &G,
 ) -> Result<Answer, NoMemory>
     requires whole { count_by is_some net.now.nodes ≡ length net.now.nodes }
     requires small { IsSmallNet net.now }
-    requires workers { (1 ≤ workers) × (workers ≤ most_workers) }
-    requires fuel { fuel ≤ most_fuel }
-    ensures answer { IfOk result (λ a. NetAnswer net.now fuel a.status a.text.items) }
+    ensures answer { IfOk result (λ a. NetAnswer net.now fuel.most a.status a.text.items) }
     ensures closed { IfOk result (λ a. a.closed ≡ None) }
 {
     net.is_net();
-    match reduce_counted(rt, alloc, net, workers, fuel, gate)? {
+    match reduce_counted(rt, alloc, net, workers.count, fuel.most, gate)? {
         Counted::Spent { .. } => {
-            let text = spent_line(alloc, fuel)?;
+            let text = spent_line(alloc, fuel.most)?;
             Ok(Answer::text_alone(text, Status::Spent))
         }
         Counted::Done {

@@ -1,10 +1,9 @@
 //! The command `run`: a term's net is rewritten by workers, and read back.
-ghost use Rattle.std.specs.Prelude.{◌≡◌, ◌≤◌, ◌+◌, ◌*◌, true, IfOk};
+ghost use Rattle.std.specs.Prelude.{◌≡◌, ◌+◌, ◌*◌, true, IfOk};
 ghost use Rattle.ol_term.specs.Trees.{tree_of};
 ghost use Rattle.ol_cli.specs.Called.{ReadsAtMost, OfFilesRead, seen_of};
 ghost use Rattle.ol_cli.specs.Inside.{AnswersTerm, ComesOf, HandsOfTerm, IsReadByNames, run_on, run_by};
 ghost use Rattle.ol_cli.specs.Ready.{IsNetOf};
-ghost use Rattle.ol_cli.specs.Limits.{most_fuel, most_workers};
 
 use crate::answer::Answer;
 use crate::numbers::RunNumbers;
@@ -32,9 +31,6 @@ pub fn answer_run<R: Threads + Wait + Sync, S: Source, G: Gate + Sync>(
     gate: &G,
 ) -> Result<Answer, NoMemory>
     requires known { S.knows src.old name.now ≡ true }
-    requires workers { (1 ≤ numbers.workers) × (numbers.workers ≤ most_workers) }
-    requires fuel { numbers.fuel ≤ most_fuel }
-    requires heads { 1 ≤ numbers.heads }
     ensures comes { OfFilesRead S.Source src.old src.new (λ files.
         IfOk result (ComesOf (run_on numbers name.now)
         (seen_of S.Source files src.old src.new))) }
@@ -58,9 +54,6 @@ pub fn run_net<R: Threads + Wait + Sync, G: Gate + Sync>(
     gate: &G,
 ) -> Result<Answer, NoMemory>
     requires net { IsNetOf numbers.translation (tree_of file.now.term) file.now.names net.now }
-    requires workers { (1 ≤ numbers.workers) × (numbers.workers ≤ most_workers) }
-    requires fuel { numbers.fuel ≤ most_fuel }
-    requires heads { 1 ≤ numbers.heads }
     ensures answer { IfOk result (λ a.
         AnswersTerm (run_by numbers) file.now a.status a.text.items) }
     ensures read { IfOk result (λ a.
@@ -69,11 +62,18 @@ pub fn run_net<R: Threads + Wait + Sync, G: Gate + Sync>(
         HandsOfTerm (run_by numbers) file.now a.status a.text.items a.closed) }
 {
     net.is_net();
-    let reduced = reduce_counted(rt, alloc, net, numbers.workers, numbers.fuel, gate)?;
+    let reduced = reduce_counted(
+        rt,
+        alloc,
+        net,
+        numbers.workers.count,
+        numbers.fuel.most,
+        gate,
+    )?;
     match reduced {
         Counted::Spent { words } => {
             words.once();
-            let text = spent_line(alloc, numbers.fuel)?;
+            let text = spent_line(alloc, numbers.fuel.most)?;
             let status = Status::Spent;
             let closed = Some(words);
             Ok(Answer {
@@ -89,7 +89,7 @@ pub fn run_net<R: Threads + Wait + Sync, G: Gate + Sync>(
         } => {
             words.once();
             last.is_net();
-            let tree = read_back(alloc, &last, numbers.heads, 2 * last.nodes() as u64)?;
+            let tree = read_back(alloc, &last, numbers.heads.most, 2 * last.nodes() as u64)?;
             let term = tree_text(alloc, &tree, &file.names)?;
             let text = answer_lines(alloc, &term, counts, last.stuck())?;
             let status = Status::Done;

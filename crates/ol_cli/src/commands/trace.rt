@@ -1,5 +1,5 @@
 //! The command `trace`: a term's net is rewritten by workers, and their journal is told.
-ghost use Rattle.std.specs.Prelude.{◌≡◌, ◌≤◌, ◌+◌, true, length, count_by, is_some, IfOk};
+ghost use Rattle.std.specs.Prelude.{◌≡◌, ◌+◌, true, length, count_by, is_some, IfOk};
 ghost use Rattle.ol_wire.specs.Sizes.{IsSmallNet};
 ghost use Rattle.ol_words.specs.declared.jobs.Job.TheVariants.{Trace as trace};
 ghost use Rattle.ol_cli.specs.Called.{ReadsAtMost, OfFilesRead, seen_of};
@@ -7,12 +7,12 @@ ghost use Rattle.ol_cli.specs.Trace.{Traces};
 ghost use Rattle.ol_cli.specs.Trace.{TraceHands};
 ghost use Rattle.ol_cli.specs.Inside.{ComesOf};
 ghost use Rattle.ol_cli.specs.Ready.{HoldsOfTerms};
-ghost use Rattle.ol_cli.specs.Limits.{most_fuel, most_workers};
 
 use crate::answer::Answer;
 use crate::ready::{Ready, read_term};
 use crate::status::Status;
 use ol_io::{Gate, Source};
+use ol_limits::{Fuel, Workers};
 use ol_memory::NoMemory;
 use ol_net::Net;
 use ol_reduce::{Reduced, reduce};
@@ -28,17 +28,15 @@ pub fn answer_trace<R: Threads + Wait + Sync, S: Source, G: Gate + Sync>(
     rt: &R,
     alloc: Global,
     translation: Translation,
-    workers: u32,
-    fuel: u32,
+    workers: Workers,
+    fuel: Fuel,
     name: &str,
     src: &mut S,
     gate: &G,
 ) -> Result<Answer, NoMemory>
     requires known { S.knows src.old name.now ≡ true }
-    requires workers { (1 ≤ workers) × (workers ≤ most_workers) }
-    requires fuel { fuel ≤ most_fuel }
     ensures comes { OfFilesRead S.Source src.old src.new (λ files.
-        IfOk result (ComesOf (trace translation workers fuel name.now)
+        IfOk result (ComesOf (trace translation workers.count fuel.most name.now)
         (seen_of S.Source files src.old src.new))) }
     ensures source { ReadsAtMost S.Source 1 src.old src.new }
 {
@@ -55,21 +53,19 @@ fn trace_net<R: Threads + Wait + Sync, G: Gate + Sync>(
     rt: &R,
     alloc: Global,
     net: &Net,
-    workers: u32,
-    fuel: u32,
+    workers: Workers,
+    fuel: Fuel,
     gate: &G,
 ) -> Result<Answer, NoMemory>
     requires whole { count_by is_some net.now.nodes ≡ length net.now.nodes }
     requires small { IsSmallNet net.now }
-    requires workers { (1 ≤ workers) × (workers ≤ most_workers) }
-    requires fuel { fuel ≤ most_fuel }
     ensures answer { IfOk result (λ a. HoldsOfTerms net.now (λ translation t names.
-        Traces translation t names fuel a.status a.text.items)) }
+        Traces translation t names fuel.most a.status a.text.items)) }
     ensures closed { IfOk result (λ a. HoldsOfTerms net.now (λ translation t names.
-        TraceHands translation t names workers fuel a.status a.text.items a.closed)) }
+        TraceHands translation t names workers.count fuel.most a.status a.text.items a.closed)) }
 {
     net.is_net();
-    let reduced = reduce(rt, alloc, net, workers, fuel, gate)?;
+    let reduced = reduce(rt, alloc, net, workers.count, fuel.most, gate)?;
     match reduced {
         Reduced::Spent { journal, words } => {
             words.once();

@@ -1,18 +1,18 @@
 //! The command `view`: a term's net is rewritten by some leads, and shown.
-ghost use Rattle.std.specs.Prelude.{◌≡◌, ◌≤◌, true, IfOk};
+ghost use Rattle.std.specs.Prelude.{◌≡◌, true, IfOk};
 ghost use Rattle.ol_wire.specs.Sizes.{IsSmallNet};
 ghost use Rattle.ol_words.specs.declared.jobs.Job.TheVariants.{View as view};
 ghost use Rattle.ol_cli.specs.Called.{ReadsAtMost, OfFilesRead, seen_of};
 ghost use Rattle.ol_cli.specs.View.{Views};
 ghost use Rattle.ol_cli.specs.Inside.{ComesOf};
 ghost use Rattle.ol_cli.specs.Ready.{HoldsOfTerms};
-ghost use Rattle.ol_cli.specs.Limits.{most_fuel};
 
 use crate::answer::Answer;
 use crate::ready::{Ready, read_term};
 use crate::status::Status;
 use crate::texts::view_lines;
 use ol_io::Source;
+use ol_limits::Fuel;
 use ol_memory::NoMemory;
 use ol_net::Net;
 use ol_term::Translation;
@@ -23,14 +23,13 @@ use std::alloc::Global;
 pub fn answer_view<S: Source>(
     alloc: Global,
     translation: Translation,
-    leads: u32,
+    leads: Fuel,
     name: &str,
     src: &mut S,
 ) -> Result<Answer, NoMemory>
     requires known { S.knows src.old name.now ≡ true }
-    requires leads { leads ≤ most_fuel }
     ensures comes { OfFilesRead S.Source src.old src.new (λ files.
-        IfOk result (ComesOf (view translation leads name.now)
+        IfOk result (ComesOf (view translation leads.most name.now)
         (seen_of S.Source files src.old src.new))) }
     ensures source { ReadsAtMost S.Source 1 src.old src.new }
 {
@@ -46,13 +45,12 @@ pub fn answer_view<S: Source>(
 
 // The net is rewritten by leads, one after another, and shown. This holds of each term whose net it
 // is.
-fn view_net(alloc: Global, net: &Net, leads: u32) -> Result<Vec<u8>, NoMemory>
+fn view_net(alloc: Global, net: &Net, leads: Fuel) -> Result<Vec<u8>, NoMemory>
     requires small { IsSmallNet net.now }
-    requires leads { leads ≤ most_fuel }
     ensures { IfOk result (λ text. HoldsOfTerms net.now (λ translation t names.
-        Views translation t names leads text.items)) }
+        Views translation t names leads.most text.items)) }
 {
-    let last = after(alloc, net, leads)?;
+    let last = after(alloc, net, leads.most)?;
     last.net.is_tabled();
     let shown = show(alloc, &last.net)?;
     view_lines(alloc, last.steps, &shown)

@@ -1,5 +1,5 @@
 //! The command `walk`: a term is read back from its untouched net.
-ghost use Rattle.std.specs.Prelude.{◌≡◌, ◌≤◌, true, length, IfOk};
+ghost use Rattle.std.specs.Prelude.{◌≡◌, true, length, IfOk};
 ghost use Rattle.ol_term.specs.Trees.{tree_of};
 ghost use Rattle.ol_net.specs.Numbered.{net_of};
 ghost use Rattle.ol_net.specs.Nets.{SameNet};
@@ -13,6 +13,7 @@ use crate::ready::{Ready, read_term};
 use crate::status::Status;
 use crate::texts::term_line;
 use ol_io::Source;
+use ol_limits::Heads;
 use ol_memory::NoMemory;
 use ol_net::Net;
 use ol_readback::{read_back, tree_text};
@@ -25,14 +26,13 @@ pub fn answer_walk<S: Source>(
     alloc: Global,
     translation: Translation,
     edges: u64,
-    heads: u32,
+    heads: Heads,
     name: &str,
     src: &mut S,
 ) -> Result<Answer, NoMemory>
     requires known { S.knows src.old name.now ≡ true }
-    requires heads { 1 ≤ heads }
     ensures comes { OfFilesRead S.Source src.old src.new (λ files.
-        IfOk result (ComesOf (walk translation edges heads name.now)
+        IfOk result (ComesOf (walk translation edges heads.most name.now)
         (seen_of S.Source files src.old src.new))) }
     ensures source { ReadsAtMost S.Source 1 src.old src.new }
 {
@@ -53,18 +53,17 @@ fn walk_net(
     file: &TermFile,
     translation: Translation,
     edges: u64,
-    heads: u32,
+    heads: Heads,
 ) -> Result<Vec<u8>, NoMemory>
     requires net { SameNet (net_of net.now)
         (translation_of translation (tree_of file.now.term) (length file.now.names)) }
-    requires heads { 1 ≤ heads }
     ensures text { IfOk result (λ text.
-        AnswersTerm (walk_by translation edges heads) file.now Status.Done text.items) }
+        AnswersTerm (walk_by translation edges heads.most) file.now Status.Done text.items) }
     ensures read { IfOk result (λ text.
-        IsReadByNames (walk_by translation edges heads) file.now Status.Done text.items) }
+        IsReadByNames (walk_by translation edges heads.most) file.now Status.Done text.items) }
 {
     net.is_net();
-    let tree = read_back(alloc, net, heads, edges)?;
+    let tree = read_back(alloc, net, heads.most, edges)?;
     let term = tree_text(alloc, &tree, &file.names)?;
     term_line(alloc, &term)
 }

@@ -20,8 +20,8 @@ returns-in-Spent-clause-answer c =
     let d = rw c.in-Spent.is at c.in_ok-demanded.ensures.answer in
     rw c.text_alone.ensures (
       demand_spent c.args.translation
-          (tree_of c.args.file.now.term) c.args.file.now.names c.in_ok-last.last same c.args.fuel
-          c.args.heads c.demand.new.net c.in-Spent.journal d.0 d.1,
+          (tree_of c.args.file.now.term) c.args.file.now.names c.in_ok-last.last same c.args.fuel.most
+          c.args.heads.most c.demand.new.net c.in-Spent.journal d.0 d.1,
       c.in_ok-text-in-Spent.ensures,
     )
 
@@ -47,8 +47,8 @@ returns-clause-answer c =
     answer_text x c.counts.result c.stuck.result) c.deref.ensures.value
     ∙ ap (λ (x : Counts). answer_text c.in_ok-term-in-Done.term.items x c.stuck.result) c.counts.ensures in
     let x = demands_with c.args.translation
-    (tree_of c.args.file.now.term) c.args.file.now.names c.in_ok-last.last same c.args.fuel
-    c.args.heads c.demand.new.net c.in-Done.journal
+    (tree_of c.args.file.now.term) c.args.file.now.names c.in_ok-last.last same c.args.fuel.most
+    c.args.heads.most c.demand.new.net c.in-Done.journal
     (λ ns x. Unit {0}) c.in-Done.tree c.in_ok-term-in-Done.term.items
     c.in_ok-text-in-Done.text.items c.stuck.result d.0 d.1 c.is_net-in-Done.ensures.net
     c.stuck.ensures.stuck c.in_ok-term-in-Done.ensures.text text tt in
@@ -66,12 +66,12 @@ returns-clause-read c =
     answer_text x c.counts.result c.stuck.result) c.deref.ensures.value
     ∙ ap (λ (x : Counts). answer_text c.in_ok-term-in-Done.term.items x c.stuck.result) c.counts.ensures in
     let x = demands_with c.args.translation
-    (tree_of c.args.file.now.term) c.args.file.now.names c.in_ok-last.last same c.args.fuel
-    c.args.heads c.demand.new.net c.in-Done.journal
+    (tree_of c.args.file.now.term) c.args.file.now.names c.in_ok-last.last same c.args.fuel.most
+    c.args.heads.most c.demand.new.net c.in-Done.journal
     (IsReadWhereNamed c.args.file.now.names) c.in-Done.tree c.in_ok-term-in-Done.term.items
     c.in_ok-text-in-Done.text.items c.stuck.result d.0 d.1 c.is_net-in-Done.ensures.net
     c.stuck.ensures.stuck c.in_ok-term-in-Done.ensures.text text c.in_ok-term-in-Done.ensures.read in
     let r = demand_read c.args.translation
     (tree_of c.args.file.now.term) c.args.file.now.names c.in_ok-text-in-Done.text.items
-    c.args.fuel c.args.heads x.0 x.1 in
+    c.args.fuel.most c.args.heads.most x.0 x.1 in
     rw c.text_alone-in-Done.ensures r

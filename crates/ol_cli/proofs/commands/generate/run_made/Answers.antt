@@ -1,5 +1,10 @@
-use Rattle.std.proofs.Common.{subst}
+use Rattle.std.proofs.Common.{refl, subst}
+use Rattle.std.specs.Prelude.{◌≡◌, []}
+use Rattle.ol_limits.specs.Limits.{plain_fuel, plain_heads, plain_workers}
 use Rattle.ol_term.specs.Trees.{tree_of}
+use Rattle.ol_term.specs.declared.translations.Translation.{Translation}
+use Rattle.ol_words.specs.declared.jobs.Job.{Job as Asked}
+use Rattle.ol_words.specs.declared.jobs.Job.TheVariants.{Run as run}
 use Rattle.ol_cli.specs.declared.numbers.RunNumbers.{RunNumbers}
 use Rattle.ol_cli.specs.Inside.{AnswersTerm, run_by}
 use Rattle.ol_cli.specs.Generate.{plain_run}
@@ -8,14 +13,22 @@ use Rattle.ol_cli.proofs.ReadAgain.{file_read}
 use Rattle.ol_cli.proofs.Readied.{refuses_answer, refuses_read, refuses_hands, term_answer}
 use Rattle.ol_cli.proofs.commands.generate.run_made.Goals as goal
 
+-- the job of the numbers without options
+job_of : (n : RunNumbers) (tr : Translation) → n.translation ≡ tr → n.workers.count ≡ plain_workers →
+    n.fuel.most ≡ plain_fuel → n.heads.most ≡ plain_heads →
+    ◌≡◌ {A = Asked} (run_by n) (run tr plain_workers plain_fuel plain_heads [])
+job_of n tr translation workers fuel heads = rw (translation, workers, fuel, heads) refl
+
 pub returns-in_ok-answer-in-Net-clause-answer : goal.returns-in_ok-answer-in-Net-clause-answer
 returns-in_ok-answer-in-Net-clause-answer g c =
     let ready = rw c.in-Net.is at c.in_ok-ready.ensures.ready in
     let a = c.in_ok-answer-in-Net.answer in
+    let n = c.plain.ensures in
     term_answer (plain_run c.args.translation) c.args.bytes.now
     (tree_of c.in-Net.file.term) c.in-Net.file.names ready.term a.status a.text.items
-    (subst (λ (n : RunNumbers). AnswersTerm (run_by n) c.in-Net.file a.status a.text.items)
-    c.plain.ensures c.in_ok-answer-in-Net.ensures.answer)
+    (subst (λ asked. AnswersTerm asked c.in-Net.file a.status a.text.items)
+    (job_of c.plain.result c.args.translation n.translation n.workers n.fuel n.heads)
+    c.in_ok-answer-in-Net.ensures.answer)
 
 pub returns-in_ok-answer-in-Net-clause-closed : goal.returns-in_ok-answer-in-Net-clause-closed
 returns-in_ok-answer-in-Net-clause-closed g c =
@@ -23,7 +36,8 @@ returns-in_ok-answer-in-Net-clause-closed g c =
     let a = c.in_ok-answer-in-Net.answer in
     file_hands (plain_run c.args.translation) c.args.bytes.now
     (tree_of c.in-Net.file.term) c.in-Net.file.names ready.term a.status a.text.items a.closed
-    (rw c.plain.ensures at c.in_ok-answer-in-Net.ensures.closed)
+    (let n = c.plain.ensures in
+    rw (n.translation, n.workers, n.fuel, n.heads) at c.in_ok-answer-in-Net.ensures.closed)
 
 pub returns-in-Refused-clause-answer : goal.returns-in-Refused-clause-answer
 returns-in-Refused-clause-answer g c =
@@ -43,7 +57,8 @@ returns-in_ok-answer-in-Net-clause-read g c =
     let a = c.in_ok-answer-in-Net.answer in
     file_read (plain_run c.args.translation) c.args.bytes.now
     (tree_of c.in-Net.file.term) c.in-Net.file.names a.status a.text.items ready.term.file
-    ready.named (rw c.plain.ensures at c.in_ok-answer-in-Net.ensures.read)
+    ready.named (let n = c.plain.ensures in
+    rw (n.translation, n.fuel, n.heads) at c.in_ok-answer-in-Net.ensures.read)
 
 pub returns-in-Refused-clause-read : goal.returns-in-Refused-clause-read
 returns-in-Refused-clause-read g c =

@@ -9,12 +9,12 @@ pub returns-in-Refused-clause-comes : goal.returns-in-Refused-clause-comes
 returns-in-Refused-clause-comes g c = λ files of translation.
     let r = rw c.in-Refused.is at (c.in_ok-file.ensures.comes files of) in
     let a = c.in-Refused.answer in
-    net_comes translation c.args.workers c.args.fuel c.args.name.now _ a
-    (refused_file kind.Net _ c.args.name.now (NetFileAnswer c.args.fuel) a.status a.text.items r.0) r.1
+    net_comes translation c.args.workers.count c.args.fuel.most c.args.name.now _ a
+    (refused_file kind.Net _ c.args.name.now (NetFileAnswer c.args.fuel.most) a.status a.text.items r.0) r.1
 
 pub returns-in_ok-answer-in-Bytes-clause-comes : goal.returns-in_ok-answer-in-Bytes-clause-comes
 returns-in_ok-answer-in-Bytes-clause-comes g c = λ files of translation.
     let r = rw c.in-Bytes.is at (c.in_ok-file.ensures.comes files of) in
     let h = c.in_ok-answer-in-Bytes.ensures in
-    net_comes translation c.args.workers c.args.fuel c.args.name.now _ c.in_ok-answer-in-Bytes.answer
+    net_comes translation c.args.workers.count c.args.fuel.most c.args.name.now _ c.in_ok-answer-in-Bytes.answer
     (given r.0 r.1 (rw c.deref.ensures.value at h.answer)) h.closed

@@ -17,7 +17,7 @@ returns-in_ok-text-in-Spent-clause-answer g c =
     let d = rw c.in-Spent.is at c.in_ok-reduced.ensures.reduced in (
       spent_answer c.args.numbers.translation
           (tree_of c.args.file.now.term) c.args.file.now.names c.args.net.now c.requires.net.same
-          c.args.numbers.fuel c.args.numbers.workers c.args.numbers.heads (journal_of c.in-Spent.words)
+          c.args.numbers.fuel.most c.args.numbers.workers.count c.args.numbers.heads.most (journal_of c.in-Spent.words)
           c.in-Spent.words d c.is_net.ensures.net,
       c.in_ok-text-in-Spent.ensures,
     )
@@ -27,7 +27,7 @@ returns-in_ok-text-in-Spent-clause-closed g c =
     let d = rw c.in-Spent.is at c.in_ok-reduced.ensures.reduced in
     spent_hands c.args.numbers.translation
     (tree_of c.args.file.now.term) c.args.file.now.names c.args.net.now c.requires.net.same
-    c.args.numbers.fuel c.args.numbers.workers c.args.numbers.heads (journal_of c.in-Spent.words)
+    c.args.numbers.fuel.most c.args.numbers.workers.count c.args.numbers.heads.most (journal_of c.in-Spent.words)
     c.in-Spent.words d c.in_ok-text-in-Spent.text.items c.once.ensures.once c.in_ok-text-in-Spent.ensures
 
 pub read_back-requires-clause-root : goal.read_back-requires-clause-root
@@ -36,7 +36,7 @@ read_back-requires-clause-root g c =
     let d = e.0 in
     let ports = done_ports c.args.numbers.translation
     (tree_of c.args.file.now.term) c.args.file.now.names c.args.net.now c.requires.net.same
-    c.args.numbers.fuel c.args.numbers.workers c.args.numbers.heads (journal_of c.in-Done.words)
+    c.args.numbers.fuel.most c.args.numbers.workers.count c.args.numbers.heads.most (journal_of c.in-Done.words)
     c.in-Done.words c.in-Done.last d in
     omega (arith, ports)
 
@@ -46,7 +46,7 @@ tree_text-requires g c =
     let d = e.0 in
     let ports = done_ports c.args.numbers.translation
     (tree_of c.args.file.now.term) c.args.file.now.names c.args.net.now c.requires.net.same
-    c.args.numbers.fuel c.args.numbers.workers c.args.numbers.heads (journal_of c.in-Done.words)
+    c.args.numbers.fuel.most c.args.numbers.workers.count c.args.numbers.heads.most (journal_of c.in-Done.words)
     c.in-Done.words c.in-Done.last d in
     let f : c.in-Done.last.free - 1 ≡ length c.args.file.now.names = omega (arith, ports) in
     record { free = subst (λ n. AreNamed n c.in_ok-tree-in-Done.tree) f c.in_ok-tree-in-Done.ensures.names }
@@ -55,14 +55,14 @@ pub returns-in_ok-text-in-Done-clause-answer : goal.returns-in_ok-text-in-Done-c
 returns-in_ok-text-in-Done-clause-answer g c =
     let e = rw c.in-Done.is at c.in_ok-reduced.ensures.reduced in
     let d = e.0 in
-    let tree = subst (λ n. IsTree (net_of c.in-Done.last) c.args.numbers.heads
+    let tree = subst (λ n. IsTree (net_of c.in-Done.last) c.args.numbers.heads.most
     (2 * n) c.in_ok-tree-in-Done.tree) c.nodes.ensures.nodes c.in_ok-tree-in-Done.ensures.tree in
     let text : c.in_ok-text-in-Done.text.items ≡ answer_text c.in_ok-term-in-Done.term.items
     (counts_of (journal_of c.in-Done.words)) c.stuck.result =
     c.in_ok-text-in-Done.ensures ∙ ap (λ (x : List ℕ).
     answer_text x c.in-Done.counts c.stuck.result) c.deref.ensures.value
     ∙ ap (λ (x : Counts). answer_text c.in_ok-term-in-Done.term.items x c.stuck.result) e.1 in
-    let told : Told c.args.file.now.names c.args.numbers.heads c.stuck.result (journal_of c.in-Done.words)
+    let told : Told c.args.file.now.names c.args.numbers.heads.most c.stuck.result (journal_of c.in-Done.words)
     c.in-Done.last c.in_ok-tree-in-Done.tree c.in_ok-term-in-Done.term.items
     c.in_ok-text-in-Done.text.items = record {
       is_net = c.is_net-in-Done.ensures.net;
@@ -73,7 +73,7 @@ returns-in_ok-text-in-Done-clause-answer g c =
     } in
     (done_answer c.args.numbers.translation
     (tree_of c.args.file.now.term) c.args.file.now.names c.args.net.now c.requires.net.same
-    c.args.numbers.fuel c.args.numbers.workers c.args.numbers.heads (journal_of c.in-Done.words)
+    c.args.numbers.fuel.most c.args.numbers.workers.count c.args.numbers.heads.most (journal_of c.in-Done.words)
     c.in-Done.words c.in-Done.last d c.stuck.result c.in_ok-tree-in-Done.tree
     c.in_ok-term-in-Done.term.items c.in_ok-text-in-Done.text.items told
     (λ ns x. Unit {0}) c.is_net.ensures.net tt).0
@@ -82,14 +82,14 @@ pub returns-in_ok-text-in-Done-clause-read : goal.returns-in_ok-text-in-Done-cla
 returns-in_ok-text-in-Done-clause-read g c =
     let e = rw c.in-Done.is at c.in_ok-reduced.ensures.reduced in
     let d = e.0 in
-    let tree = subst (λ n. IsTree (net_of c.in-Done.last) c.args.numbers.heads
+    let tree = subst (λ n. IsTree (net_of c.in-Done.last) c.args.numbers.heads.most
     (2 * n) c.in_ok-tree-in-Done.tree) c.nodes.ensures.nodes c.in_ok-tree-in-Done.ensures.tree in
     let text : c.in_ok-text-in-Done.text.items ≡ answer_text c.in_ok-term-in-Done.term.items
     (counts_of (journal_of c.in-Done.words)) c.stuck.result =
     c.in_ok-text-in-Done.ensures ∙ ap (λ (x : List ℕ).
     answer_text x c.in-Done.counts c.stuck.result) c.deref.ensures.value
     ∙ ap (λ (x : Counts). answer_text c.in_ok-term-in-Done.term.items x c.stuck.result) e.1 in
-    let told : Told c.args.file.now.names c.args.numbers.heads c.stuck.result (journal_of c.in-Done.words)
+    let told : Told c.args.file.now.names c.args.numbers.heads.most c.stuck.result (journal_of c.in-Done.words)
     c.in-Done.last c.in_ok-tree-in-Done.tree c.in_ok-term-in-Done.term.items
     c.in_ok-text-in-Done.text.items = record {
       is_net = c.is_net-in-Done.ensures.net;
@@ -100,25 +100,25 @@ returns-in_ok-text-in-Done-clause-read g c =
     } in
     let x = done_answer c.args.numbers.translation
     (tree_of c.args.file.now.term) c.args.file.now.names c.args.net.now c.requires.net.same
-    c.args.numbers.fuel c.args.numbers.workers c.args.numbers.heads (journal_of c.in-Done.words)
+    c.args.numbers.fuel.most c.args.numbers.workers.count c.args.numbers.heads.most (journal_of c.in-Done.words)
     c.in-Done.words c.in-Done.last d c.stuck.result c.in_ok-tree-in-Done.tree
     c.in_ok-term-in-Done.term.items c.in_ok-text-in-Done.text.items told
     (IsReadWhereNamed c.args.file.now.names) c.is_net.ensures.net c.in_ok-term-in-Done.ensures.read in
     run_read c.args.numbers.translation (tree_of c.args.file.now.term) c.args.file.now.names
-    c.in_ok-text-in-Done.text.items c.args.numbers.fuel c.args.numbers.heads x.0 x.1 c.args.numbers.workers
+    c.in_ok-text-in-Done.text.items c.args.numbers.fuel.most c.args.numbers.heads.most x.0 x.1 c.args.numbers.workers.count
 
 pub returns-in_ok-text-in-Done-clause-closed : goal.returns-in_ok-text-in-Done-clause-closed
 returns-in_ok-text-in-Done-clause-closed g c =
     let e = rw c.in-Done.is at c.in_ok-reduced.ensures.reduced in
     let d = e.0 in
-    let tree = subst (λ n. IsTree (net_of c.in-Done.last) c.args.numbers.heads
+    let tree = subst (λ n. IsTree (net_of c.in-Done.last) c.args.numbers.heads.most
     (2 * n) c.in_ok-tree-in-Done.tree) c.nodes.ensures.nodes c.in_ok-tree-in-Done.ensures.tree in
     let text : c.in_ok-text-in-Done.text.items ≡ answer_text c.in_ok-term-in-Done.term.items
     (counts_of (journal_of c.in-Done.words)) c.stuck.result =
     c.in_ok-text-in-Done.ensures ∙ ap (λ (x : List ℕ).
     answer_text x c.in-Done.counts c.stuck.result) c.deref.ensures.value
     ∙ ap (λ (x : Counts). answer_text c.in_ok-term-in-Done.term.items x c.stuck.result) e.1 in
-    let told : Told c.args.file.now.names c.args.numbers.heads c.stuck.result (journal_of c.in-Done.words)
+    let told : Told c.args.file.now.names c.args.numbers.heads.most c.stuck.result (journal_of c.in-Done.words)
     c.in-Done.last c.in_ok-tree-in-Done.tree c.in_ok-term-in-Done.term.items
     c.in_ok-text-in-Done.text.items = record {
       is_net = c.is_net-in-Done.ensures.net;
@@ -129,6 +129,6 @@ returns-in_ok-text-in-Done-clause-closed g c =
     } in
     done_hands c.args.numbers.translation
     (tree_of c.args.file.now.term) c.args.file.now.names c.args.net.now c.requires.net.same
-    c.args.numbers.fuel c.args.numbers.workers c.args.numbers.heads (journal_of c.in-Done.words)
+    c.args.numbers.fuel.most c.args.numbers.workers.count c.args.numbers.heads.most (journal_of c.in-Done.words)
     c.in-Done.words c.in-Done.last d c.stuck.result c.in_ok-tree-in-Done.tree
     c.in_ok-term-in-Done.term.items c.in_ok-text-in-Done.text.items told c.once-in-Done.ensures.once
