@@ -20,11 +20,17 @@ pub const MOST_NET_BYTES: u32 = 33_554_432;
 /// The greatest depth of a term.
 pub const MOST_DEPTH: u32 = 1_000;
 
+/// The most constructors of a term that leftmost steps are made from.
+pub const MOST_SIZE: u32 = 100_000;
+
 /// The greatest number of nodes of a term's net, and of a net that is printed.
 pub const MOST_NODES: u32 = 200_000;
 
 /// How many workers may rewrite a net.
 pub const MOST_WORKERS: u32 = 64;
+
+/// How many subterms may be asked for their heads.
+pub const MOST_HEADS: u32 = 100_000;
 
 /// How many interactions a run may be asked for, and how many entries a journal may have.
 pub const MOST_FUEL: u32 = 8_000_000;
