@@ -15,12 +15,10 @@ use crate::line_reading::{Line, line_at};
 use crate::tracing::HEADER;
 use crate::wave_tracing::WAVE_HEADER;
 use ol_diamond::{Rewritten, Weighing};
+use ol_limits::MOST_FUEL;
 use ol_memory::NoMemory;
 use ol_net::Net;
 use std::alloc::Global;
-
-// The most entries of a trace text.
-const MOST_ENTRIES: u32 = 8_000_000;
 
 /// Reads a trace text of either form and replays it from a net, whose nodes are named by their
 /// numbers. The lines are tried in order, and the first bad one decides.
@@ -91,7 +89,7 @@ fn find(alloc: Global, net: &Net, text: &[u8]) -> Result<Check, NoMemory>
     let mut at = HEADER.len();
     let mut entries: u32 = 0;
     while at < text.len() {
-        if entries == MOST_ENTRIES {
+        if entries == MOST_FUEL {
             return Ok(Check::BadText { line: entries + 2 });
         }
         let Some(line) = line_at(form, text, at) else {
