@@ -10,7 +10,7 @@ ghost use Rattle.ol_net.specs.Scans.{FindsFirst};
 ghost use Rattle.ol_net.specs.Tabling.{MeetsAt, AreAllLinked, places, FindsAlone, GivesTable, GivesTables};
 
 use crate::parts::{BuildFault, Kind, Port};
-use crate::table::{is_port, place_of, port_of};
+use crate::table::{is_port, place_of, port_at};
 use std::alloc::{AllocError, Global};
 
 fn is_bad_index(top: u32, node: (Kind, u32)) -> bool
@@ -103,7 +103,7 @@ pub fn first_loose(free: u32, nodes: &[Option<(Kind, u32)>], partners: &[usize])
     ensures { FindsAlone free nodes.now partners.now result }
 {
     for (k, partner) in partners.iter().enumerate() {
-        let port = port_of(free, k);
+        let port = port_at(free, k);
         if is_port(free, nodes, port) && *partner == k {
             return Some(port);
         }

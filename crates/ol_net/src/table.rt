@@ -49,7 +49,7 @@ pub fn partner_in(
         return None;
     }
     let at = place_of(free, p);
-    Some(port_of(free, other(partners, at)))
+    Some(port_at(free, other(partners, at)))
 }
 
 /// The place that the table pairs with this one.
@@ -60,7 +60,8 @@ pub fn other(partners: &[usize], at: usize) -> usize
     partners[at]
 }
 
-/// The place of a port: the free ports come first, and then three places for each node number.
+/// The place of a port in a net with so many free ports: these come first, by number, and then three
+/// places for each node number.
 pub fn place_of(free: u32, p: Port) -> usize
     ensures { result ≡ place free p }
 {
@@ -70,8 +71,8 @@ pub fn place_of(free: u32, p: Port) -> usize
     }
 }
 
-/// The port that a place is of.
-pub fn port_of(free: u32, k: usize) -> Port
+/// The port at place `k` of a net with so many free ports.
+pub fn port_at(free: u32, k: usize) -> Port
     requires { k < free + 3 * 2 ^ 31 }
     ensures { result ≡ port_at free k }
 {

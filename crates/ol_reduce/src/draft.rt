@@ -7,7 +7,7 @@ ghost use Rattle.ol_net.specs.Linking.{linked};
 ghost use Rattle.ol_reduce.specs.Drafts.{frozen_top, IsFullDraft, all_links, AreWithin, StayWithin, AreFew, IsBuilt};
 
 use ol_memory::NoMemory;
-use ol_net::{BuildFault, Kind, Net, NodeId, Port};
+use ol_net::{BuildFault, Kind, Net, NodeId, Port, port_at};
 use std::alloc::Global;
 
 // The greatest index that a net may have.
@@ -22,21 +22,6 @@ pub(crate) struct Draft {
     // By place: free ports by number, and then three places for each node. At the place of a port
     // stands the place of its partner, and that place itself as long as no partner is known.
     pub(crate) partners: Vec<usize>,
-}
-
-// The port at a place.
-fn port_at(free: u32, place: usize) -> Port
-    requires { place < 400000000 }
-    ensures { result ≡ port_at free place }
-{
-    if place < free as usize {
-        return Port::Free(place as u32);
-    }
-    let behind = place - free as usize;
-    Port::Of {
-        node: NodeId((behind / 3) as u32),
-        slot: (behind % 3) as u8,
-    }
 }
 
 // A table of places without partners.
