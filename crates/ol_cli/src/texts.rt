@@ -97,10 +97,8 @@ pub fn count_lines(alloc: Global, counts: Counts, stuck: u32) -> Result<Vec<u8>,
 pub fn append(text: &mut Vec<u8>, lines: &[u8]) -> Result<(), NoMemory>
     ensures { OnOk result (text.new.items ≡ text.old.items ++ lines.now) }
 {
-    match text.extend_from_slice(lines) {
-        Ok(()) => Ok(()),
-        Err(_) => Err(NoMemory),
-    }
+    text.extend_from_slice(lines)?;
+    Ok(())
 }
 
 /// A term's text and a line feed.

@@ -50,12 +50,7 @@ impl WaveList {
         ensures wave { result ≡ slice_get self.now k }
         ensures none { IsNone result ↔ (length self.now ≤ k) }
     {
-        let k = k as usize;
-        if k < self.waves.len() {
-            Some(self.waves[k])
-        } else {
-            None
-        }
+        self.waves.get(k as usize).copied()
     }
 }
 

@@ -52,12 +52,7 @@ impl ReadTree {
         ensures place { result ≡ slice_get self.now k }
         ensures none { IsNone result ↔ (length self.now ≤ k) }
     {
-        let k = k as usize;
-        if k < self.nodes.len() {
-            Some(self.nodes[k])
-        } else {
-            None
-        }
+        self.nodes.get(k as usize).copied()
     }
 
     /// Law: the list is whole.
