@@ -17,7 +17,7 @@ use Rattle.ol_rules.specs.Runs.{IsRun}
 use Rattle.ol_rules.proofs.Relation.{same_refl}
 use Rattle.ol_rules.proofs.Same.{has_stuck_same}
 use Rattle.ol_rules.proofs.UnderNames.{same_under, has_stuck_under}
-use Rattle.ol_rules.proofs.UnderWay.{node_below}
+use Rattle.ol_rules.proofs.OnTheWay.{node_below}
 use Rattle.ol_diamond.proofs.OneThreadRuns.{goes_on_shorter}
 use Rattle.ol_translate.specs.Translation.{nodes_of, links_of, translation_of}
 use Rattle.ol_readback.specs.Texts.{IsTextOf}

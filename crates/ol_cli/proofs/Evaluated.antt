@@ -21,7 +21,7 @@ use Rattle.ol_rules.proofs.Recount.{net_same}
 use Rattle.ol_rules.proofs.Relation.{same_sym, same_trans}
 use Rattle.ol_rules.proofs.Same.{complete_same, active_same}
 use Rattle.ol_rules.proofs.UnderNames.{same_under, has_stuck_under}
-use Rattle.ol_rules.proofs.UnderWay.{node_below}
+use Rattle.ol_rules.proofs.OnTheWay.{node_below}
 use Rattle.ol_diamond.proofs.SameNets.{run_from_same}
 use Rattle.ol_translate.specs.Translation.{nodes_of, links_of, translation_of}
 use Rattle.ol_wire.specs.Closed.{ClosedTable}

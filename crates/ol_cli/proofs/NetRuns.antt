@@ -21,7 +21,7 @@ use Rattle.ol_rules.proofs.Relation.{same_refl, same_sym, same_trans}
 use Rattle.ol_rules.proofs.Same.{complete_same, has_stuck_same}
 use Rattle.ol_rules.proofs.StartNets as start
 use Rattle.ol_rules.proofs.UnderNames.{same_under, has_stuck_under}
-use Rattle.ol_rules.proofs.UnderWay.{node_below}
+use Rattle.ol_rules.proofs.OnTheWay.{node_below}
 use Rattle.ol_diamond.proofs.OneThread.{one_thread_exists, done_tells, spent_tells}
 use Rattle.ol_wire.specs.Closed.{ClosedTable}
 use Rattle.ol_reduce.specs.Reduced.{IsDone, IsSpent}

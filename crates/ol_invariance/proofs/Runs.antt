@@ -13,7 +13,7 @@ use Rattle.ol_rules.proofs.OneRun.{name_same, name_test, fresh_names, named_afte
 use Rattle.ol_rules.proofs.LeadRuns.{as_run}
 use Rattle.ol_rules.proofs.Relation.{net_kept}
 use Rattle.ol_rules.proofs.StartNets.{start_net, start_named}
-use Rattle.ol_rules.proofs.UnderWay.{node_below}
+use Rattle.ol_rules.proofs.OnTheWay.{node_below}
 use Rattle.ol_rules.specs.Names.{comes_before}
 use Rattle.ol_rules.specs.Rewriting.{action_of}
 use Rattle.ol_rules.specs.Runs.{IsRun, IsLeadRun, IsNaming, names_made}

@@ -12,7 +12,7 @@ use Rattle.ol_net.specs.Numbered.{net_of}
 use Rattle.ol_net.specs.declared.parts.Kind.{Kind}
 use Rattle.ol_rules.proofs.Relation.{net_kept}
 use Rattle.ol_rules.proofs.Tests.{nat_test}
-use Rattle.ol_rules.proofs.UnderWay.{fresh_numbers}
+use Rattle.ol_rules.proofs.OnTheWay.{fresh_numbers}
 use Rattle.ol_rules.specs.Laws.{IsFresh}
 use Rattle.ol_rules.specs.Rewriting.{action_of}
 

@@ -16,7 +16,7 @@ pub mod NameOrder
 pub mod Renaming
 pub mod FreshPairs
 pub mod LeadRuns
-pub mod UnderWay
+pub mod OnTheWay
 pub mod Waiting
 pub mod OneThread
 pub mod Same

@@ -1,6 +1,6 @@
 -- A run on its way is a one-thread run where it ends.
-use Rattle.std.proofs.Common.{◌≡◌, ◌≢◌, ℕ, ◌+◌, ◌-◌, ◌<◌, ◌≤◌, List, [], ◌∷◌, ◌++◌, length}
-use Rattle.std.proofs.Common.{length-append, Option, Some, None, ◌⊎◌, inl, inr, sym, subst, arith}
+use Rattle.std.proofs.Common.{◌≡◌, ◌≢◌, ℕ, ◌-◌, ◌<◌, ◌≤◌, List, [], ◌∷◌, ◌++◌, length}
+use Rattle.std.proofs.Common.{length-append, Option, Some, None, ◌⊎◌, inl, inr, refl, sym, subst, arith}
 use Rattle.std.proofs.Common.{MatchOption, Result, Ok, Err, OnErr, IsSome, ◌↔◌}
 use Rattle.ol_net.specs.declared.parts.Rule.{Rule}
 use Rattle.ol_net.specs.declared.parts.NodeId.{NodeId}
@@ -10,14 +10,14 @@ use Rattle.ol_net.specs.Numbered.{net_of}
 use Rattle.ol_net.specs.Pairs.{IsInActive, IsComplete, HasActive}
 use Rattle.ol_rules.specs.declared.journal.NodeName.{NodeName}
 use Rattle.ol_rules.specs.declared.journal.Entry.{Entry}
-use Rattle.ol_rules.specs.Steps.{StepsAt}
 use Rattle.ol_rules.specs.Runs.{LeadsTo, RunsTo, StopsWithin, names_born}
-use Rattle.ol_rules.specs.Running.{name_in, IsLeast, HasPartner, AtMostOneStep, Advances}
-use Rattle.ol_rules.specs.declared.one_thread.Running.{Running}
+use Rattle.ol_rules.specs.Running.{IsLeast}
+use Rattle.ol_rules.specs.UnderWay.{name_by, IsPair, AtMostOneStep, Advances}
+use Rattle.ol_rules.specs.declared.under_way.UnderWay.{UnderWay}
 use Rattle.ol_rules.proofs.NameOrder.{names_apart}
 use Rattle.ol_rules.proofs.Renaming.{active_from}
 use Rattle.ol_rules.proofs.FreshPairs.{linked_sym}
-use Rattle.ol_rules.proofs.UnderWay.{UnderWay, listed, leads_to, leads_on, one_on, node_below, births_few}
+use Rattle.ol_rules.proofs.OnTheWay.{IsUnderWay, listed, leads_to, leads_on, one_on, node_below}
 use Rattle.ol_rules.proofs.Waiting.{active_below}
 
 pub none_of : (o : Option ℕ) (n : ℕ) → o ≡ None → IsSome o ↔ (0 < n) → n ≡ 0
@@ -39,36 +39,19 @@ pub partner_below : (g : Graph) → IsNet (net_of g) → (at partner : ℕ) → 
 partner_below g n at partner l = let p = (n.of_ports (slot at 0) (slot partner 0) l.linked).1 in
     node_below g partner p.0 p.1 p.2
 
-pub step_few : (g g' : Graph) (at : ℕ) (r : Rule) → StepsAt g g' at r → length g'.nodes ≤ length g.nodes + 4
-step_few g g' at r s = let q = s.numbers in let b = births_few r s.step.active.k s.step.active.l in omega arith
-
--- what a node's principal port is joined to is its partner, where it has one
-pub partner_of_active : (g : Graph) → IsNet (net_of g) → (at : ℕ) (r : Rule) →
+-- what a node's principal port is joined to is its partner, if it has one
+pub partner_of_active : (g : Graph) → (at : ℕ) (r : Rule) →
     IsInActive (net_of g) at r → (o : Option NodeId) →
     MatchOption o ((x : ℕ) → Linked (net_of g) (slot x 0) (slot at 0) → ⊥)
-    (λ n. (x : ℕ) → Linked (net_of g) (slot x 0) (slot at 0) → x ≡ n.0) →
-    MatchOption o ((r : Rule) → IsInActive (net_of g) at r → ⊥) (λ n. HasPartner g at n.0)
-partner_of_active g n at r (y, inl a) None h = absurd
+    (λ n. (x : ℕ) → Linked (net_of g) (slot x 0) (slot at 0) ↔ (x ≡ n.0)) →
+    MatchOption o ((r : Rule) → IsInActive (net_of g) at r → ⊥) (λ n. (r : Rule) × IsPair (net_of g) at n.0 r)
+partner_of_active g at r (y, inl a) None h = absurd
     (h y (linked_sym (net_of g) (slot at 0) (slot y 0) a.faces.linked))
-partner_of_active g n at r (y, inr a) None h = absurd (h y a.faces.linked)
-partner_of_active g n at r (y, inl a) (Some m) h =
-    let e = h y (linked_sym (net_of g) (slot at 0) (slot y 0) a.faces.linked) in
-    record {
-      rule = r;
-      active = (y, inl a);
-      linked = subst (λ z. Linked (net_of g) (slot at 0) (slot z 0)) e a.faces.linked;
-    }
-partner_of_active g n at r (y, inr a) (Some m) h =
-    let e = h y a.faces.linked in
-    record {
-      rule = r;
-      active = (y, inr a);
-      linked = subst (λ z. Linked (net_of g) (slot at 0) (slot z 0)) e
-          (linked_sym (net_of g) (slot y 0) (slot at 0) a.faces.linked);
-    }
+partner_of_active g at r (y, inr a) None h = absurd (h y a.faces.linked)
+partner_of_active g at r a (Some m) h = (r, (a, linked_sym (net_of g) (slot m.0 0) (slot at 0) ((h m.0).1 refl)))
 
 module _ (old g : Graph) (fuel start : ℕ) (names : List NodeName) (journal : List Entry)
-    (u : UnderWay old g start names journal) (within : length journal ≤ fuel) where
+    (u : IsUnderWay old g start names journal) (within : length journal ≤ fuel) where
   leads_here : LeadsTo old journal g
   leads_here = let c = u.count in let s = u.start_is in
       leads_to old g names journal (length g.nodes) (length journal) u.m u.named (omega arith) u.from u.led
@@ -106,24 +89,24 @@ module _ (old g : Graph) (fuel start : ℕ) (names : List NodeName) (journal : L
       }
 
 -- after a step that was written down
-pub advanced : (old g g' : Graph) (r r' : Running) →
-    UnderWay old g r.start r.names.items r.journal → IsNet (net_of g) → (at partner : ℕ) →
+pub advanced : (old g g' : Graph) (r r' : UnderWay) →
+    IsUnderWay old g r.names.start r.names.born.items r.journal → IsNet (net_of g) → (at partner : ℕ) →
     IsLeast g at partner → Advances r r' g g' at partner →
-    UnderWay old g' r'.start r'.names.items r'.journal
+    IsUnderWay old g' r'.names.start r'.names.born.items r'.journal
 advanced old g g' r r' u n at partner l a =
-    let first = listed old g r.start r.names.items r.journal u at (active_below g at l.rule l.active) in
-    let second = listed old g r.start r.names.items r.journal u partner (partner_below g n at partner l) in
-    let v = one_on old g g' r.start r.names.items r.journal u n at partner a.rule a.step l a.is_net in
-    let U : ℕ → List NodeName → List Entry → Type 0 = λ s ns es. UnderWay old g' s ns es in
+    let first = listed old g r.names.start r.names.born.items r.journal u at (active_below g at l.rule l.active) in
+    let second = listed old g r.names.start r.names.born.items r.journal u partner (partner_below g n at partner l) in
+    let v = one_on old g g' r.names.start r.names.born.items r.journal u n at partner a.rule a.step l a.is_net in
+    let U : ℕ → List NodeName → List Entry → Type 0 = λ s ns es. IsUnderWay old g' s ns es in
     let V : NodeName → NodeName → Type 0 = λ x y.
-    UnderWay old g' r.start (r.names.items ++ names_born (length r.journal)
+    IsUnderWay old g' r.names.start (r.names.born.items ++ names_born (length r.journal)
     (length g'.nodes - length g.nodes)) (r.journal ++ record { rule = a.rule; first = x; second = y } ∷ []) in
-    let v1 : V (name_in r.start r.names.items at) (u.m partner) = subst (λ x. V x (u.m partner)) (sym first) v in
-    let v2 : V (name_in r.start r.names.items at) (name_in r.start r.names.items partner) = subst
-    (λ y. V (name_in r.start r.names.items at) y) (sym second) v1 in
-    subst (λ s. U s r'.names.items r'.journal) (sym a.start)
-    (subst (λ ns. U r.start ns r'.journal) (sym a.names)
-    (subst (λ es. U r.start (r.names.items ++ names_born (length r.journal)
+    let v1 : V (name_by r.names at) (u.m partner) = subst (λ x. V x (u.m partner)) (sym first) v in
+    let v2 : V (name_by r.names at) (name_by r.names partner) = subst
+    (λ y. V (name_by r.names at) y) (sym second) v1 in
+    subst (λ s. U s r'.names.born.items r'.journal) (sym a.start)
+    (subst (λ ns. U r.names.start ns r'.journal) (sym a.names)
+    (subst (λ es. U r.names.start (r.names.born.items ++ names_born (length r.journal)
     (length g'.nodes - length g.nodes)) es) (sym a.journal) v2))
 
 pub within_on : (journal : List Entry) (e : Entry) (fuel : ℕ) → length journal ≤ fuel →

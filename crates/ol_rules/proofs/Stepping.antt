@@ -12,7 +12,7 @@ use Rattle.ol_net.specs.Graph.{Graph, IsTabled}
 use Rattle.ol_net.proofs.Numbered.{has_node, linked}
 use Rattle.ol_net.specs.declared.parts.Port.TheVariants.{Of}
 use Rattle.ol_rules.specs.declared.steps.Pair.{Pair}
-use Rattle.ol_rules.specs.Actors.{IsPair}
+use Rattle.ol_rules.specs.Actors.{IsItsPair}
 use Rattle.ol_net.specs.Nets.{NamedPort, HasNode, Linked, Faces, IsPrincipalOf, IsSlotOf}
 use Rattle.ol_net.specs.Pairs.{IsActive}
 use Rattle.ol_net.specs.Numbered.{net_of}
@@ -117,7 +117,7 @@ steps_at old new at r f g kf kg one faces fits replaced =
 
 -- and so is one by the pair that the code holds
 pub steps_from : (old new : Graph) (at : NodeId) (pair : Pair) →
-    IsTabled old.free old.nodes old.partners → IsPair old at pair
+    IsTabled old.free old.nodes old.partners → IsItsPair old at pair
     → Replaces old new pair.f pair.g (born_of (action_of pair.rule pair.of_g.1) pair.of_f pair.of_g)
     (joins_of (action_of pair.rule pair.of_g.1) (arity pair.of_f.0) (arity pair.of_g.0))
     → StepsAt old new at.0 pair.rule

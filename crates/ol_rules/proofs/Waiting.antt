@@ -1,5 +1,5 @@
 -- The nodes that wait for their turn: sets of numbers, and what has to wait after a step.
-use Rattle.std.proofs.Common.{◌≡◌, ◌≢◌, ℕ, suc, ◌+◌, ◌<◌, ◌≤◌, Bool, true, false, nat_lt, nat_eq}
+use Rattle.std.proofs.Common.{◌≡◌, ◌≢◌, ℕ, suc, ◌+◌, ◌-◌, ◌<◌, ◌≤◌, Bool, true, false, nat_lt, nat_eq}
 use Rattle.std.proofs.Common.{List, [], ◌∷◌, length, ◌⊎◌, inl, inr, refl, sym, ◌∙◌, subst, arith}
 use Rattle.std.proofs.lemmas.Bool.{cases_lt}
 use Rattle.std.proofs.lemmas.Bool.Decides.{nat_tests}
@@ -17,9 +17,10 @@ use Rattle.ol_net.specs.Numbered.{net_of}
 use Rattle.ol_net.specs.Pairs.{IsInActive}
 use Rattle.ol_rules.specs.Steps.{StepsAt}
 use Rattle.ol_rules.specs.Rewriting.{action_of}
-use Rattle.ol_rules.specs.Running.{AllWait, OthersWait, StillWait, IsLeast, HasPartner}
-use Rattle.ol_rules.proofs.FreshPairs.{linked_sym, active_after, gone}
-use Rattle.ol_rules.proofs.UnderWay.{node_below, the_pair}
+use Rattle.ol_rules.specs.Running.{AllWait, OthersWait, IsLeast}
+use Rattle.ol_rules.specs.Waiting.{AreAdded}
+use Rattle.ol_rules.proofs.FreshPairs.{active_after, gone}
+use Rattle.ol_rules.proofs.OnTheWay.{node_below, the_pair}
 
 pub nat_is : (m n : ℕ) → (m ≡ n) ⊎ (m ≢ n)
 nat_is m n = grind arith
@@ -38,7 +39,8 @@ pub others_stay : (s n : BTreeSet ℕ) (k : ℕ) (b : Bool) → Updates nat_cmp 
     x ≢ k → contains nat_cmp s x ≡ true → contains nat_cmp n x ≡ true
 others_stay s n k b u x h c = u.2 x (differs k x h) ∙ c
 
-pub stays_after_insert : (s n : BTreeSet ℕ) (k : ℕ) → Updates nat_cmp s n k true → StillWait s n
+pub stays_after_insert : (s n : BTreeSet ℕ) (k : ℕ) → Updates nat_cmp s n k true → (x : ℕ) →
+    contains nat_cmp s x ≡ true → contains nat_cmp n x ≡ true
 stays_after_insert s n k u x c = go (nat_is x k)
   where
     go : (x ≡ k) ⊎ (x ≢ k) → contains nat_cmp n x ≡ true
@@ -72,53 +74,106 @@ active_node g x r (y, inr a) = (a.l, a.j, a.faces.second)
 pub active_below : (g : Graph) (x : ℕ) (r : Rule) → IsInActive (net_of g) x r → x < length g.nodes
 active_below g x r a = let n = active_node g x r a in node_below g x n.0 n.1 n.2
 
-pub partner_port : (g : Graph) → IsNet (net_of g) → (x : ℕ) (r : Rule) (q : NamedPort ℕ) →
-    IsInActive (net_of g) x r → Linked (net_of g) (slot x 0) q → (y : ℕ) × (q ≡ slot y 0)
-partner_port g n x r q (y, inl a) h = (y, n.one_link (slot x 0) q (slot y 0) h a.faces.linked)
-partner_port g n x r q (y, inr a) h = (
-  y,
-  n.one_link (slot x 0) q (slot y 0) h (linked_sym (net_of g) (slot y 0) (slot x 0) a.faces.linked),
-)
+-- ---- what is added
 
-pub has_partner : (g : Graph) → IsNet (net_of g) → (x y s : ℕ) (r : Rule) →
-    IsInActive (net_of g) x r → Linked (net_of g) (slot x 0) (slot y s) → HasPartner g x y
-has_partner g n x y s r a h =
-    let t = partner_port g n x r (slot y s) a h in
-    let e : s ≡ 0 = cc in
-    record { rule = r; active = a; linked = subst (λ s. Linked (net_of g) (slot x 0) (slot y s)) e h }
-
--- a loop over numbers, each of which waits if it is to
-pub wait_for_more : (A : ℕ → Type 0) (w0 w w' : BTreeSet ℕ) (from n : ℕ) → StillWait w0 w →
-    ((x : ℕ) → from ≤ x → x < n → A x → contains nat_cmp w x ≡ true) →
-    StillWait w w' → (A n → contains nat_cmp w' n ≡ true) →
-    StillWait w0 w' × ((x : ℕ) → from ≤ x → x < n + 1 → A x → contains nat_cmp w' x ≡ true)
-wait_for_more A w0 w w' from n kept all keeps one = (
-  (λ x h. keeps x (kept x h)),
-  (λ x a b h. go x a (cases_lt x n) b h),
-)
+-- nothing
+pub none_added : (A : ℕ → Type 0) (w : BTreeSet ℕ) → ((x : ℕ) → A x → ⊥) → AreAdded A w w
+none_added A w never x = (inl, go)
   where
-    go : (x : ℕ) → from ≤ x → (x < n) ⊎ (n ≤ x) → x < n + 1 → A x → contains nat_cmp w' x ≡ true
-    go x a (inl c) b h = keeps x (all x a c h)
-    go x a (inr c) b h = let e : n ≡ x = omega arith in let P : ℕ →
-        Type 0 = λ z. contains nat_cmp w' z ≡ true in subst P e (one (subst A (sym e) h))
+    go : (contains nat_cmp w x ≡ true) ⊎ A x → contains nat_cmp w x ≡ true
+    go (inl h) = h
+    go (inr a) = absurd (never x a)
 
--- the same for the slots of a node
-pub beside_more : (g : Graph) (at : ℕ) (w0 w : BTreeSet ℕ) (n : ℕ) → StillWait w0 w →
-    ((x s : ℕ) → s + 1 < n → Linked (net_of g) (slot x 0) (slot at (s + 1)) → contains nat_cmp w x ≡ true) →
-    (w' : BTreeSet ℕ) → StillWait w w' →
-    ((x : ℕ) → Linked (net_of g) (slot x 0) (slot at n) → contains nat_cmp w' x ≡ true) →
-    StillWait w0 w' × ((x s : ℕ) → s + 1 < n + 1 → Linked (net_of g) (slot x 0) (slot at (s + 1)) →
-    contains nat_cmp w' x ≡ true)
-beside_more g at w0 w n kept all w' keeps one = (
-  (λ x h. keeps x (kept x h)),
-  (λ x s b h. go x s (cases_lt (s + 1) n) b h),
-)
+-- one number, if no other is so
+pub one_added : (A : ℕ → Type 0) (s n : BTreeSet ℕ) (k : ℕ) → Updates nat_cmp s n k true → A k →
+    ((x : ℕ) → A x → x ≡ k) → AreAdded A s n
+one_added A s n k u a one x = (go (nat_is x k), back)
   where
-    go : (x s : ℕ) → (s + 1 < n) ⊎ (n ≤ s + 1) → s + 1 < n + 1 →
-        Linked (net_of g) (slot x 0) (slot at (s + 1)) → contains nat_cmp w' x ≡ true
-    go x s (inl c) b h = keeps x (all x s c h)
-    go x s (inr c) b h = let e : s + 1 ≡ n = omega arith in
-        one x (subst (λ z. Linked (net_of g) (slot x 0) (slot at z)) e h)
+    go : (x ≡ k) ⊎ (x ≢ k) → contains nat_cmp n x ≡ true → (contains nat_cmp s x ≡ true) ⊎ A x
+    go (inl e) h = inr (subst A (sym e) a)
+    go (inr d) h = inl (sym (u.2 x (differs k x d)) ∙ h)
+
+    back : (contains nat_cmp s x ≡ true) ⊎ A x → contains nat_cmp n x ≡ true
+    back (inl h) = stays_after_insert s n k u x h
+    back (inr b) = let P : ℕ → Type 0 = λ z. contains nat_cmp n z ≡ true in subst P (sym (one x b)) u.1
+
+-- these, and then those
+pub more_added : (A B C : ℕ → Type 0) (u v w : BTreeSet ℕ) → AreAdded A u v → AreAdded B v w →
+    ((x : ℕ) → A x ⊎ B x → C x) → ((x : ℕ) → C x → A x ⊎ B x) → AreAdded C u w
+more_added A B C u v w f g all each x = ((λ h. last ((g x).0 h)), back)
+  where
+    first : (contains nat_cmp u x ≡ true) ⊎ A x → (contains nat_cmp u x ≡ true) ⊎ C x
+    first (inl h) = inl h
+    first (inr a) = inr (all x (inl a))
+
+    last : (contains nat_cmp v x ≡ true) ⊎ B x → (contains nat_cmp u x ≡ true) ⊎ C x
+    last (inl h) = first ((f x).0 h)
+    last (inr b) = inr (all x (inr b))
+
+    side : A x ⊎ B x → contains nat_cmp w x ≡ true
+    side (inl a) = (g x).1 (inl ((f x).1 (inr a)))
+    side (inr b) = (g x).1 (inr b)
+
+    back : (contains nat_cmp u x ≡ true) ⊎ C x → contains nat_cmp w x ≡ true
+    back (inl h) = (g x).1 (inl ((f x).1 (inl h)))
+    back (inr c) = side (each x c)
+
+-- the same numbers, told otherwise
+pub same_added : (A B : ℕ → Type 0) (u v : BTreeSet ℕ) → AreAdded A u v → ((x : ℕ) → A x → B x) →
+    ((x : ℕ) → B x → A x) → AreAdded B u v
+same_added A B u v f to from x = ((λ h. on ((f x).0 h)), back)
+  where
+    on : (contains nat_cmp u x ≡ true) ⊎ A x → (contains nat_cmp u x ≡ true) ⊎ B x
+    on (inl h) = inl h
+    on (inr a) = inr (to x a)
+
+    back : (contains nat_cmp u x ≡ true) ⊎ B x → contains nat_cmp v x ≡ true
+    back (inl h) = (f x).1 (inl h)
+    back (inr b) = (f x).1 (inr (from x b))
+
+-- a loop over numbers, each of which is added if it is so
+pub next_added : (A : ℕ → Type 0) (u v w : BTreeSet ℕ) (n : ℕ) →
+    AreAdded (λ (x : ℕ). (x < n) × A x) u v → AreAdded (λ (x : ℕ). (x ≡ n) × A x) v w →
+    AreAdded (λ (x : ℕ). (x < n + 1) × A x) u w
+next_added A u v w n f g = more_added _ _ _ u v w f g all each
+  where
+    all : (x : ℕ) → ((x < n) × A x) ⊎ ((x ≡ n) × A x) → (x < n + 1) × A x
+    all x (inl h) = (let b = h.0 in omega arith, h.1)
+    all x (inr h) = (let b = h.0 in omega arith, h.1)
+
+    each : (x : ℕ) → (x < n + 1) × A x → ((x < n) × A x) ⊎ ((x ≡ n) × A x)
+    each x h = go (cases_lt x n)
+      where
+        go : (x < n) ⊎ (n ≤ x) → ((x < n) × A x) ⊎ ((x ≡ n) × A x)
+        go (inl b) = inl (b, h.1)
+        go (inr b) = inr (let c = h.0 in omega arith, h.1)
+
+-- a loop over the slots of a node
+module _ (g : Graph) (at : ℕ) (n : ℕ) where
+  abbrev Before : ℕ → Type 0
+  Before x = (s : ℕ) × (s + 1 < n) × Linked (net_of g) (slot x 0) (slot at (s + 1))
+
+  abbrev Here : ℕ → Type 0
+  Here x = Linked (net_of g) (slot x 0) (slot at n)
+
+  abbrev Both : ℕ → Type 0
+  Both x = (s : ℕ) × (s + 1 < n + 1) × Linked (net_of g) (slot x 0) (slot at (s + 1))
+
+  either : 1 ≤ n → (x : ℕ) → Before x ⊎ Here x → Both x
+  either some x (inl t) = (t.0, let b = t.1 in omega arith, t.2)
+  either some x (inr l) = let e : n ≡ (n - 1) + 1 = omega arith in
+      (n - 1, omega arith, subst (λ s. Linked (net_of g) (slot x 0) (slot at s)) e l)
+
+  each : (x : ℕ) → Both x → Before x ⊎ Here x
+  each x t = go (cases_lt (t.0 + 1) n)
+    where
+      go : (t.0 + 1 < n) ⊎ (n ≤ t.0 + 1) → Before x ⊎ Here x
+      go (inl b) = inl (t.0, b, t.2)
+      go (inr b) = let c = t.1 in let e : t.0 + 1 ≡ n = omega arith in
+          inr (subst (λ s. Linked (net_of g) (slot x 0) (slot at s)) e t.2)
+
+  pub next_beside : (u v w : BTreeSet ℕ) → 1 ≤ n → AreAdded Before u v → AreAdded Here v w → AreAdded Both u w
+  next_beside u v w some f h = more_added Before Here Both u v w f h (either some) each
 
 -- an auxiliary port is one of two
 pub few_slots : (g : Graph) → IsNet (net_of g) → (p : NamedPort ℕ) (x s : ℕ) → Linked (net_of g) p (slot x s) → s < 3
@@ -135,9 +190,8 @@ few_slots g n p x s h = go (n.of_ports p (slot x s) h).1
     go : (k : Kind) × (i : ℕ) × HasNode (net_of g) x k i × (s ≤ arity k) → s < 3
     go t = few t.0 t.3
 
--- After a step each node of an active pair waits: those that waited, without the one whose turn it
--- was, those beside the
--- two, and those that were born.
+-- After a step each node of an active pair waits: those that waited, without the one whose turn it was, those
+-- beside the two, and those that were born.
 pub all_wait_on : (g g' : Graph) → IsNet (net_of g) →
     (at partner : ℕ) (r : Rule) (s : StepsAt g g' at r) → IsLeast g at partner → (w : BTreeSet ℕ) → OthersWait g at w →
     ((x t : ℕ) → Linked (net_of g) (slot x 0) (slot at (t + 1)) → contains nat_cmp w x ≡ true) →

@@ -18,7 +18,7 @@ pub record IsFacing (net : Graph) (pair : Pair) : Type 0 where
   pub is_g : kind_at net.nodes pair.g.0 ≡ Some pair.of_g
 
 -- the node stands in the active pair, whose f acts on its g
-pub record IsPair (net : Graph) (at : NodeId) (pair : Pair) : Type 0 where
+pub record IsItsPair (net : Graph) (at : NodeId) (pair : Pair) : Type 0 where
   pub one_of : (at ≡ pair.f) ⊎ (at ≡ pair.g)
   pub active : facing_at net at ≡ Active pair.rule
   pub facing : IsFacing net pair
@@ -26,7 +26,7 @@ pub record IsPair (net : Graph) (at : NodeId) (pair : Pair) : Type 0 where
 
 -- the active pair of a node, or None where it is in none
 abbrev pub FindsPair : Graph → NodeId → Option Pair → Type 0
-FindsPair net at found = MatchOption found (IsUnpaired net at) (λ pair. IsPair net at pair)
+FindsPair net at found = MatchOption found (IsUnpaired net at) (λ pair. IsItsPair net at pair)
 
 -- what the rule of the pair does
 abbrev pub action_in : Pair → Action

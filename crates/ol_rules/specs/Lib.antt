@@ -7,8 +7,10 @@ pub mod Names
 pub mod Runs
 pub mod Laws
 pub mod Contracting
-pub mod Running
+pub mod UnderWay
+pub mod Waiting
 -- What only contracts of private functions and proofs cite.
 pub mod Actors
 pub mod Counted
+pub mod Running
 pub mod BornLists

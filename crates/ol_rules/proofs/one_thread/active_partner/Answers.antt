@@ -5,5 +5,5 @@ pub returns-in_default : goal.returns-in_default
 returns-in_default c = λ r a. c.in_default.not-Active r ((c.facing.ensures.active r).1 a)
 
 pub returns : goal.returns
-returns c = partner_of_active c.args.net.now c.is_net.ensures.net c.args.at.0 c.in-Active.field-0
+returns c = partner_of_active c.args.net.now c.args.at.0 c.in-Active.field-0
     ((c.facing.ensures.active c.in-Active.field-0).0 c.in-Active.is) c.node_at.result c.node_at.ensures

@@ -10,9 +10,9 @@ pub returns-in-Some-active_partner-clause-lead : goal.returns-in-Some-active_par
 returns-in-Some-active_partner-clause-lead c =
     let p = c.in-Some-active_partner.ensures in
     record {
-      rule = p.rule;
-      active = p.active;
-      linked = p.linked;
+      rule = p.0;
+      active = p.1.0;
+      linked = p.1.1;
       least = λ x r a. lower c.loop-n.waiting c.in-Some.n x c.in-Some.ensures.least (c.loop-n.invariant x r a);
     }
 

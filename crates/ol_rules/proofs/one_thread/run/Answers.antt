@@ -1,9 +1,8 @@
 use Rattle.std.proofs.Common.{ℕ, ◌≡◌, ◌≢◌, ◌≤◌, List, [], length, sym, ap, ◌∙◌, subst, arith, inl, inr}
 use Rattle.ol_rules.specs.declared.journal.NodeName.{NodeName}
 use Rattle.ol_rules.specs.declared.journal.Entry.{Entry}
-use Rattle.ol_rules.specs.declared.one_thread.Running.{Running}
 use Rattle.ol_rules.specs.Runs.{RunsTo}
-use Rattle.ol_rules.proofs.UnderWay.{UnderWay, begins}
+use Rattle.ol_rules.proofs.OnTheWay.{IsUnderWay, begins}
 use Rattle.ol_rules.proofs.OneThread.{on_err, some_active, runs_to, stops_here, stops_after, advanced, within_on}
 use Rattle.ol_rules.proofs.one_thread.run.Goals as goal
 
@@ -16,12 +15,12 @@ returns-in_err-running-clause-no_memory c =
 pub loop-lead-init : goal.loop-lead-init
 loop-lead-init c =
     let e = c.in_ok-running.ensures in
-    let U : ℕ → List NodeName → List Entry → Type 0 = λ s ns es. UnderWay c.args.net.now c.args.net.now s ns es in
+    let U : ℕ → List NodeName → List Entry → Type 0 = λ s ns es. IsUnderWay c.args.net.now c.args.net.now s ns es in
     record {
-      under_way = subst (λ s. U s c.in_ok-running.running.names.items
-          c.in_ok-running.running.journal) (sym e.start)
-          (subst (λ ns. U (length c.args.net.now.nodes) ns c.in_ok-running.running.journal)
-          (sym e.names) (subst (λ es. U (length c.args.net.now.nodes) [] es) (sym e.journal)
+      under_way = subst (λ s. U s c.in_ok-running.running.under_way.names.born.items
+          c.in_ok-running.running.under_way.journal) (sym e.start)
+          (subst (λ ns. U (length c.args.net.now.nodes) ns c.in_ok-running.running.under_way.journal)
+          (sym e.born) (subst (λ es. U (length c.args.net.now.nodes) [] es) (sym e.journal)
           (begins c.args.net.now e.is_net)));
       waits = e.waits;
       is_net = e.is_net;
@@ -32,10 +31,10 @@ loop-lead-init c =
 pub returns-then-len-fuel-clause-runs : goal.returns-then-len-fuel-clause-runs
 returns-then-len-fuel-clause-runs c =
     let i = c.loop-lead.invariant in
-    let q : length c.loop-lead.running.journal ≡ c.args.fuel = sym c.len.ensures ∙ c.if-len-fuel.true in
+    let q : length c.loop-lead.running.under_way.journal ≡ c.args.fuel = sym c.len.ensures ∙ c.if-len-fuel.true in
     subst (λ es. RunsTo c.args.net.now c.args.fuel es c.loop-lead.net) (sym c.end.ensures.journal)
-    (runs_to c.args.net.now c.loop-lead.net c.args.fuel c.loop-lead.running.start
-    c.loop-lead.running.names.items c.loop-lead.running.journal i.under_way i.within (inr q))
+    (runs_to c.args.net.now c.loop-lead.net c.args.fuel c.loop-lead.running.under_way.names.start
+    c.loop-lead.running.under_way.names.born.items c.loop-lead.running.under_way.journal i.under_way i.within (inr q))
 
 pub returns-then-len-fuel-clause-done : goal.returns-then-len-fuel-clause-done
 returns-then-len-fuel-clause-done c =
@@ -45,7 +44,7 @@ returns-then-len-fuel-clause-done c =
 
 pub returns-then-len-fuel-clause-spent : goal.returns-then-len-fuel-clause-spent
 returns-then-len-fuel-clause-spent c =
-    let q : length c.loop-lead.running.journal ≡ c.args.fuel = sym c.len.ensures ∙ c.if-len-fuel.true in (
+    let q : length c.loop-lead.running.under_way.journal ≡ c.args.fuel = sym c.len.ensures ∙ c.if-len-fuel.true in (
       (λ e. (
         ap (λ (es : List Entry). length es) c.end.ensures.journal ∙ q,
         some_active c.loop-lead.net c.in-Some.lead.0 c.in-Some.partner.0 c.in-Some.ensures.lead,
@@ -57,37 +56,31 @@ pub loop-lead-preserved : goal.loop-lead-preserved
 loop-lead-preserved c =
     let i = c.loop-lead.invariant in
     let a = c.in_ok-advance.ensures.ok in
-    let more : length c.loop-lead.running.journal ≢ c.args.fuel = λ q. c.if-len-fuel.false (c.len.ensures ∙ q) in
-    let r : Running = record {
-      start = c.loop-lead.running.start;
-      names = c.loop-lead.running.names;
-      journal = c.loop-lead.running.journal;
-      waiting = c.next_lead.new.waiting;
-    } in
+    let more : length c.loop-lead.running.under_way.journal ≢ c.args.fuel = λ q. c.if-len-fuel.false (c.len.ensures ∙ q) in
     let P : List Entry → Type 0 = λ es. length es ≤ c.args.fuel in
     record {
-      under_way = advanced c.args.net.now c.loop-lead.net c.advance.new.net r c.advance.new.self
+      under_way = advanced c.args.net.now c.loop-lead.net c.advance.new.net c.loop-lead.running.under_way c.advance.new.self.under_way
           i.under_way i.is_net c.in-Some.lead.0 c.in-Some.partner.0 c.in-Some.ensures.lead a;
-      waits = a.waits;
+      waits = c.in_ok-advance.ensures.waits;
       is_net = a.is_net;
-      within = subst P (sym a.journal) (within_on c.loop-lead.running.journal _ c.args.fuel i.within more);
+      within = subst P (sym a.journal) (within_on c.loop-lead.running.under_way.journal _ c.args.fuel i.within more);
     }
 
 pub returns-in_err-advance-clause-no_memory : goal.returns-in_err-advance-clause-no_memory
 returns-in_err-advance-clause-no_memory c =
     let i = c.loop-lead.invariant in
-    let more : length c.loop-lead.running.journal ≢ c.args.fuel = λ q. c.if-len-fuel.false (c.len.ensures ∙ q) in
+    let more : length c.loop-lead.running.under_way.journal ≢ c.args.fuel = λ q. c.if-len-fuel.false (c.len.ensures ∙ q) in
     on_err c.from_residual-in_err-advance.result
-    (stops_after c.args.net.now c.loop-lead.net c.args.fuel c.loop-lead.running.start
-    c.loop-lead.running.names.items c.loop-lead.running.journal i.under_way i.within c.advance.new.net i.is_net more
+    (stops_after c.args.net.now c.loop-lead.net c.args.fuel c.loop-lead.running.under_way.names.start
+    c.loop-lead.running.under_way.names.born.items c.loop-lead.running.under_way.journal i.under_way i.within c.advance.new.net i.is_net more
     c.in-Some.lead.0 c.in-Some.partner.0 c.in-Some.ensures.lead c.in_err-advance.ensures.err)
 
 pub returns-clause-runs : goal.returns-clause-runs
 returns-clause-runs c =
     let i = c.loop-lead.invariant in
     subst (λ es. RunsTo c.args.net.now c.args.fuel es c.loop-lead.net) (sym c.end-2.ensures.journal)
-    (runs_to c.args.net.now c.loop-lead.net c.args.fuel c.loop-lead.running.start
-    c.loop-lead.running.names.items c.loop-lead.running.journal i.under_way i.within
+    (runs_to c.args.net.now c.loop-lead.net c.args.fuel c.loop-lead.running.under_way.names.start
+    c.loop-lead.running.under_way.names.born.items c.loop-lead.running.under_way.journal i.under_way i.within
     (inl c.in_default.ensures.lead))
 
 pub returns-clause-spent : goal.returns-clause-spent

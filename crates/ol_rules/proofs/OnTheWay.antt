@@ -22,7 +22,8 @@ use Rattle.ol_rules.specs.Laws.{IsFresh}
 use Rattle.ol_rules.specs.Names.{comes_before, IsNamed}
 use Rattle.ol_rules.specs.Runs.{IsLead, end, names_born, LeadsTo}
 use Rattle.ol_rules.specs.Steps.{births, StepsAt}
-use Rattle.ol_rules.specs.Running.{name_in, IsLeast}
+use Rattle.ol_rules.specs.Running.{IsLeast}
+use Rattle.ol_rules.specs.UnderWay.{name_in}
 use Rattle.ol_rules.proofs.NameOrder.{Names, names_apart, names_after, names_after_old, names_on}
 use Rattle.ol_rules.proofs.NameOrder.{names_first, not_before, not_before_itself}
 use Rattle.ol_rules.proofs.Renaming.{net_alike, active_to, active_from, step_under}
@@ -59,6 +60,9 @@ births_few r k l = go (is_meeting r) (few k) (few l)
     go : (b : _) → arity k ≤ 2 → arity l ≤ 2 → (if b then 0 else arity l + arity k) ≤ 4
     go true a c = omega arith
     go false a c = omega arith
+
+pub step_few : (g g' : Graph) (at : ℕ) (r : Rule) → StepsAt g g' at r → length g'.nodes ≤ length g.nodes + 4
+step_few g g' at r s = let q = s.numbers in let b = births_few r s.step.active.k s.step.active.l in omega arith
 
 -- the step of the least pair, under the names of a run
 module _ (g g' : Graph) (is_net : IsNet (net_of g)) (at partner : ℕ) (r : Rule)
@@ -176,7 +180,7 @@ are_from_on start next t b names m count born from p x h = go (got_append names 
     go (inr (q, e, h)) = let e' : start + p ≡ next + q = omega arith in ap m e' ∙ born q ∙ name_born t b q x h
 
 -- g is what the leads of this journal leave of old, and the names of its numbers from start on are these
-pub record UnderWay (old g : Graph) (start : ℕ) (names : List NodeName) (journal : List Entry) : Type 0 where
+pub record IsUnderWay (old g : Graph) (start : ℕ) (names : List NodeName) (journal : List Entry) : Type 0 where
   pub m : ℕ → NodeName
   pub named : Names (length old.nodes) (length g.nodes) (length journal) m
   pub start_is : start ≡ length old.nodes
@@ -187,7 +191,7 @@ pub record UnderWay (old g : Graph) (start : ℕ) (names : List NodeName) (journ
 
 -- the name that is kept for a number
 pub listed : (old g : Graph) (start : ℕ) (names : List NodeName) (journal : List Entry)
-    (u : UnderWay old g start names journal) (k : ℕ) → k < length g.nodes → name_in start names k ≡ u.m k
+    (u : IsUnderWay old g start names journal) (k : ℕ) → k < length g.nodes → name_in start names k ≡ u.m k
 listed old g start names journal u k h = go (cases_lt k start)
   where
     go : (k < start) ⊎ (start ≤ k) → name_in start names k ≡ u.m k
@@ -218,7 +222,7 @@ leads_to old g names journal next t m n count from led = record {
 }
 
 -- a run that begins
-pub begins : (old : Graph) → IsNet (net_of old) → UnderWay old old (length old.nodes) [] []
+pub begins : (old : Graph) → IsNet (net_of old) → IsUnderWay old old (length old.nodes) [] []
 begins old is_net = record {
   m = m;
   named = names_first (length old.nodes);
@@ -241,7 +245,7 @@ begins old is_net = record {
 
 -- a run after one more lead
 module _ (old g g' : Graph) (start : ℕ) (names : List NodeName) (journal : List Entry)
-    (u : UnderWay old g start names journal) (is_net : IsNet (net_of g))
+    (u : IsUnderWay old g start names journal) (is_net : IsNet (net_of g))
     (at partner : ℕ) (r : Rule) (s : StepsAt g g' at r) (least : IsLeast g at partner) where
   abbrev entry : Entry
   entry = record { rule = r; first = u.m at; second = u.m partner }
@@ -279,7 +283,7 @@ module _ (old g g' : Graph) (start : ℕ) (names : List NodeName) (journal : Lis
   births_here = let q = s.numbers in let b = births_few r s.step.active.k s.step.active.l in omega arith
 
   module _ (is_net' : IsNet (net_of g')) where
-    pub one_on : UnderWay old g' start (names ++ names_born (length journal)
+    pub one_on : IsUnderWay old g' start (names ++ names_born (length journal)
         (length g'.nodes - length g.nodes)) (journal ++ entry ∷ [])
     one_on = record {
       m = m';
