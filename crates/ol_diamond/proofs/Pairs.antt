@@ -20,7 +20,7 @@ use Rattle.ol_rules.proofs.BothWays.{both_ways}
 use Rattle.ol_rules.proofs.FreshPairs.{linked_sym}
 use Rattle.ol_rules.proofs.Relation.{net_kept}
 use Rattle.ol_rules.proofs.Tests.{nat_test}
-use Rattle.ol_rules.proofs.UnderWay.{fresh_numbers}
+use Rattle.ol_rules.proofs.OnTheWay.{fresh_numbers}
 use Rattle.ol_diamond.specs.Squares.{AreTogether}
 use Rattle.ol_diamond.proofs.Commute.{Disjoint, faces_still}
 

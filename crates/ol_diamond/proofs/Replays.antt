@@ -18,8 +18,9 @@ use Rattle.ol_rules.specs.Runs.{IsEntryStep}
 use Rattle.ol_rules.proofs.FreshPairs.{linked_sym}
 use Rattle.ol_rules.proofs.NameOrder.{Names, names_apart, names_after, names_after_old, names_on}
 use Rattle.ol_rules.proofs.Renaming.{net_alike, step_under}
-use Rattle.ol_rules.proofs.UnderWay.{node_below, births_few}
-use Rattle.ol_diamond.specs.Replaying.{number_within, node_number, RewritesNamed}
+use Rattle.ol_rules.proofs.OnTheWay.{node_below, births_few}
+use Rattle.ol_diamond.specs.Replaying.{RewritesNamed}
+use Rattle.ol_rules.specs.UnderWay.{number_within, node_number}
 
 -- ---- numbers of names
 

@@ -14,7 +14,7 @@ use Rattle.ol_rules.specs.Steps.{births, StepsAt}
 use Rattle.ol_rules.proofs.FreshPairs.{linked_sym}
 use Rattle.ol_rules.proofs.Relation.{same_refl, same_sym, same_trans}
 use Rattle.ol_rules.proofs.Renaming.{node_to, link_to, node_back, link_back, net_alike}
-use Rattle.ol_rules.proofs.UnderWay.{node_below, fresh_numbers}
+use Rattle.ol_rules.proofs.OnTheWay.{node_below, fresh_numbers}
 use Rattle.ol_diamond.specs.Births.{BirthName, init, born, IsBirthNet}
 use Rattle.ol_diamond.specs.Runs.{BirthPair, IsSamePair, IsPairStep}
 use Rattle.ol_diamond.specs.Squares.{IsInNoActive, AreTogether, AreInOnePair, InTurn, born_between}

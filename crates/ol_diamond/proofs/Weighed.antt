@@ -14,7 +14,7 @@ use Rattle.ol_rules.specs.Runs as runs
 use Rattle.ol_rules.proofs.NameOrder.{Names, names_after, names_after_old, names_first}
 use Rattle.ol_rules.proofs.Renaming.{net_alike}
 use Rattle.ol_rules.proofs.StartNets.{start_net, start_named}
-use Rattle.ol_rules.proofs.UnderWay.{node_below}
+use Rattle.ol_rules.proofs.OnTheWay.{node_below}
 use Rattle.ol_diamond.specs.PortWeights.{WeighsEntry}
 use Rattle.ol_diamond.specs.Waves.{weightless, IsWavesOf}
 use Rattle.ol_diamond.proofs.Replays.{Index, index_first, few_more}

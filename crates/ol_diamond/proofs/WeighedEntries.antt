@@ -31,7 +31,7 @@ use Rattle.ol_rules.proofs.FreshPairs.{linked_sym}
 use Rattle.ol_rules.proofs.NameOrder.{Names, names_apart, names_after, names_after_old}
 use Rattle.ol_rules.proofs.OneRun.{name_same, name_test, fresh_names}
 use Rattle.ol_rules.proofs.Renaming.{node_from, node_back}
-use Rattle.ol_rules.proofs.UnderWay.{node_below}
+use Rattle.ol_rules.proofs.OnTheWay.{node_below}
 use Rattle.ol_diamond.specs.PortWeights.{weight_at, joined_weights, copies_at, arity_of}
 use Rattle.ol_diamond.specs.PortWeights.{crossed_weights, acts_on, WeighsEntry}
 use Rattle.ol_diamond.specs.Waves.{WeightedNet, LinkedWithin, LeftWithin}

@@ -14,7 +14,7 @@ use Rattle.ol_rules.specs.declared.journal.NodeName.{NodeName}
 use Rattle.ol_rules.proofs.NameOrder.{Names, names_apart}
 use Rattle.ol_rules.proofs.Renaming.{node_from, link_back, link_to}
 use Rattle.ol_rules.proofs.Waiting.{nat_is}
-use Rattle.ol_diamond.specs.Replaying.{node_number}
+use Rattle.ol_rules.specs.UnderWay.{node_number}
 use Rattle.ol_diamond.specs.PortWeights.{weight_at, raised_if, join_weight, joined_weights}
 use Rattle.ol_diamond.proofs.Meetings.{IsRaised}
 use Rattle.ol_diamond.proofs.Replays.{Index}

@@ -1,6 +1,6 @@
 //! The waves of a journal, found by a replay on a net whose ports have weights.
 
-ghost use Rattle.std.specs.Prelude.{◌≡◌, ◌↔◌, IsNone, ℕ, suc, max, ◌+◌, ◌*◌, ◌≤◌, [], ◌∷◌, ◌++◌, length, true, false, slice_get, slice_index_or, IfOk, OnOk, IfSome, IfNone, option_map};
+ghost use Rattle.std.specs.Prelude.{◌≡◌, ◌↔◌, IsNone, ℕ, suc, max, ◌+◌, ◌*◌, ◌≤◌, [], ◌∷◌, ◌++◌, length, true, false, slice_get, slice_index_or, IfOk, OnOk, IfSome, IfNone};
 ghost use Rattle.ol_net.specs.declared.parts.Facing.TheVariants.{Active};
 ghost use Rattle.ol_net.specs.Graph.{place, kind_at, facing_at};
 ghost use Rattle.ol_net.specs.Nets.{slot, Linked, NamedNet, net_under};
@@ -11,13 +11,13 @@ ghost use Rattle.ol_rules.specs.declared.journal.NodeName.TheVariants.{Init};
 ghost use Rattle.ol_rules.specs.declared.journal.Entry.{Entry};
 ghost use Rattle.ol_rules.specs.Rewriting.{is_meeting};
 ghost use Rattle.ol_rules.specs.Runs.{IsRun};
-ghost use Rattle.ol_diamond.specs.Replaying.{node_number, AreIdle, AreIdleNumbers};
+ghost use Rattle.ol_diamond.specs.Replaying.{AreIdle, AreIdleNumbers};
 ghost use Rattle.ol_diamond.specs.Waves.{IsWavesOf};
 ghost use Rattle.ol_diamond.specs.PortWeights.{weight_at, raised_if, joined_weights, copied, copies_at, arity_of, acts_on, crossed_weights, weights_after, WeighsEntry};
 
 use ol_memory::NoMemory;
 use ol_net::{Facing, Net, NodeId, Port, Rule, rule_of};
-use ol_rules::{Entry, Journal, NodeName, is_meeting, step};
+use ol_rules::{Entry, Journal, NodeName, Numbers, are_facing, is_meeting, step};
 use std::alloc::Global;
 use std::marker::Model;
 
@@ -62,16 +62,14 @@ pub struct Rewritten {
     pub wave: u32,
 }
 
-/// A net while a journal is replayed, with weights of its links, which `waves` tells of. `bases`
-/// has, for each ticket so far, how many node numbers were given out before it, and at its end how
-/// many are given out by now: so the node that ticket t made at place p has the number
-/// `bases[t] + p`, and that is below `bases[t + 1]`. `weights` has a weight at the place of each
-/// port: free ports come first, by number, and then three places for each node number. A link
-/// weighs as much as the heavier of its two ports.
+/// A net while a journal is replayed, with the numbers of its names and weights of its links, which
+/// `waves` tells of. `weights` has a weight at the place of each port: free ports come first, by
+/// number, and then three places for each node number. A link weighs as much as the heavier of its
+/// two ports.
 #[derive(Drop)]
 pub struct Weighing {
     net: Net,
-    bases: Vec<u32>,
+    numbers: Numbers,
     weights: Vec<u32>,
 }
 
@@ -115,19 +113,6 @@ fn same_rule(a: Rule, b: Rule) -> bool
     a == b
 }
 
-// Whether the principal ports of the two nodes are joined.
-fn face(net: &Net, f: NodeId, g: NodeId) -> bool
-    ensures linked { result ≡ true → Linked (net_of net.now) (slot f.0 0) (slot g.0 0) }
-    ensures idle { result ≡ false → AreIdle (net_of net.now) f.0 g.0 }
-{
-    net.is_net();
-    match net.partner(Port::Of { node: f, slot: 0 }) {
-        Some(Port::Of { node, slot }) => slot == 0 && node.0 == g.0,
-        Some(Port::Free(_)) => false,
-        None => false,
-    }
-}
-
 // The rule by which the two nodes are an active pair, if they are one.
 fn rule_between(net: &Net, f: NodeId, g: NodeId) -> Option<Rule>
     ensures linked { IfSome result (λ rule. Linked (net_of net.now) (slot f.0 0) (slot g.0 0)) }
@@ -137,7 +122,7 @@ fn rule_between(net: &Net, f: NodeId, g: NodeId) -> Option<Rule>
     let Facing::Active(rule) = net.facing(f) else {
         return None;
     };
-    if !face(net, f, g) {
+    if !are_facing(net, f, g) {
         return None;
     }
     Some(rule)
@@ -148,46 +133,20 @@ impl Weighing {
     /// anything. `NoMemory`: no memory was found.
     pub fn new(alloc: Global, net: &Net) -> Result<Weighing, NoMemory>
         ensures net { IfOk result (λ w. w.net ≡ net.now) }
-        ensures bases { IfOk result (λ w. w.bases.items ≡ length net.now.nodes ∷ []) }
+        ensures numbers { IfOk result (λ w. w.numbers.bases.items ≡ length net.now.nodes ∷ []) }
         ensures sized { IfOk result (λ w.
             length w.weights.items ≡ net.now.free + 3 * length net.now.nodes) }
         ensures weights { IfOk result (λ w. (k : ℕ) → slice_index_or w.weights.items k 0 ≡ 0) }
     {
         let net = net.copy()?;
-        let mut bases = Vec::new(alloc);
-        bases.push(net.born())?;
+        let numbers = Numbers::new(alloc, &net)?;
         let mut weights = Vec::new(alloc);
         weights.resize(net.free_ports() as usize + 3 * net.born() as usize, 0)?;
         Ok(Weighing {
             net,
-            bases,
+            numbers,
             weights,
         })
-    }
-
-    // The node of a name, by its number, if the name was given out.
-    fn node_of(&self, name: NodeName) -> Option<NodeId>
-        ensures { option_map (λ node. node.0) result ≡ node_number self.now.bases.items name }
-    {
-        match name {
-            NodeName::Init(k) => {
-                if k < *self.bases.get(0)? {
-                    Some(NodeId(k))
-                } else {
-                    None
-                }
-            }
-            NodeName::Born { ticket, place } => {
-                let base = *self.bases.get(ticket as usize)?;
-                let next = *self.bases.get(ticket as usize + 1)?;
-                let number = base.checked_add(place as u32)?;
-                if number < next {
-                    Some(NodeId(number))
-                } else {
-                    None
-                }
-            }
-        }
     }
 
     fn place(&self, port: Port) -> usize
@@ -223,7 +182,7 @@ impl Weighing {
     // The port, if there is one, weighs this at least.
     fn raise(&mut self, port: Option<Port>, least: u32)
         ensures net { self.new.net ≡ self.old.net }
-        ensures bases { self.new.bases ≡ self.old.bases }
+        ensures numbers { self.new.numbers ≡ self.old.numbers }
         ensures weights { self.new.weights.items
             ≡ raised_if self.old.net.free self.old.weights.items port least }
     {
@@ -240,7 +199,7 @@ impl Weighing {
     // Two slots are joined: what they were linked to weighs as much as both, and as the wave.
     fn join(&mut self, a: Port, b: Port, wave: u32)
         ensures net { self.new.net ≡ self.old.net }
-        ensures bases { self.new.bases ≡ self.old.bases }
+        ensures numbers { self.new.numbers ≡ self.old.numbers }
         ensures weights { self.new.weights.items
             ≡ joined_weights self.old.net self.old.weights.items a b wave }
     {
@@ -254,7 +213,7 @@ impl Weighing {
 
     fn push(&mut self, weight: u32) -> Result<(), NoMemory>
         ensures net { self.new.net ≡ self.old.net }
-        ensures bases { self.new.bases ≡ self.old.bases }
+        ensures numbers { self.new.numbers ≡ self.old.numbers }
         ensures weights { OnOk result (self.new.weights.items
             ≡ self.old.weights.items ++ weight ∷ []) }
     {
@@ -266,7 +225,7 @@ impl Weighing {
     // other ports as the wave.
     fn copy(&mut self, at: Port, wave: u32) -> Result<(), NoMemory>
         ensures net { self.new.net ≡ self.old.net }
-        ensures bases { self.new.bases ≡ self.old.bases }
+        ensures numbers { self.new.numbers ≡ self.old.numbers }
         ensures weights { OnOk result (self.new.weights.items
             ≡ copied self.old.net.free self.old.weights.items at wave) }
     {
@@ -288,7 +247,7 @@ impl Weighing {
     // Copies come at the slots of the node but the principal one.
     fn copies(&mut self, at: NodeId, wave: u32) -> Result<(), NoMemory>
         ensures net { self.new.net ≡ self.old.net }
-        ensures bases { self.new.bases ≡ self.old.bases }
+        ensures numbers { self.new.numbers ≡ self.old.numbers }
         ensures weights { OnOk result (self.new.weights.items
             ≡ copies_at self.old.net.free self.old.weights.items at
             (arity_of (kind_at self.old.net.nodes at.0)) wave) }
@@ -318,7 +277,7 @@ impl Weighing {
     // f and h cross: copies of f come at the slots of h, and then copies of h at those of f.
     fn cross(&mut self, f: NodeId, h: NodeId, wave: u32) -> Result<(), NoMemory>
         ensures net { self.new.net ≡ self.old.net }
-        ensures bases { self.new.bases ≡ self.old.bases }
+        ensures numbers { self.new.numbers ≡ self.old.numbers }
         ensures weights { OnOk result (self.new.weights.items
             ≡ crossed_weights self.old.net self.old.weights.items f h wave) }
     {
@@ -329,7 +288,7 @@ impl Weighing {
     // The weights once the pair was rewritten, which it isn't yet.
     fn weigh(&mut self, a: NodeId, b: NodeId, rule: Rule, wave: u32) -> Result<(), NoMemory>
         ensures net { self.new.net ≡ self.old.net }
-        ensures bases { self.new.bases ≡ self.old.bases }
+        ensures numbers { self.new.numbers ≡ self.old.numbers }
         ensures weights { OnOk result (self.new.weights.items
             ≡ weights_after self.old.net self.old.weights.items a b rule wave) }
     {
@@ -355,19 +314,19 @@ impl Weighing {
     ) -> Result<Option<Rewritten>, NoMemory>
         requires few { length self.old.net.nodes ≤ 2000000000 }
         ensures made { IfOk result (λ made. IfSome made (λ of. WeighsEntry
-            self.old.net self.new.net self.old.bases.items self.new.bases.items
+            self.old.net self.new.net self.old.numbers.bases.items self.new.numbers.bases.items
             self.old.weights.items self.new.weights.items
             (record { rule = of.rule; first = first; second = second }) of.wave)) }
         ensures idle { IfOk result (λ made. IfNone made
-            (AreIdleNumbers self.old.net self.old.bases.items first second)) }
+            (AreIdleNumbers self.old.net self.old.numbers.bases.items first second)) }
         ensures stays { IfOk result (λ made. IfNone made (self.new ≡ self.old)) }
     {
         self.net.is_net();
         self.net.is_tabled();
-        let Some(a) = self.node_of(first) else {
+        let Some(a) = self.numbers.node_of(first) else {
             return Ok(None);
         };
-        let Some(b) = self.node_of(second) else {
+        let Some(b) = self.numbers.node_of(second) else {
             return Ok(None);
         };
         let Some(rule) = rule_between(&self.net, a, b) else {
@@ -381,7 +340,7 @@ impl Weighing {
             return Err(NoMemory);
         };
         self.net.is_net();
-        self.bases.push(self.net.born())?;
+        self.numbers.push(&self.net)?;
         Ok(Some(Rewritten { rule, wave }))
     }
 
@@ -390,7 +349,7 @@ impl Weighing {
     fn rewrite_entry(&mut self, entry: Entry) -> Result<u32, NoMemory>
         requires few { length self.old.net.nodes ≤ 2000000000 }
         ensures weighed { IfOk result (λ wave. WeighsEntry self.old.net self.new.net
-            self.old.bases.items self.new.bases.items
+            self.old.numbers.bases.items self.new.numbers.bases.items
             self.old.weights.items self.new.weights.items entry wave) }
     {
         let Some(made) = self.rewrite(entry.first, entry.second)? else {

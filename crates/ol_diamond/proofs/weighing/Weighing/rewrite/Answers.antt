@@ -1,12 +1,14 @@
-use Rattle.std.proofs.Common.{◌≡◌, ℕ, List, Some, [], ◌∷◌, ◌++◌, length, Vec, Global, sym, ap, ◌∙◌, subst}
+use Rattle.std.proofs.Common.{◌≡◌, ℕ, List, Some, [], ◌∷◌, ◌++◌, length, sym, ap, ◌∙◌, subst}
 use Rattle.ol_net.specs.declared.parts.Rule.{Rule}
 use Rattle.ol_net.specs.declared.parts.NodeId.{NodeId}
 use Rattle.ol_net.specs.declared.parts.Facing.TheVariants.{Active}
 use Rattle.ol_net.specs.Graph.{Graph, facing_at}
 use Rattle.ol_net.specs.Numbered.{net_of}
 use Rattle.ol_rules.specs.declared.journal.NodeName.{NodeName}
+use Rattle.ol_rules.specs.declared.names.Numbers.{Numbers}
 use Rattle.ol_rules.specs.Steps.{StepsAt}
-use Rattle.ol_diamond.specs.Replaying.{node_number, AreIdle, AreIdleNumbers}
+use Rattle.ol_diamond.specs.Replaying.{AreIdle, AreIdleNumbers}
+use Rattle.ol_rules.specs.UnderWay.{node_number}
 use Rattle.ol_diamond.proofs.weighing.Weighing.rewrite.Goals as goal
 
 one_rule : (g g' : Graph) (at : NodeId) (r s : Rule) → g ≡ g' → facing_at g at ≡ Active r →
@@ -22,7 +24,7 @@ idle_numbers g bases a b f h e e' idle x y p q =
 
 pub returns-in_default-rule_between-clause-idle : goal.returns-in_default-rule_between-clause-idle
 returns-in_default-rule_between-clause-idle c =
-    idle_numbers c.args.self.now.net c.args.self.now.bases.items c.args.first c.args.second
+    idle_numbers c.args.self.now.net c.args.self.now.numbers.bases.items c.args.first c.args.second
     c.in-Some.a.0 c.in-Some-node_of.b.0 (c.in-Some.ensures)
     (c.in-Some-node_of.ensures) c.in_default-rule_between.ensures.idle
 
@@ -40,8 +42,8 @@ returns-clause-made c = record {
         c.weigh.ensures.net c.in-Ok.ensures.steps;
     old_net = c.is_net.ensures.net;
     new_net = c.is_net-2.ensures.net;
-    bases_on = c.in_ok-push.ensures.items ∙ ap (λ n. c.weigh.new.self.bases.items ++ n ∷ []) c.born.ensures.born
-        ∙ ap (λ (v : Vec ℕ Global). v.items ++ length c.step.new.net.nodes ∷ []) c.weigh.ensures.bases;
+    bases_on = c.in_ok-push.ensures.bases
+        ∙ ap (λ (v : Numbers). v.bases.items ++ length c.step.new.net.nodes ∷ []) c.weigh.ensures.numbers;
   };
   rule = one_rule c.weigh.new.self.net c.args.self.now.net c.in-Some.a c.in-Ok.field-0
       c.in-Some-rule_between.rule c.weigh.ensures.net c.in-Ok.ensures.active c.in-Some-rule_between.ensures.active;

@@ -11,12 +11,12 @@ returns c =
     let of : Rule → Entry = λ r. record { rule = r; first = c.args.entry.first; second = c.args.entry.second } in
     record {
       weighed = subst (λ (e : Entry). WeighsEntry c.args.self.now.net c.rewrite.new.self.net
-          c.args.self.now.bases.items c.rewrite.new.self.bases.items c.args.self.now.weights.items
+          c.args.self.now.numbers.bases.items c.rewrite.new.self.numbers.bases.items c.args.self.now.weights.items
           c.rewrite.new.self.weights.items e c.in-Some.made.wave)
           (ap of (c.same_rule.ensures c.if-not-same_rule.false))
           (subst (λ (o : Option Rewritten). IfSome o
           (λ r. WeighsEntry c.args.self.now.net c.rewrite.new.self.net
-          c.args.self.now.bases.items c.rewrite.new.self.bases.items
+          c.args.self.now.numbers.bases.items c.rewrite.new.self.numbers.bases.items
           c.args.self.now.weights.items c.rewrite.new.self.weights.items
           (record {
             rule = r.rule;
