@@ -14,9 +14,9 @@ use Rattle.ol_demand.specs.Asking.{IsUnderWay, IsAnswered, IsStopped, IsSpentIfN
 use Rattle.ol_demand.specs.Demands.{asks, place_of, next}
 use Rattle.ol_demand.specs.Readings.{IsReadByChains, IsSpentReading}
 use Rattle.ol_demand.specs.declared.asking.Chains.{Chains}
-use Rattle.ol_demand.specs.declared.rewriting.Run.{Run}
+use Rattle.ol_rules.specs.declared.under_way.UnderWay.{UnderWay}
 
-found_on : (old g : Graph) (run : Run) (heads : ℕ) (places : List ReadNode) (F : List Frame)
+found_on : (old g : Graph) (run : UnderWay) (heads : ℕ) (places : List ReadNode) (F : List Frame)
     (s : Subterm) (ss : List Subterm) (a : Answer) →
     IsUnderWay old g run heads (places ++ place_of a ∷ []) (next F s ss a) →
     IsUnderWay old g run heads (found places F s ss a).places

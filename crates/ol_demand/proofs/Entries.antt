@@ -15,15 +15,15 @@ use Rattle.ol_rules.specs.declared.journal.Entry.{Entry}
 use Rattle.ol_rules.specs.Names.{IsNamed}
 use Rattle.ol_rules.specs.Rewriting.{IsStep}
 use Rattle.ol_rules.specs.Runs.{names_born}
-use Rattle.ol_rules.specs.Running.{name_in}
+use Rattle.ol_rules.specs.UnderWay.{name_in}
 use Rattle.ol_rules.specs.Steps.{StepsAt}
 use Rattle.ol_rules.proofs.FreshPairs.{linked_sym}
 use Rattle.ol_rules.proofs.NameOrder.{Names, names_apart, names_after, names_after_old, names_on}
 use Rattle.ol_rules.proofs.Renaming.{step_under}
-use Rattle.ol_rules.proofs.UnderWay.{length-names_born}
+use Rattle.ol_rules.proofs.OnTheWay.{length-names_born}
 use Rattle.ol_demand.specs.Asking.{IsNaming, AreNamesOf}
-use Rattle.ol_demand.specs.Rewriting.{Advances}
-use Rattle.ol_demand.specs.declared.rewriting.Run.{Run}
+use Rattle.ol_rules.specs.UnderWay.{Advances}
+use Rattle.ol_rules.specs.declared.under_way.UnderWay.{UnderWay}
 
 pub as_names : (start next ticket : ℕ) (m : ℕ → NodeName) → IsNaming start next ticket m → Names start next ticket m
 as_names start next ticket m n = record { room = n.room; initial = n.initial; rising = n.rising; born = n.born }
@@ -114,11 +114,11 @@ listed_on start next t b names m c born listed k h = go (cases_lt k start) (case
         ∙ sym (born (k - start - length names)) ∙ ap m q
 
 -- the names after a step was written down
-abbrev pub after_step : Graph → Run → (ℕ → NodeName) → ℕ → NodeName
+abbrev pub after_step : Graph → UnderWay → (ℕ → NodeName) → ℕ → NodeName
 after_step g' run m = names_after m (length g'.nodes) (suc (length run.journal))
 
-pub names_of_next : (old g g' : Graph) (run run' : Run) (m : ℕ → NodeName) (x y : ℕ) →
-    AreNamesOf old g run m → run.start + length run.names.items ≡ length g.nodes →
+pub names_of_next : (old g g' : Graph) (run run' : UnderWay) (m : ℕ → NodeName) (x y : ℕ) →
+    AreNamesOf old g run m → run.names.start + length run.names.born.items ≡ length g.nodes →
     Advances run run' g g' x y → AreNamesOf old g' run' (after_step g' run m)
 names_of_next old g g' run run' m x y n c a = record {
   naming = subst (λ t. IsNaming (length old.nodes) (length g'.nodes) t (after_step g' run m)) (sym count)
@@ -128,8 +128,8 @@ names_of_next old g g' run run' m x y n c a = record {
       (as_names (length old.nodes) (length g.nodes) t m n.naming))));
   start = a.start ∙ n.start;
   listed = λ k h.
-      ap (λ s. name_in s run'.names.items k) a.start ∙ ap (λ (ns : List NodeName). name_in run.start ns k) a.names
-      ∙ listed_on run.start (length g.nodes) t b run.names.items m c n.naming.born n.listed k
+      ap (λ s. name_in s run'.names.born.items k) a.start ∙ ap (λ (ns : List NodeName). name_in run.names.start ns k) a.names
+      ∙ listed_on run.names.start (length g.nodes) t b run.names.born.items m c n.naming.born n.listed k
       (omega arith) ∙ sym (names_after_old m (length g'.nodes) (suc t) k h);
 }
   where

@@ -13,7 +13,8 @@ use Rattle.ol_context.proofs.Shapes.{extends_refl, extends_trans}
 use Rattle.ol_context.proofs.Walked.{IsNotFree, through_port}
 use Rattle.ol_demand.specs.Chains.{IsAtNoPair, Chain, starts, crosses, left, undefined, budget}
 use Rattle.ol_demand.specs.Chains.{at_pair, at_port, barred, at_last, Ends}
-use Rattle.ol_demand.specs.Chaining.{IsPair, MetBy, HasCome}
+use Rattle.ol_rules.specs.UnderWay.{IsPair}
+use Rattle.ol_demand.specs.Chaining.{MetBy, HasCome}
 use Rattle.ol_demand.specs.declared.answers.Walker.{Walker}
 
 -- after some crossings the chain leaves by a port, with the context that the numbers stand for

@@ -27,7 +27,7 @@ use Rattle.ol_demand.specs.Demands.{asks, IsDemandRun, HasMoreSteps}
 use Rattle.ol_demand.specs.Laws.{IsStart}
 use Rattle.ol_demand.specs.Readings.{IsReadByChains}
 use Rattle.ol_demand.specs.declared.answers.Demanded.TheVariants as answer
-use Rattle.ol_demand.specs.declared.rewriting.Run.{Run}
+use Rattle.ol_rules.specs.declared.under_way.UnderWay.{UnderWay}
 use Rattle.ol_demand.proofs.LiveNodes.{once}
 use Rattle.ol_demand.proofs.Needed.{needed}
 use Rattle.ol_demand.proofs.OneDemand.{no_more}
@@ -63,7 +63,7 @@ graph_heads old n heads journal places M d =
     (heads_are_of_source (start_of old) M heads journal places (is_start old n) d)
 
 -- the places of a reading by chains that is over
-pub done_answer : (old : Graph) (fuel : ℕ) (g : Graph) (run : Run) (fuel' heads : ℕ) (r : Reading)
+pub done_answer : (old : Graph) (fuel : ℕ) (g : Graph) (run : UnderWay) (fuel' heads : ℕ) (r : Reading)
     (ns : List ReadNode) → IsReadByChains old fuel g run fuel' heads r → IsOver heads r ns →
     IsAnswer old heads fuel g (answer.Done ns run.journal)
 done_answer old fuel g run fuel' heads r ns w o = (
@@ -110,7 +110,7 @@ module _ (old g : Graph) (is_net : IsNet (net_of old)) (heads fuel : ℕ) (tree 
   )
 
 -- what an answer Spent tells
-module _ (old g : Graph) (is_net : IsNet (net_of old)) (run : Run) (heads fuel : ℕ)
+module _ (old g : Graph) (is_net : IsNet (net_of old)) (run : UnderWay) (heads fuel : ℕ)
     (h : IsLeftOff old g run heads) (q : length run.journal ≡ fuel) where
   pub spent_answer : IsAnswer old heads fuel g (answer.Spent run.journal)
   spent_answer = (
@@ -132,8 +132,8 @@ module _ (old g : Graph) (is_net : IsNet (net_of old)) (run : Run) (heads fuel :
   spent_more = (λ e. (run.journal, net_under h.names (net_of g), h.goes_on, q), λ m. tt)
 
 -- nothing was read yet
-module _ (old : Graph) (run : Run) (heads fuel : ℕ) (is_net : IsNet (net_of old))
-    (s : run.start ≡ length old.nodes) (m : run.names.items ≡ []) (j : run.journal ≡ []) where
+module _ (old : Graph) (run : UnderWay) (heads fuel : ℕ) (is_net : IsNet (net_of old))
+    (s : run.names.start ≡ length old.nodes) (m : run.names.born.items ≡ []) (j : run.journal ≡ []) where
   pub first_running : length old.nodes + 4 * fuel ≤ 2000000000 → IsRunning old run fuel
   first_running few =
       let a = ap (λ (ns : List NodeName). length ns) m in

@@ -7,7 +7,7 @@ use Rattle.ol_net.specs.Numbered.{net_of}
 use Rattle.ol_net.specs.Pairs.{IsActive, IsInActive}
 use Rattle.ol_rules.proofs.FreshPairs.{linked_sym}
 use Rattle.ol_rules.proofs.Waiting.{active_below}
-use Rattle.ol_demand.specs.Chaining.{IsPair}
+use Rattle.ol_rules.specs.UnderWay.{IsPair}
 
 pub linked_turned : (N : NamedNet ℕ) (x y : ℕ) → Linked N (slot x 0) (slot y 0) → Linked N (slot y 0) (slot x 0)
 linked_turned N x y l = linked_sym N (slot x 0) (slot y 0) l

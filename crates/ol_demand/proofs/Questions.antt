@@ -12,8 +12,8 @@ use Rattle.ol_rules.specs.declared.journal.Entry.{Entry}
 use Rattle.ol_rules.specs.declared.journal.NodeName.{NodeName}
 use Rattle.ol_rules.specs.Runs.{names_born}
 use Rattle.ol_readback.specs.declared.answers.ReadNode.{ReadNode}
-use Rattle.ol_rules.proofs.UnderWay.{length-names_born}
-use Rattle.ol_rules.proofs.OneThread.{step_few}
+use Rattle.ol_rules.proofs.OnTheWay.{length-names_born}
+use Rattle.ol_rules.proofs.OnTheWay.{step_few}
 use Rattle.ol_readback.specs.Askers.{IsKnownHead}
 use Rattle.ol_readback.specs.Frames.{Frame, os, asked, frame_at, frame_of, frames_of, ParentsFirst, AreHeldFrames}
 use Rattle.ol_readback.specs.Heads.{Answer, IsMatched, matched, unmatched, answer_of}
@@ -31,9 +31,10 @@ use Rattle.ol_demand.specs.Chaining.{MetBy, IsEndOf, question_of}
 use Rattle.ol_demand.specs.Demands.{asks}
 use Rattle.ol_demand.specs.Answers.{StopsOnTheWay}
 use Rattle.ol_demand.specs.Asking.{IsUnderWay, IsRunning}
-use Rattle.ol_demand.specs.Rewriting.{entry_for, Advances, AdvancesEither, StopsEither}
+use Rattle.ol_rules.specs.UnderWay.{entry_for, Advances}
+use Rattle.ol_demand.specs.Asking.{AdvancesEither, StopsEither}
 use Rattle.ol_demand.specs.declared.answers.End.{End}
-use Rattle.ol_demand.specs.declared.rewriting.Run.{Run}
+use Rattle.ol_rules.specs.declared.under_way.UnderWay.{UnderWay}
 use Rattle.ol_demand.proofs.Chains.{path_at}
 use Rattle.ol_demand.proofs.Paired.{both_below, linked_turned}
 use Rattle.ol_demand.proofs.UnderWays.{rewritten, stopped, under_stops}
@@ -109,7 +110,7 @@ known_head g is_net F i n q X p c vs head.NoHead parents b x m = tt
 known_head g is_net F i n q X p c vs head.Budget parents b x m = tt
 
 -- after a step
-pub running_on : (g g' : Graph) (run run' : Run) (fuel x y : ℕ) → IsRunning g run fuel →
+pub running_on : (g g' : Graph) (run run' : UnderWay) (fuel x y : ℕ) → IsRunning g run fuel →
     length run.journal ≢ fuel → AdvancesEither run run' g g' x y → IsRunning g' run' fuel
 running_on g g' run run' fuel x y h n a = go a
   where
@@ -120,7 +121,7 @@ running_on g g' run run' fuel x y h n a = go a
         let j = ap (λ (es : List Entry). length es) a.journal in
         let k = length_push run.journal (entry_for run a.rule x y) in
         let m = ap (λ (ns : List NodeName). length ns) a.names in
-        let l = length-append run.names.items (names_born (length run.journal) (length g'.nodes - length g.nodes)) in
+        let l = length-append run.names.born.items (names_born (length run.journal) (length g'.nodes - length g.nodes)) in
         let o = length-names_born (length run.journal) (length g'.nodes - length g.nodes) in
         let i = h.names in
         let f = h.few in
@@ -132,18 +133,18 @@ running_on g g' run run' fuel x y h n a = go a
     go (inl t) = by x y t.1
     go (inr t) = by y x t.1
 
-pub journal_on : (g g' : Graph) (run run' : Run) (x y : ℕ) → AdvancesEither run run' g g' x y →
+pub journal_on : (g g' : Graph) (run run' : UnderWay) (x y : ℕ) → AdvancesEither run run' g g' x y →
     length run'.journal ≡ length run.journal + 1
 journal_on g g' run run' x y (inl t) = ap (λ (es : List Entry). length es) t.1.journal
     ∙ length_push run.journal (entry_for run t.1.rule x y)
 journal_on g g' run run' x y (inr t) = ap (λ (es : List Entry). length es) t.1.journal
     ∙ length_push run.journal (entry_for run t.1.rule y x)
 
-pub free_on : (g g' : Graph) (run run' : Run) (x y : ℕ) → AdvancesEither run run' g g' x y → g'.free ≡ g.free
+pub free_on : (g g' : Graph) (run run' : UnderWay) (x y : ℕ) → AdvancesEither run run' g g' x y → g'.free ≡ g.free
 free_on g g' run run' x y (inl t) = t.1.step.step.rewrites.free_ports
 free_on g g' run run' x y (inr t) = t.1.step.step.rewrites.free_ports
 
-module _ (old g g' : Graph) (run : Run) (heads : ℕ) (places : List ReadNode) (F : List Frame)
+module _ (old g g' : Graph) (run : UnderWay) (heads : ℕ) (places : List ReadNode) (F : List Frame)
     (s : Subterm) (ss : List Subterm) (n x y : ℕ) (below : length F < heads)
     (u : IsUnderWay old g run heads places (asks F (s ∷ ss) n))
     (is_net : IsNet (net_of g)) (h : MetBy (net_of g) s.port (asked s.levels n) x y) where
@@ -151,7 +152,7 @@ module _ (old g g' : Graph) (run : Run) (heads : ℕ) (places : List ReadNode) (
   both : (x < length g.nodes) × (y < length g.nodes)
   both = both_below g is_net x y h.rule h.pair
 
-  pub met_on : (run' : Run) → run.start + length run.names.items ≡ length g.nodes →
+  pub met_on : (run' : UnderWay) → run.names.start + length run.names.born.items ≡ length g.nodes →
       AdvancesEither run run' g g' x y → IsUnderWay old g' run' heads places (asks F (s ∷ ss) n)
   met_on run' c (inl t) = rewritten old g run heads places F s ss n below u g' run' is_net x y x t.0
       (inl refl) both h.pair.1 h.ends c t.1

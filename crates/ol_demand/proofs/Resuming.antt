@@ -16,10 +16,11 @@ use Rattle.ol_rules.specs.Steps.{StepsAt}
 use Rattle.ol_demand.specs.Chains.{Chain, starts, crosses}
 use Rattle.ol_demand.specs.Chaining.{HasCome, IsEndOf, IsHeldEnd, IsAtPrincipal, StepsBack}
 use Rattle.ol_demand.specs.Chaining.{question_of, IsQuestion, IsKeptOrCut, GoesOnOrBegins}
-use Rattle.ol_demand.specs.Rewriting.{Advances, AdvancesEither}
+use Rattle.ol_rules.specs.UnderWay.{Advances}
+use Rattle.ol_demand.specs.Asking.{AdvancesEither}
 use Rattle.ol_demand.specs.declared.answers.End.TheVariants as answer
 use Rattle.ol_demand.specs.declared.answers.Walker.{Walker}
-use Rattle.ol_demand.specs.declared.rewriting.Run.{Run}
+use Rattle.ol_rules.specs.declared.under_way.UnderWay.{UnderWay}
 use Rattle.ol_demand.proofs.Staying.{chain_stays, not_met}
 use Rattle.ol_net.specs.declared.parts.NodeId.{NodeId}
 
@@ -76,7 +77,7 @@ module _ (from : ℕ) (ls : List ℕ) (mark : ℕ) where
 
   module _ (g g' : Graph) (is_net : IsNet (net_of g)) (vs us ws : List Level) (h : AreHeld vs ls)
       (b : mark < length vs) (x : Extends vs us) (x' : Extends us ws) where
-    pub resumed : (xs : List Level) (w w' w'' : Walker) (f k : NodeId) (run run' : Run) → AreHeld xs ls →
+    pub resumed : (xs : List Level) (w w' w'' : Walker) (f k : NodeId) (run run' : UnderWay) → AreHeld xs ls →
         mark < length xs → IsHeldEnd us (answer.Met (f, k) w) →
         IsEndOf g from (context_of vs (question_of ls mark)) us (answer.Met (f, k) w) →
         StepsBack g us w ws w' → AdvancesEither run run' g g' f.0 k.0 →

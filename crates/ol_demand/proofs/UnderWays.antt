@@ -12,12 +12,12 @@ use Rattle.ol_context.specs.Short.{live}
 use Rattle.ol_rules.specs.declared.journal.NodeName.{NodeName}
 use Rattle.ol_rules.specs.declared.journal.NodeName.TheVariants.{Init}
 use Rattle.ol_rules.specs.declared.journal.Entry.{Entry}
-use Rattle.ol_rules.specs.Running.{name_in}
+use Rattle.ol_rules.specs.UnderWay.{name_in}
 use Rattle.ol_rules.specs.Steps.{StepsAt}
 use Rattle.std.proofs.lemmas.Bool.Decides.{nat_tests}
 use Rattle.ol_rules.proofs.NameOrder.{names_first, names_after, names_after_old}
 use Rattle.ol_rules.proofs.Renaming.{net_alike}
-use Rattle.ol_rules.proofs.UnderWay.{node_below}
+use Rattle.ol_rules.proofs.OnTheWay.{node_below}
 use Rattle.ol_readback.specs.Frames.{Frame, asked}
 use Rattle.ol_readback.specs.Heads.{Answer, no_head, budget, IsMatched}
 use Rattle.ol_readback.specs.ReadTrees.{Subterm, whole_term, framed}
@@ -30,16 +30,16 @@ use Rattle.ol_demand.specs.Demands.{place_of, next, Turn, rewrites, one_more, fi
 use Rattle.ol_demand.specs.Demands.{and_then}
 use Rattle.ol_demand.specs.Answers.{start_of, StopsOnTheWay}
 use Rattle.ol_demand.specs.Asking.{IsNaming, IsUnderWay, IsLeftOff}
-use Rattle.ol_demand.specs.Rewriting.{Advances}
-use Rattle.ol_demand.specs.declared.rewriting.Run.{Run}
+use Rattle.ol_rules.specs.UnderWay.{Advances}
+use Rattle.ol_rules.specs.declared.under_way.UnderWay.{UnderWay}
 use Rattle.ol_demand.proofs.Entries.{is_naming, one_name, the_pair, entry_names, named_step, names_of_next, after_step}
 use Rattle.ol_demand.proofs.LiveNodes.{once}
 use Rattle.ol_demand.proofs.Paired.{acts}
 use Rattle.ol_demand.proofs.UnderNames.{end_under, live_under, ends_under, once_under}
 
 -- the run that begins
-pub begun : (old : Graph) (run : Run) (heads : ℕ) → IsNet (net_of old) →
-    run.start ≡ length old.nodes → run.journal ≡ [] → IsUnderWay old old run heads [] (asks [] (whole_term ∷ []) 0)
+pub begun : (old : Graph) (run : UnderWay) (heads : ℕ) → IsNet (net_of old) →
+    run.names.start ≡ length old.nodes → run.journal ≡ [] → IsUnderWay old old run heads [] (asks [] (whole_term ∷ []) 0)
 begun old run heads is_net s j = record {
   names = names_after Init (length old.nodes) 0;
   are_names = record {
@@ -50,8 +50,8 @@ begun old run heads is_net s j = record {
     start = s;
     listed = λ k h.
         let e : nat_lt k (length old.nodes) ≡ true = grind (arith, nat_tests) in
-        ap (λ t. name_in t run.names.items k) s
-        ∙ ap (λ (b : Bool). if b then Init k else slice_index_or run.names.items (k - length old.nodes) (Init k)) e
+        ap (λ t. name_in t run.names.born.items k) s
+        ∙ ap (λ (b : Bool). if b then Init k else slice_index_or run.names.born.items (k - length old.nodes) (Init k)) e
         ∙ sym (names_after_old Init (length old.nodes) 0 k h);
   };
   turns = 0;
@@ -83,7 +83,7 @@ module _ {N M : NamedNet NodeName} {heads turns : ℕ} {journal : List Entry} {p
       Turns N heads (suc turns) (journal ++ e ∷ []) ns P b) (append-nil places) (and_then r t)
 
 -- a run under way is a front part
-pub under_stops : (old g : Graph) (run : Run) (heads fuel : ℕ) (places : List ReadNode)
+pub under_stops : (old g : Graph) (run : UnderWay) (heads fuel : ℕ) (places : List ReadNode)
     (a : Asking) → IsUnderWay old g run heads places a → length run.journal ≤ fuel → StopsOnTheWay old heads fuel g
 under_stops old g run heads fuel places a u b = record {
   names = u.names;
@@ -91,7 +91,7 @@ under_stops old g run heads fuel places a u b = record {
   is = record { turns = u.turns; journal = run.journal; places = places; next = a; run = u.made; within = b };
 }
 
-module _ (old g : Graph) (run : Run) (heads : ℕ) (places : List ReadNode) (F : List Frame)
+module _ (old g : Graph) (run : UnderWay) (heads : ℕ) (places : List ReadNode) (F : List Frame)
     (s : Subterm) (ss : List Subterm) (n : ℕ) (below : length F < heads)
     (u : IsUnderWay old g run heads places (asks F (s ∷ ss) n)) where
   abbrev M : NamedNet NodeName
@@ -229,11 +229,11 @@ module _ (old g : Graph) (run : Run) (heads : ℕ) (places : List ReadNode) (F :
     }
 
   -- a step that was written down
-  pub rewritten : (g' : Graph) (run' : Run) → IsNet (net_of g) → (x y z : ℕ) → x < y →
+  pub rewritten : (g' : Graph) (run' : UnderWay) → IsNet (net_of g) → (x y z : ℕ) → x < y →
       (z ≡ x) ⊎ (z ≡ y) → (x < length g.nodes) × (y < length g.nodes) → Linked (net_of g) (slot x 0) (slot y 0) →
       ((f k : ℕ) (r : Rule) → IsAtPair (net_of g) (slot z 0) f k r →
       Ends (net_of g) s.port (asked s.levels n) (chain.met f k r)) →
-      run.start + length run.names.items ≡ length g.nodes → Advances run run' g g' x y →
+      run.names.start + length run.names.born.items ≡ length g.nodes → Advances run run' g g' x y →
       IsUnderWay old g' run' heads places (asks F (s ∷ ss) n)
   rewritten g' run' is_net x y z lesser at b l h c a = record {
     names = after_step g' run u.names;
@@ -250,7 +250,7 @@ module _ (old g : Graph) (run : Run) (heads : ℕ) (places : List ReadNode) (F :
           a.journal ∙ ap (λ (v : NodeName). run.journal ++ record {
             rule = a.rule;
             first = v;
-            second = name_in run.start run.names.items y;
+            second = name_in run.names.start run.names.born.items y;
           } ∷ []) (u.are_names.listed x b.0)
           ∙ ap (λ (w : NodeName). run.journal ++ record {
             rule = a.rule;

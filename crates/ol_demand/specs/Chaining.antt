@@ -11,14 +11,11 @@ use Rattle.ol_net.specs.Pairs.{IsInActive}
 use Rattle.ol_context.specs.Contexts.{Level, Context}
 use Rattle.ol_context.specs.Shapes.{AreHeld, context_of}
 use Rattle.ol_context.specs.Short.{live}
+use Rattle.ol_rules.specs.UnderWay.{IsPair}
 use Rattle.ol_demand.specs.Chains.{IsAtPair, IsAtNoPair, Chain, Ends, met, left, undefined, budget}
 use Rattle.ol_demand.specs.declared.answers.Walker.{Walker}
 use Rattle.ol_demand.specs.declared.answers.End.{End}
 use Rattle.ol_demand.specs.declared.answers.End.TheVariants as answer
-
--- x and y are the two nodes of an active pair, whichever of them acts
-abbrev pub IsPair : NamedNet ℕ → ℕ → ℕ → Rule → Type 0
-IsPair N x y r = IsInActive N x r × Linked N (slot x 0) (slot y 0)
 
 -- the active pair at this port, given first the node of the port, or None where there is none
 abbrev pub FindsPair : Graph → Port → Option (NodeId × NodeId) → Type 0

@@ -7,4 +7,3 @@ pub mod Answers
 pub mod Asking
 pub mod Readings
 pub mod Chaining
-pub mod Rewriting

@@ -1,21 +1,24 @@
 //! Chains that ask frames, while the pairs that they meet are rewritten.
 
-ghost use Rattle.std.specs.Prelude.{◌≡◌, ◌<◌, ◌≤◌, ◌+◌, ◌*◌, ◌^◌, length, IfOk, OnErr};
+ghost use Rattle.std.specs.Prelude.{◌≡◌, ◌<◌, ◌≤◌, ◌+◌, ◌*◌, ◌^◌, length, IfOk, OnOk, OnErr};
+ghost use Rattle.ol_net.specs.declared.parts.Rule.{Rule};
+ghost use Rattle.ol_net.specs.Numbered.{net_of};
+ghost use Rattle.ol_rules.specs.UnderWay.{IsPair};
 ghost use Rattle.ol_context.specs.Shapes.{Extends};
 ghost use Rattle.ol_readback.specs.Askers.{IsHeldIfSome, IsKnownIfSome};
 ghost use Rattle.ol_readback.specs.Frames.{frames_of, ParentsFirst, AreHeldFrames, AreAtPorts};
 ghost use Rattle.ol_readback.specs.Heads.{IsHeldHead};
 ghost use Rattle.ol_readback.specs.Skipping.{AreSkipsOf};
 ghost use Rattle.ol_demand.specs.Chaining.{IsKeptOrCut, GoesOnOrBegins};
-ghost use Rattle.ol_demand.specs.Asking.{IsRunning, IsAnswered, IsSpentIfNone, IsStopped};
+ghost use Rattle.ol_demand.specs.Asking.{IsRunning, IsAnswered, IsSpentIfNone, IsStopped, AdvancesEither, StopsEither};
 
 use crate::answers::{End, Walker};
 use crate::chaining::{begin, chain, step_back};
-use crate::rewriting::Run;
 use ol_context::{Val, Values};
 use ol_memory::NoMemory;
-use ol_net::Net;
+use ol_net::{Net, NodeId};
 use ol_readback::{Asked, Asks, Frame, Head, leave_by};
+use ol_rules::UnderWay;
 use std::alloc::Global;
 
 // How many level values a chain may have made for each of its crossings.
@@ -57,6 +60,23 @@ fn resume(
     Ok(anew)
 }
 
+// Rewrites the active pair of these two nodes, and writes it down, the one with the smaller number
+// first. `NoMemory`: no memory was found, and the net is as it was, or one step on.
+fn rewrite_met(run: &mut UnderWay, net: &mut Net, x: NodeId, y: NodeId) -> Result<(), NoMemory>
+    requires few { length net.old.nodes ≤ 2000000000 }
+    requires pair { (r : Rule) × IsPair (net_of net.old) x.0 y.0 r }
+    requires journal { length run.old.journal < 4294967295 }
+    ensures ok { OnOk result (AdvancesEither run.old run.new net.old net.new x.0 y.0) }
+    ensures err { OnErr result (StopsEither net.old net.new x.0 y.0) }
+{
+    net.is_net();
+    if x.0 < y.0 {
+        run.rewrite_pair(net, x, y)
+    } else {
+        run.rewrite_pair(net, y, x)
+    }
+}
+
 // What the last frame is asked for, by chains for 0 abstractions, for 1, and so on. Each pair that
 // a chain meets is rewritten and written down, and the same is asked again.
 //
@@ -64,7 +84,7 @@ fn resume(
 fn ask(
     alloc: Global,
     net: &mut Net,
-    run: &mut Run,
+    run: &mut UnderWay,
     fuel: u32,
     values: &mut Values,
     asked: &Asked<'_>,
@@ -102,7 +122,7 @@ fn ask(
                     return Ok(None);
                 }
                 let before = step_back(net, values, met)?;
-                run.rewrite_pair(net, pair.0, pair.1)?;
+                rewrite_met(run, net, pair.0, pair.1)?;
                 walker = resume(alloc, net, values, frame, mark, count, before)?;
             }
             End::Left { port, context } => {
@@ -130,7 +150,7 @@ fn ask(
 /// Chains that rewrite the pairs that they meet, and write them down, up to so many.
 #[derive(Drop)]
 pub struct Chains {
-    pub run: Run,
+    pub run: UnderWay,
     pub fuel: u32,
 }
 

@@ -9,10 +9,10 @@ ghost use Rattle.ol_demand.specs.Answers.{start_of, IsAnswer, IsSpent, IfDone, j
 
 use crate::answers::Demanded;
 use crate::asking::Chains;
-use crate::rewriting::Run;
 use ol_memory::NoMemory;
 use ol_net::Net;
 use ol_readback::{ReadTree, read};
+use ol_rules::UnderWay;
 use std::alloc::Global;
 
 /// The term that the net stands for, read from free port 0 in demand order: only the active pairs
@@ -40,7 +40,7 @@ pub fn demand(alloc: Global, net: &mut Net, fuel: u32, heads: u32) -> Result<Dem
     ensures no_memory { OnErr result (StopsOnTheWay net.old heads fuel net.new) }
 {
     net.is_net();
-    let run = Run::new(alloc, net);
+    let run = UnderWay::new(alloc, net);
     let mut chains = Chains { run, fuel };
     let Some(nodes) = read(alloc, &mut chains, net, heads)? else {
         return Ok(Demanded::Spent {

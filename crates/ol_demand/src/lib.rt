@@ -16,7 +16,6 @@
 //! - `demanding`: the whole demand run
 //! - `asking`: chains that ask frames, while the pairs that they meet are rewritten
 //! - `chaining`: chains: walks up to the first active pair
-//! - `rewriting`: pairs rewritten one after another, and written down under names
 //! - `answers`: what demand order answers
 //! - `laws`: the laws of demand order
 #![tactic(auto)]
@@ -26,7 +25,6 @@ mod asking;
 mod chaining;
 mod demanding;
 mod laws;
-mod rewriting;
 
 pub use answers::Demanded;
 pub use demanding::demand;

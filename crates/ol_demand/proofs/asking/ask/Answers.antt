@@ -52,16 +52,13 @@ step_back-requires-clause-at c =
     at_principal c.index-frame.result.now.port c.index-frame.result.now.levels c.loop-end.mark c.loop-end.net (context_of c.loop-end.values (question_of c.index-frame.result.now.levels c.loop-end.mark)) c.chain.new.values
     c.in-Met.pair.0 c.in-Met.pair.1 c.in-Met.met e
 
-pub rewrite_pair-requires-clause-few : goal.rewrite_pair-requires-clause-few
-rewrite_pair-requires-clause-few c = room_left (length c.loop-end.net.nodes)
+pub rewrite_met-requires-clause-few : goal.rewrite_met-requires-clause-few
+rewrite_met-requires-clause-few c = room_left (length c.loop-end.net.nodes)
     (length c.loop-end.run.journal) c.args.fuel c.loop-end.invariant.running.few
     c.loop-end.invariant.running.within
 
-pub rewrite_pair-requires-clause-names : goal.rewrite_pair-requires-clause-names
-rewrite_pair-requires-clause-names c = c.loop-end.invariant.running.names
-
-pub rewrite_pair-requires-clause-pair : goal.rewrite_pair-requires-clause-pair
-rewrite_pair-requires-clause-pair c =
+pub rewrite_met-requires-clause-pair : goal.rewrite_met-requires-clause-pair
+rewrite_met-requires-clause-pair c =
     let e = subst (λ end. IsEndOf c.loop-end.net c.index-frame.result.now.port (context_of c.loop-end.values (question_of c.index-frame.result.now.levels c.loop-end.mark)) c.chain.new.values end) c.in-Met.is (c.in_ok-end.ensures.ends c.index-frame.result.now.port
     (context_of c.loop-end.values (question_of c.index-frame.result.now.levels c.loop-end.mark)) c.loop-end.invariant.walked.chain) in
     (e.0.rule, e.0.pair)
@@ -187,48 +184,48 @@ returns-in_err-before-in-Met-clause-stopped c = on_err c.from_residual-in_err-be
     (asks front (s ∷ ss) c.loop-end.lams)
     (c.loop-end.invariant.under old heads places front s ss z b u) c.loop-end.invariant.running.within)
 
-pub returns-in_err-rewrite_pair-in-Met-clause-answered : goal.returns-in_err-rewrite_pair-in-Met-clause-answered
-returns-in_err-rewrite_pair-in-Met-clause-answered c =
-    let p = err_from_is_err_and c.from_residual-in_err-rewrite_pair-in-Met.result c.from_residual-in_err-rewrite_pair-in-Met.ensures.1 in rw p.1 tt
+pub returns-in_err-rewrite_met-in-Met-clause-answered : goal.returns-in_err-rewrite_met-in-Met-clause-answered
+returns-in_err-rewrite_met-in-Met-clause-answered c =
+    let p = err_from_is_err_and c.from_residual-in_err-rewrite_met-in-Met.result c.from_residual-in_err-rewrite_met-in-Met.ensures.1 in rw p.1 tt
 
-pub returns-in_err-rewrite_pair-in-Met-clause-spent : goal.returns-in_err-rewrite_pair-in-Met-clause-spent
-returns-in_err-rewrite_pair-in-Met-clause-spent c =
-    let p = err_from_is_err_and c.from_residual-in_err-rewrite_pair-in-Met.result c.from_residual-in_err-rewrite_pair-in-Met.ensures.1 in rw p.1 tt
+pub returns-in_err-rewrite_met-in-Met-clause-spent : goal.returns-in_err-rewrite_met-in-Met-clause-spent
+returns-in_err-rewrite_met-in-Met-clause-spent c =
+    let p = err_from_is_err_and c.from_residual-in_err-rewrite_met-in-Met.result c.from_residual-in_err-rewrite_met-in-Met.ensures.1 in rw p.1 tt
 
-pub returns-in_err-rewrite_pair-in-Met-clause-running : goal.returns-in_err-rewrite_pair-in-Met-clause-running
-returns-in_err-rewrite_pair-in-Met-clause-running c =
-    let p = err_from_is_err_and c.from_residual-in_err-rewrite_pair-in-Met.result c.from_residual-in_err-rewrite_pair-in-Met.ensures.1 in rw p.1 tt
+pub returns-in_err-rewrite_met-in-Met-clause-running : goal.returns-in_err-rewrite_met-in-Met-clause-running
+returns-in_err-rewrite_met-in-Met-clause-running c =
+    let p = err_from_is_err_and c.from_residual-in_err-rewrite_met-in-Met.result c.from_residual-in_err-rewrite_met-in-Met.ensures.1 in rw p.1 tt
 
-pub returns-in_err-rewrite_pair-in-Met-clause-free : goal.returns-in_err-rewrite_pair-in-Met-clause-free
-returns-in_err-rewrite_pair-in-Met-clause-free c =
-    let p = err_from_is_err_and c.from_residual-in_err-rewrite_pair-in-Met.result c.from_residual-in_err-rewrite_pair-in-Met.ensures.1 in rw p.1 tt
+pub returns-in_err-rewrite_met-in-Met-clause-free : goal.returns-in_err-rewrite_met-in-Met-clause-free
+returns-in_err-rewrite_met-in-Met-clause-free c =
+    let p = err_from_is_err_and c.from_residual-in_err-rewrite_met-in-Met.result c.from_residual-in_err-rewrite_met-in-Met.ensures.1 in rw p.1 tt
 
-pub returns-in_err-rewrite_pair-in-Met-clause-held : goal.returns-in_err-rewrite_pair-in-Met-clause-held
-returns-in_err-rewrite_pair-in-Met-clause-held c =
-    let p = err_from_is_err_and c.from_residual-in_err-rewrite_pair-in-Met.result c.from_residual-in_err-rewrite_pair-in-Met.ensures.1 in rw p.1 tt
+pub returns-in_err-rewrite_met-in-Met-clause-held : goal.returns-in_err-rewrite_met-in-Met-clause-held
+returns-in_err-rewrite_met-in-Met-clause-held c =
+    let p = err_from_is_err_and c.from_residual-in_err-rewrite_met-in-Met.result c.from_residual-in_err-rewrite_met-in-Met.ensures.1 in rw p.1 tt
 
-pub returns-in_err-rewrite_pair-in-Met-clause-known : goal.returns-in_err-rewrite_pair-in-Met-clause-known
-returns-in_err-rewrite_pair-in-Met-clause-known c =
-    let p = err_from_is_err_and c.from_residual-in_err-rewrite_pair-in-Met.result c.from_residual-in_err-rewrite_pair-in-Met.ensures.1 in rw p.1 tt
+pub returns-in_err-rewrite_met-in-Met-clause-known : goal.returns-in_err-rewrite_met-in-Met-clause-known
+returns-in_err-rewrite_met-in-Met-clause-known c =
+    let p = err_from_is_err_and c.from_residual-in_err-rewrite_met-in-Met.result c.from_residual-in_err-rewrite_met-in-Met.ensures.1 in rw p.1 tt
 
-pub returns-in_err-rewrite_pair-in-Met-clause-extends : goal.returns-in_err-rewrite_pair-in-Met-clause-extends
-returns-in_err-rewrite_pair-in-Met-clause-extends c = (extends_trans c.args.values.now c.chain.new.values c.step_back.new.values (extends_trans c.args.values.now c.loop-end.values c.chain.new.values c.loop-end.invariant.extends c.chain.ensures.extends) c.step_back.ensures.extends)
+pub returns-in_err-rewrite_met-in-Met-clause-extends : goal.returns-in_err-rewrite_met-in-Met-clause-extends
+returns-in_err-rewrite_met-in-Met-clause-extends c = (extends_trans c.args.values.now c.chain.new.values c.step_back.new.values (extends_trans c.args.values.now c.loop-end.values c.chain.new.values c.loop-end.invariant.extends c.chain.ensures.extends) c.step_back.ensures.extends)
 
-pub returns-in_err-rewrite_pair-in-Met-clause-stopped : goal.returns-in_err-rewrite_pair-in-Met-clause-stopped
-returns-in_err-rewrite_pair-in-Met-clause-stopped c =
+pub returns-in_err-rewrite_met-in-Met-clause-stopped : goal.returns-in_err-rewrite_met-in-Met-clause-stopped
+returns-in_err-rewrite_met-in-Met-clause-stopped c =
     let more : length c.loop-end.run.journal ≢ c.args.fuel = λ q. c.if-len-fuel.false (c.len.ensures ∙ q) in
     let i = c.loop-end.invariant.running.within in
-    on_err c.from_residual-in_err-rewrite_pair-in-Met.result (λ old heads places front s ss z b u.
+    on_err c.from_residual-in_err-rewrite_met-in-Met.result (λ old heads places front s ss z b u.
     let e = end_is c.args.values.now c.args.asked.now.frames.now.items c.args.asked.now.at
     c.index-frame.result.now c.requires.last c.index-frame.ensures front s z c.loop-end.values
     c.loop-end.mark c.loop-end.lams c.loop-end.invariant.extends c.requires.frames
     c.loop-end.invariant.mark.is c.loop-end.net c.chain.new.values c.in_ok-end.end
     (answer.Met c.in-Met.pair c.in-Met.met) (c.in_ok-end.ensures.ends c.index-frame.result.now.port
     (context_of c.loop-end.values (question_of c.index-frame.result.now.levels c.loop-end.mark)) c.loop-end.invariant.walked.chain) c.in-Met.is in
-    met_stopped old c.loop-end.net c.rewrite_pair.new.net c.loop-end.run heads places front s ss
+    met_stopped old c.loop-end.net c.rewrite_met.new.net c.loop-end.run heads places front s ss
     c.loop-end.lams c.in-Met.pair.0.0 c.in-Met.pair.1.0 b
     (c.loop-end.invariant.under old heads places front s ss z b u) c.is_net.ensures.net e.0
-    c.args.fuel (omega arith) c.in_err-rewrite_pair-in-Met.ensures.err)
+    c.args.fuel (omega arith) c.in_err-rewrite_met-in-Met.ensures.err)
 
 pub returns-in_err-walker-in-Met-clause-answered : goal.returns-in_err-walker-in-Met-clause-answered
 returns-in_err-walker-in-Met-clause-answered c =
@@ -265,8 +262,8 @@ returns-in_err-walker-in-Met-clause-extends c =
 pub returns-in_err-walker-in-Met-clause-stopped : goal.returns-in_err-walker-in-Met-clause-stopped
 returns-in_err-walker-in-Met-clause-stopped c =
     let more : length c.loop-end.run.journal ≢ c.args.fuel = λ q. c.if-len-fuel.false (c.len.ensures ∙ q) in
-    let running = running_on c.loop-end.net c.rewrite_pair.new.net c.loop-end.run
-    c.rewrite_pair.new.self c.args.fuel c.in-Met.pair.0.0 c.in-Met.pair.1.0 c.loop-end.invariant.running more c.in_ok-rewrite_pair-in-Met.ensures.ok in
+    let running = running_on c.loop-end.net c.rewrite_met.new.net c.loop-end.run
+    c.rewrite_met.new.run c.args.fuel c.in-Met.pair.0.0 c.in-Met.pair.1.0 c.loop-end.invariant.running more c.in_ok-rewrite_met-in-Met.ensures.ok in
     on_err c.from_residual-in_err-walker-in-Met.result (λ old heads places front s ss z b u.
     let m = let e = end_is c.args.values.now c.args.asked.now.frames.now.items c.args.asked.now.at
     c.index-frame.result.now c.requires.last c.index-frame.ensures front s z c.loop-end.values
@@ -274,11 +271,11 @@ returns-in_err-walker-in-Met-clause-stopped c =
     c.loop-end.invariant.mark.is c.loop-end.net c.chain.new.values c.in_ok-end.end
     (answer.Met c.in-Met.pair c.in-Met.met) (c.in_ok-end.ensures.ends c.index-frame.result.now.port
     (context_of c.loop-end.values (question_of c.index-frame.result.now.levels c.loop-end.mark)) c.loop-end.invariant.walked.chain) c.in-Met.is in
-    met_on old c.loop-end.net c.rewrite_pair.new.net c.loop-end.run heads places front s ss
+    met_on old c.loop-end.net c.rewrite_met.new.net c.loop-end.run heads places front s ss
     c.loop-end.lams c.in-Met.pair.0.0 c.in-Met.pair.1.0 b
     (c.loop-end.invariant.under old heads places front s ss z b u) c.is_net.ensures.net e.0
-    c.rewrite_pair.new.self c.loop-end.invariant.running.names c.in_ok-rewrite_pair-in-Met.ensures.ok in
-    under_stops old c.rewrite_pair.new.net c.rewrite_pair.new.self heads c.args.fuel places
+    c.rewrite_met.new.run c.loop-end.invariant.running.names c.in_ok-rewrite_met-in-Met.ensures.ok in
+    under_stops old c.rewrite_met.new.net c.rewrite_met.new.run heads c.args.fuel places
     (asks front (s ∷ ss) c.loop-end.lams) m running.within)
 
 pub resume-requires-clause-some : goal.resume-requires-clause-some
@@ -572,18 +569,18 @@ loop-end-init c = record {
 
 pub loop-end-smaller-in-Met : goal.loop-end-smaller-in-Met
 loop-end-smaller-in-Met c =
-    let j = journal_on c.loop-end.net c.rewrite_pair.new.net c.loop-end.run c.rewrite_pair.new.self
-    c.in-Met.pair.0.0 c.in-Met.pair.1.0 c.in_ok-rewrite_pair-in-Met.ensures.ok in
+    let j = journal_on c.loop-end.net c.rewrite_met.new.net c.loop-end.run c.rewrite_met.new.run
+    c.in-Met.pair.0.0 c.in-Met.pair.1.0 c.in_ok-rewrite_met-in-Met.ensures.ok in
     let more : length c.loop-end.run.journal ≢ c.args.fuel = λ q. c.if-len-fuel.false (c.len.ensures ∙ q) in
     let i = c.loop-end.invariant.running.within in
-    let r : (c.args.fuel - length c.rewrite_pair.new.self.journal) + (2 ^ 32 - c.loop-end.lams) <
+    let r : (c.args.fuel - length c.rewrite_met.new.run.journal) + (2 ^ 32 - c.loop-end.lams) <
     (c.args.fuel - length c.loop-end.run.journal) + (2 ^ 32 - c.loop-end.lams) = omega arith in
     r
 
 pub loop-end-preserved-in-Met : goal.loop-end-preserved-in-Met
 loop-end-preserved-in-Met c =
     let i = c.loop-end.invariant in
-    let a = c.in_ok-rewrite_pair-in-Met.ensures.ok in
+    let a = c.in_ok-rewrite_met-in-Met.ensures.ok in
     let more : length c.loop-end.run.journal ≢ c.args.fuel = λ q. c.if-len-fuel.false (c.len.ensures ∙ q) in
     let e = subst (λ end. IsEndOf c.loop-end.net c.index-frame.result.now.port (context_of c.loop-end.values (question_of c.index-frame.result.now.levels c.loop-end.mark)) c.chain.new.values end) c.in-Met.is (c.in_ok-end.ensures.ends c.index-frame.result.now.port
     (context_of c.loop-end.values (question_of c.index-frame.result.now.levels c.loop-end.mark)) c.loop-end.invariant.walked.chain) in
@@ -601,21 +598,21 @@ loop-end-preserved-in-Met c =
       marked = i.marked;
       kept = i.kept;
       counted = k.counted;
-      walked = resumed c.index-frame.result.now.port c.index-frame.result.now.levels c.loop-end.mark c.loop-end.net c.rewrite_pair.new.net c.is_net.ensures.net
+      walked = resumed c.index-frame.result.now.port c.index-frame.result.now.levels c.loop-end.mark c.loop-end.net c.rewrite_met.new.net c.is_net.ensures.net
           c.loop-end.values c.chain.new.values c.step_back.new.values
           (held_more c.args.values.now c.loop-end.values c.index-frame.result.now.levels c.loop-end.invariant.extends
           (held_this c.args.values.now c.args.asked.now.frames.now.items c.args.asked.now.at
           c.index-frame.result.now c.requires.frames (omega (arith, c.requires.last)) c.index-frame.ensures))
           i.mark.held x y c.resume.new.values c.in-Met.met c.in_ok-before-in-Met.before c.in_ok-walker-in-Met.walker c.in-Met.pair.0
-          c.in-Met.pair.1 c.loop-end.run c.rewrite_pair.new.self
+          c.in-Met.pair.1 c.loop-end.run c.rewrite_met.new.run
           (held_more c.args.values.now c.resume.new.values c.index-frame.result.now.levels k.extends
           (held_this c.args.values.now c.args.asked.now.frames.now.items c.args.asked.now.at
           c.index-frame.result.now c.requires.frames (omega (arith, c.requires.last)) c.index-frame.ensures))
           k.number.held held e
           c.in_ok-before-in-Met.ensures.back a c.in_ok-walker-in-Met.ensures.resumes;
-      running = running_on c.loop-end.net c.rewrite_pair.new.net c.loop-end.run
-          c.rewrite_pair.new.self c.args.fuel c.in-Met.pair.0.0 c.in-Met.pair.1.0 c.loop-end.invariant.running more c.in_ok-rewrite_pair-in-Met.ensures.ok;
-      free = free_on c.loop-end.net c.rewrite_pair.new.net c.loop-end.run c.rewrite_pair.new.self
+      running = running_on c.loop-end.net c.rewrite_met.new.net c.loop-end.run
+          c.rewrite_met.new.run c.args.fuel c.in-Met.pair.0.0 c.in-Met.pair.1.0 c.loop-end.invariant.running more c.in_ok-rewrite_met-in-Met.ensures.ok;
+      free = free_on c.loop-end.net c.rewrite_met.new.net c.loop-end.run c.rewrite_met.new.run
           c.in-Met.pair.0.0 c.in-Met.pair.1.0 a ∙ i.free;
       under = λ old heads places front s ss z b u.
           let e = end_is c.args.values.now c.args.asked.now.frames.now.items c.args.asked.now.at
@@ -624,10 +621,10 @@ loop-end-preserved-in-Met c =
           c.loop-end.invariant.mark.is c.loop-end.net c.chain.new.values c.in_ok-end.end
           (answer.Met c.in-Met.pair c.in-Met.met) (c.in_ok-end.ensures.ends c.index-frame.result.now.port
           (context_of c.loop-end.values (question_of c.index-frame.result.now.levels c.loop-end.mark)) c.loop-end.invariant.walked.chain) c.in-Met.is in
-          met_on old c.loop-end.net c.rewrite_pair.new.net c.loop-end.run heads places front s ss
+          met_on old c.loop-end.net c.rewrite_met.new.net c.loop-end.run heads places front s ss
           c.loop-end.lams c.in-Met.pair.0.0 c.in-Met.pair.1.0 b
           (c.loop-end.invariant.under old heads places front s ss z b u) c.is_net.ensures.net e.0
-          c.rewrite_pair.new.self c.loop-end.invariant.running.names c.in_ok-rewrite_pair-in-Met.ensures.ok;
+          c.rewrite_met.new.run c.loop-end.invariant.running.names c.in_ok-rewrite_met-in-Met.ensures.ok;
     }
 
 pub loop-end-preserved : goal.loop-end-preserved

@@ -11,12 +11,12 @@ use Rattle.ol_demand.proofs.demanding.demand.Goals as goal
 
 pub read-requires-clause-ready : goal.read-requires-clause-ready
 read-requires-clause-ready c = first_running c.args.net.now c.new-run.result c.args.heads
-    c.args.fuel c.is_net.ensures.net c.new-run.ensures.start c.new-run.ensures.names
+    c.args.fuel c.is_net.ensures.net c.new-run.ensures.start c.new-run.ensures.born
     c.new-run.ensures.journal c.requires.few
 
 pub read-requires-clause-begins : goal.read-requires-clause-begins
 read-requires-clause-begins c = first_reading c.args.net.now c.new-run.result c.args.heads
-    c.args.fuel c.is_net.ensures.net c.new-run.ensures.start c.new-run.ensures.names c.new-run.ensures.journal
+    c.args.fuel c.is_net.ensures.net c.new-run.ensures.start c.new-run.ensures.born c.new-run.ensures.journal
 
 pub returns-in_err-nodes-clause-no_memory : goal.returns-in_err-nodes-clause-no_memory
 returns-in_err-nodes-clause-no_memory c = on_err c.from_residual.result c.in_err-nodes.ensures.stopped
