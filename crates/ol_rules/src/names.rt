@@ -42,7 +42,7 @@ impl Names {
         }
     }
 
-    /// Names the nodes that a ticket made, at most four.
+    /// Names the nodes that a ticket made, at most four. `NoMemory`: no memory was found.
     pub fn push(&mut self, ticket: u32, count: u32) -> Result<(), NoMemory>
         requires { count ≤ 4 }
         ensures start { self.new.start ≡ self.old.start }
