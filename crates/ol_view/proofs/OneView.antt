@@ -26,7 +26,7 @@ use Rattle.ol_rules.proofs.Relation.{same_sym}
 use Rattle.ol_rules.proofs.Renaming.{node_to, node_from, link_to, link_from}
 use Rattle.ol_rules.proofs.StartNets.{start_net, start_named}
 use Rattle.ol_rules.proofs.UnderNames.{same_under}
-use Rattle.ol_rules.proofs.UnderWay.{node_below}
+use Rattle.ol_rules.proofs.OnTheWay.{node_below}
 use Rattle.ol_view.specs.Laws.{LeadsAreOne}
 use Rattle.ol_rules.proofs.OneEnd.{one_entry_pair, one_entry_step, step_net, step_before}
 

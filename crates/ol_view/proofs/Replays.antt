@@ -7,8 +7,9 @@ use Rattle.ol_net.specs.Pairs.{IsActive}
 use Rattle.ol_rules.specs.declared.journal.NodeName.{NodeName}
 use Rattle.ol_rules.proofs.NameOrder.{Names, names_apart}
 use Rattle.ol_rules.proofs.Renaming.{active_from}
-use Rattle.ol_rules.proofs.UnderWay.{node_below}
-use Rattle.ol_diamond.specs.Replaying.{node_number, AreIdle}
+use Rattle.ol_rules.proofs.OnTheWay.{node_below}
+use Rattle.ol_diamond.specs.Replaying.{AreIdle}
+use Rattle.ol_rules.specs.UnderWay.{node_number}
 use Rattle.ol_diamond.proofs.Replays.{Index}
 use Rattle.ol_diamond.specs.Replaying.{AreIdleNumbers}
 

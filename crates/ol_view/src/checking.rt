@@ -60,9 +60,9 @@ fn form_of(text: &[u8]) -> Option<Form>
     None
 }
 
-// Whether the line tells of what was rewritten: of a pair that was active and, in the second form,
-// its rule and its wave.
-fn is_so(line: Line, made: Option<Rewritten>) -> bool
+/// Whether the line tells of what was rewritten: of a pair that was active and, in the second form,
+/// its rule and its wave.
+pub fn is_so(line: Line, made: Option<Rewritten>) -> bool
     ensures so { result ≡ true → IsSomeAnd made (λ of. TellsOf line.told of.rule of.wave) }
     ensures not { result ≡ false → IfSome made (λ of. TellsOf line.told of.rule of.wave → ⊥) }
 {

@@ -27,12 +27,12 @@ mod tracing;
 mod wave_tracing;
 
 pub use answers::{After, Check};
-pub use checking::check;
+pub use checking::{check, is_so};
 pub use forms::Form;
 pub use laws::equal_nets_are_shown_alike;
 pub use leading::after;
-pub use line_reading::Line;
+pub use line_reading::{Line, RULES};
 pub use showing::show;
 pub use standing::{behind, line_at, name_at, number_at, rule_at};
-pub use tracing::trace_text;
+pub use tracing::{put_name, trace_text};
 pub use wave_tracing::{rule_word, trace_text_2};

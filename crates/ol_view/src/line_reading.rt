@@ -22,8 +22,8 @@ pub struct Line {
     pub next: usize,
 }
 
-// All rules.
-const RULES: [Rule; 8] = [
+/// All rules, in the order in which they are declared.
+pub const RULES: [Rule; 8] = [
     Rule::Beta,
     Rule::Fan,
     Rule::Croissant,

@@ -13,7 +13,8 @@ use std::alloc::Global;
 // The first line of a trace text.
 pub(crate) const HEADER: &str = "ol trace 1\n";
 
-fn put_name(text: &mut String, name: NodeName) -> Result<(), NoMemory>
+/// Appends a name. `NoMemory`: no memory was found.
+pub fn put_name(text: &mut String, name: NodeName) -> Result<(), NoMemory>
     ensures { OnOk result (string_bytes text.new ≡ string_bytes text.old ++ name_text name) }
 {
     match name {
