@@ -13,8 +13,10 @@ use std::alloc::Global;
 /// those given out since have `born`.
 #[derive(Drop)]
 pub struct Names {
-    start: u32,
-    born: Vec<NodeName>,
+    /// How many numbers the net at the start had given out.
+    pub start: u32,
+    /// The names of the numbers given out since, in order.
+    pub born: Vec<NodeName>,
 }
 
 impl Names {
@@ -61,7 +63,8 @@ impl Names {
 /// number `bases[t] + p`, and that is below `bases[t + 1]`.
 #[derive(Drop)]
 pub struct Numbers {
-    bases: Vec<u32>,
+    /// How many numbers were given out before each ticket, and by now.
+    pub bases: Vec<u32>,
 }
 
 impl Numbers {
