@@ -1,10 +1,10 @@
 -- The laws of the five orders.
-use Rattle.std.specs.Prelude.{◌≡◌, ℕ, suc, ◌∷◌, ◌++◌, List, Some, None, IsSome, true, ◌↔◌}
-use Rattle.ol_term.specs.Trees.{Tree, is_below}
+use Rattle.std.specs.Prelude.{◌≡◌, ℕ, suc, [], ◌∷◌, ◌++◌, List, Some, None, IsSome, true, ◌⊎◌, ◌↔◌}
+use Rattle.ol_term.specs.Trees.{Tree, app, is_below}
 use Rattle.ol_beta.specs.Beta.{contracted}
-use Rattle.ol_beta.specs.Leftmost.{leftmost}
+use Rattle.ol_beta.specs.Leftmost.{is_abstraction, leftmost, IsBefore}
 use Rattle.ol_meaning.specs.Shows.{IsHeadAddress}
-use Rattle.ol_strategies.specs.Redexes.{next, head_redex, weak_head_redex, applicative_redex}
+use Rattle.ol_strategies.specs.Redexes.{next, head_redex, weak_head_redex, applicative_redex, is_value, value_redex}
 use Rattle.ol_strategies.specs.Reductions.{IsStep, Leads}
 use Rattle.ol_strategies.specs.Ends.{IsEnd, IsStuck, HasFreeHead}
 use Rattle.ol_strategies.specs.declared.orders.Order.{Order}
@@ -44,6 +44,27 @@ HeadIsAtHeadAddress = (t : Tree) (at : List ℕ) →
 abbrev pub ApplicativeIsInnermost : Type 0
 ApplicativeIsInnermost = (t : Tree) (at below : List ℕ) (m : ℕ) → applicative_redex t ≡ Some at →
     contracted t (at ++ m ∷ below) ≡ None
+
+-- a redex at an address, and none within it
+abbrev pub IsInnermost : Tree → List ℕ → Type 0
+IsInnermost t at = IsSome (contracted t at)
+    × ((m : ℕ) (below : List ℕ) → contracted t (at ++ m ∷ below) ≡ None)
+
+-- each innermost redex is the one that applicative order contracts, or stands after it in preorder
+abbrev pub ApplicativeIsFirst : Type 0
+ApplicativeIsFirst = (t : Tree) (at b : List ℕ) → applicative_redex t ≡ Some at → IsInnermost t b →
+    (at ≡ b) ⊎ IsBefore at b
+
+-- a redex at an address whose argument is a value, below no abstraction
+abbrev pub IsValueRedex : Tree → List ℕ → Type 0
+IsValueRedex (app f a) [] = (is_abstraction f ≡ true) × (is_value a ≡ true)
+IsValueRedex (app f a) (m ∷ at) = ((m ≡ 1) × IsValueRedex f at) ⊎ ((m ≡ 2) × IsValueRedex a at)
+IsValueRedex _ at = ⊥
+
+-- call-by-value contracts such a redex, and each other one stands after it in preorder
+abbrev pub ValueIsFirst : Type 0
+ValueIsFirst = (t : Tree) (at : List ℕ) → value_redex t ≡ Some at →
+    IsValueRedex t at × ((b : List ℕ) → IsValueRedex t b → (at ≡ b) ⊎ IsBefore at b)
 
 -- an order has no redex in a term exactly where it ends there, by one word
 abbrev pub NoNextIsEnd : Type 0
