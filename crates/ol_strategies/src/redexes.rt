@@ -16,6 +16,7 @@ use std::alloc::Global;
 /// order has none there. No call is as deep as the term.
 ///
 /// The depth is at most 4294967295. `NoMemory`: no memory was found.
+#[tactic(auto, using(crate::proofs::Nexts::spine_head, crate::proofs::Nexts::spine_weak, crate::proofs::Nexts::strict_applicative, crate::proofs::Nexts::strict_value))]
 pub fn redex(alloc: Global, order: Order, t: &Term) -> Result<Option<Address>, NoMemory>
     requires shallow { depth (tree_of t.now) ≤ 4294967295 }
     ensures { IfOk result (λ r. r ≡ next order (tree_of t.now)) }
