@@ -8,18 +8,24 @@ use std::alloc::Global;
 use std::process::Abort;
 use std::test::Fail;
 
+/// Adds an address: its moves, or a dot for the root.
+pub fn add_address(alloc: Global, text: &mut String, at: &Address) -> Result<(), Fail> {
+    if at.len() == 0 {
+        text.push_str(".")?;
+    }
+    for k in 0..at.len() {
+        let to = at.get(k).ok_or("move")?;
+        text.push_str(format!(in alloc; "{}", to)?.as_str())?;
+    }
+    Ok(())
+}
+
 fn add_road(alloc: Global, text: &mut String, road: &Road) -> Result<(), Fail> {
     text.push_str(format!(in alloc; "\nsteps {}", road.len())?.as_str())?;
     for step in 0..road.len() {
         let at = road.get(step).ok_or("step")?;
         text.push_str("\n")?;
-        if at.len() == 0 {
-            text.push_str(".")?;
-        }
-        for k in 0..at.len() {
-            let to = at.get(k).ok_or("move")?;
-            text.push_str(format!(in alloc; "{}", to)?.as_str())?;
-        }
+        add_address(alloc, text, at)?;
     }
     Ok(())
 }

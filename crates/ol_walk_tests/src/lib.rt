@@ -14,6 +14,7 @@
 //! - `trees`: trees of small nets
 //! - `equal_trees`: such trees, compared
 //! - `certificates`: steps, roads and verdicts
+//! - `strategies`: the next redex of five orders, and what each ends in
 #![tactic(auto)]
 
 #[cfg(test)]
@@ -36,6 +37,8 @@ mod levels_of_terms;
 mod orders;
 #[cfg(test)]
 mod small_nets;
+#[cfg(test)]
+mod strategies;
 #[cfg(test)]
 mod tables;
 #[cfg(test)]
