@@ -4,7 +4,6 @@ ghost use Rattle.std.specs.Prelude.{◌≡◌, ℕ, List, Option, ◌≤◌, len
 ghost use Rattle.ol_io.specs.Readings.{AreOfSince};
 ghost use Rattle.ol_bench.specs.Commands.{IsAnswer, IsCause, IsWithinBounds, has_second, limit_line, most_of, name_of, second_most, second_of};
 ghost use Rattle.ol_bench.specs.Seconds.{IsCauseOnward};
-ghost use Rattle.ol_subjects.specs.Subjects.{most_bytes};
 ghost use Rattle.ol_bench.specs.Statuses.{status_number};
 ghost use Rattle.ol_bench.specs.Writing.{Told, WritesAnswer, change_of};
 
@@ -14,7 +13,7 @@ use ol_io::{ReadAll, Sink, Source, Written, read_all, write_all};
 use ol_memory::NoMemory;
 use ol_orders::{Bounds, Order, counted, journal, steps};
 use ol_same::same;
-use ol_subjects::{Answer, End, Subject, put};
+use ol_subjects::{Answer, End, Subject, most_bytes, put};
 use std::alloc::Global;
 
 /// What is asked: a command, with its numbers and with the names of its files. To the source of a
@@ -146,16 +145,6 @@ fn second_of(asked: &Asked) -> &str
         Asked::Explain { journal, .. } => journal.as_str(),
         Asked::Same { other, .. } => other.as_str(),
         _ => "",
-    }
-}
-
-// The most bytes of a file with a term or a net.
-fn most_bytes(subject: Subject) -> usize
-    ensures { result ≡ most_bytes subject }
-{
-    match subject {
-        Subject::Term(_) => 1_048_576,
-        Subject::Net => 33_554_432,
     }
 }
 

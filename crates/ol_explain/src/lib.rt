@@ -3,6 +3,7 @@
 //! - `following`: a journal, followed line by line
 //! - `pausing`: the command `after`: the net after the first lines of a journal
 //! - `explaining`: the command `explain`: what a journal is found to be, and why
+//! - `tallying`: what a journal is found to be, by its value, and how often each rule stands in its run
 //! - `causes`: why a line of a journal isn't one of a run
 //! - `left`: the pairs that are left after a run
 //! - `wanting`: where a line that isn't one of a journal breaks off, and what is wanted there
@@ -15,7 +16,9 @@ mod following;
 mod left;
 mod naming;
 mod pausing;
+mod tallying;
 mod wanting;
 
 pub use explaining::explained;
 pub use pausing::after;
+pub use tallying::{Finding, Tally, checked, tallied};

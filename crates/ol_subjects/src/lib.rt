@@ -10,5 +10,5 @@ mod subjects;
 mod texts;
 
 pub use answers::{Answer, End};
-pub use subjects::{NetRead, Subject, TermRead, read_subject, read_term};
+pub use subjects::{NetRead, Subject, TermRead, most_bytes, read_subject, read_term};
 pub use texts::{put, put_number};

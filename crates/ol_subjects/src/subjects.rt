@@ -23,6 +23,16 @@ pub enum Subject {
     Net,
 }
 
+/// The most bytes that are read of a file with a term or a net.
+pub fn most_bytes(subject: Subject) -> usize
+    ensures { result ≡ most_bytes subject }
+{
+    match subject {
+        Subject::Term(_) => 1_048_576,
+        Subject::Net => 33_554_432,
+    }
+}
+
 /// What comes of a file with a term.
 #[derive(Drop)]
 pub enum TermRead {
