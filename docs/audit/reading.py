@@ -329,7 +329,7 @@ class Source:
     def functions(self):
         """The functions that have clauses."""
         handed, found = exports(self.crate), []
-        for start in re.finditer(r"^ *(pub )?fn (\w+)", self.text, re.M):
+        for start in re.finditer(r'^ *(pub )?(?:extern "\w*" )?fn (\w+)', self.text, re.M):
             first = re.compile(r"^\s*(?:ghost \w+:|requires|ensures)\b", re.M).search(self.text, start.start())
             head = self.text[start.start():first.start()] if first else ''
             if not first or re.search(r"[{;]\n|\bfn .*\bfn ", head, re.S):
