@@ -4,9 +4,9 @@
     scripts/made_from.py sources NAME KIND       prints the checksum of these sources
     scripts/made_from.py note NAME KIND SUM      writes that the program was made from the sources of this checksum
 
-NAME is `ol` or `ol-bench`; KIND is `proved`, or `unproved`, of the program that `./ol` builds without a proof. Beside each program
-stands what it was made from, in three lines: the number of the kit's logic, the checksum of the sources, and that of the program
-itself. So a program may be copied into a clone, with any times, and counts there if its sources are the ones that stand there; and it
+NAME is `ol` or `ol-bench`, or for `sources` also `libolcheck`, the library for C; KIND is `proved`, or `unproved`, of the program that
+`./ol` builds without a proof. Beside each program stands what it was made from, in three lines: the number of the kit's logic, the
+checksum of the sources, and that of the program itself. So a program may be copied into a clone, with any times, and counts there if its sources are the ones that stand there; and it
 doesn't where a source has another byte, where the kit at hand has another logic, or where another file was put in its place.
 
 The sources of a program are, of its crate and of each crate below it, the line in crates.txt and the files of src/, specs/ and
@@ -20,6 +20,7 @@ import sys
 
 TOP = os.path.dirname(os.path.dirname(os.path.realpath(__file__)))
 CRATES = {'ol': 'ol', 'ol-bench': 'ol_bench_program'}
+BUILT = {**CRATES, 'libolcheck': 'ol_check_c'}
 PROVED_BY = {'ol': './prove', 'ol-bench': './prove ol-bench'}
 PARTS = {'proved': ('src', 'specs', 'proofs'), 'unproved': ('src',)}
 NO_KIT = 'unknown'
@@ -60,8 +61,8 @@ def sum_of(path):
 
 
 def sources(name, kind='proved'):
-    """The checksum of the sources of a program."""
-    rows = rows_below(CRATES[name])
+    """The checksum of the sources of a program, or of the library."""
+    rows = rows_below(BUILT[name])
     total = hashlib.sha256(repr(sorted(rows.items())).encode())
     folders = [f'crates/{crate}/{part}' for crate in sorted(rows) for part in PARTS[kind]]
     paths = [it for folder in folders for it in files_below(f'{TOP}/{folder}')]
@@ -111,11 +112,11 @@ def is_current(name, kind):
 
 def main(words):
     verb, name, kind = (words + ['', '', ''])[:3]
+    if name in BUILT and kind in PARTS and (verb, len(words)) == ('sources', 3):
+        return print(sources(name, kind))
     if name in CRATES and kind in PARTS:
         if (verb, len(words)) == ('is-current', 3):
             return 0 if is_current(name, kind) else 1
-        if (verb, len(words)) == ('sources', 3):
-            return print(sources(name, kind))
         if (verb, len(words)) == ('note', 4):
             return note(name, kind, words[3])
     print(__doc__, file=sys.stderr)

@@ -3,9 +3,9 @@
     tests/all [--long]
 
 It tries the scripts `ol` and `prove`, the commands of the pages, the term files of examples/, the vectors, docs/BENCH.md,
-and the scripts themselves, with the programs that tests/lib/which_ol.py finds: those that OL and OL_BENCH name; else the
-proved ones, where they are there; else `ol` on PATH; else the scripts `ol` and `ol-bench` at the top. With --long it runs
-those too that are named at the end with the time that they take. The last line is 'N passed, M failed', over all.
+the library for C where it is built, and the scripts themselves, with the programs that tests/lib/which_ol.py finds: those
+that OL and OL_BENCH name; else the proved ones, where they are there; else `ol` on PATH; else the scripts `ol` and
+`ol-bench` at the top. With --long it runs those too that are named at the end with the time that they take. The last line is 'N passed, M failed', over all.
 """
 import collections
 import os
@@ -15,7 +15,7 @@ import asking
 import summing
 from which_ol import TOP
 
-USUAL = ["scripts", "first-answer", "pages", "examples", "vectors/check", "bench"]
+USUAL = ["scripts", "first-answer", "pages", "examples", "vectors/check", "bench", "library"]
 # A longer one: its name, what it tries, and the seconds that it took on four idle processors; None, where that wasn't measured yet.
 Long = collections.namedtuple("Long", "name tries takes")
 LONG = [
