@@ -1,4 +1,5 @@
-"""Builds library/check.c with the library for C, and compares what it prints with `ol check`, `ol-bench explain` and `ol run`.
+"""Builds library/check.c with the library for C, and compares what it prints with `ol check`, `ol-bench explain` and `ol run`;
+and what the example of docs/LIBRARY.md prints with what the page says.
 
     tests/library [FOLDER]
 
@@ -10,6 +11,7 @@ import os
 import shutil
 import subprocess
 import tempfile
+import textwrap
 
 import asking
 import made_from
@@ -44,13 +46,19 @@ ROWS = [
 ]
 RULES = ("beta", "fan", "croissant", "bracket", "cross-fan", "cross-croissant", "cross-bracket", "erase")
 WORDS = ("complete", "run ", "not a run at line ", "bad text at line ")
-# What has no place in a command line: null pointers, lengths that nothing has, room for a part, a translation that isn't.
+# What has no place in a command line: null pointers, lengths that nothing has, room for a part, want of memory.
 EDGES = r"""
 #include "olcheck.h"
 #include <stdio.h>
 #include <string.h>
 #include <time.h>
 static int bad;
+/* The allocation of this number, counted from 0, isn't made: with no number, each is. */
+static long count, refused = -1;
+void *__real_malloc(size_t);
+void *__real_realloc(void *, size_t);
+void *__wrap_malloc(size_t n) { return count++ == refused ? NULL : __real_malloc(n); }
+void *__wrap_realloc(void *p, size_t n) { return count++ == refused ? NULL : __real_realloc(p, n); }
 static void expect(const char *what, int holds) { printf("%s %s\n", holds ? "ok " : "BAD", what); bad += !holds; }
 int main(void) {
     const char *t = "(\\x. x) (\\y. y)", *j = "ol trace 1\n0 1\n2 3\n4 1.1\n1.0 2.0\n";
@@ -71,6 +79,18 @@ int main(void) {
     struct ol_verdict v = ol_check(zeros, sizeof zeros, 2, j, jn);
     expect("a term with a byte too many", v.word == OL_TOO_LONG && v.number == 1 << 20);
     expect("and one with as many as may be", ol_check(zeros, 1 << 20, 2, j, jn).word == OL_REFUSED);
+    int told = 0, others = 0, whole = 0;
+    for (refused = 0; refused < 2000 && !whole; refused++) {
+        count = 0;
+        v = ol_count(t, tn, 2, j, jn, &c);
+        whole = count <= refused;
+        if (v.word == OL_NO_MEMORY) told += v.number == 0 && c.beta == 0;
+        else others += v.word != OL_COMPLETE || c.beta != 1;
+    }
+    expect("each allocation refused in turn: no memory, or the whole answer", whole && told > 10 && !others);
+    refused = 0, count = 0;
+    expect("and one of the explanation", ol_explain(t, tn, 2, j, jn, room, 12) == 0 && !memcmp(room, "complete\n...", 12));
+    refused = -1;
     clock_t begun = clock();
     for (int n = 0; n < 100000; n++) bad += ol_check(t, tn, 2, j, jn).word != OL_COMPLETE;
     printf("100,000 checks took %.2f s\n", (double)(clock() - begun) / CLOCKS_PER_SEC);
@@ -85,11 +105,11 @@ def expect(what, holds):
     TRIED.append(holds)
 
 
-def built(source, folder, room):
+def built(source, folder, room, *options):
     """The path of a program that is built of this source."""
     program = os.path.join(room, os.path.basename(source)[:-2])
     subprocess.run([os.environ.get("CC", "cc"), "-O2", "-std=c99", "-Wall", "-Wextra", "-I", folder, source,
-                    os.path.join(folder, "libolcheck.a"), "-o", program], check=True)
+                    os.path.join(folder, "libolcheck.a"), *options, "-o", program], check=True)
     return program
 
 
@@ -98,6 +118,16 @@ def write(room, name, text):
     with open(path, "w", encoding="latin-1") as file:
         file.write(text)
     return path
+
+
+def try_the_page(folder, room):
+    """The example of docs/LIBRARY.md prints what the page says that it prints."""
+    with open(os.path.join(TOP, "docs", "LIBRARY.md"), encoding="utf-8") as file:
+        source, printed = file.read().split('    #include "olcheck.h"\n')[1].split("\nIt prints:\n")
+    blocks = ['#include "olcheck.h"\n' + textwrap.dedent(source), textwrap.dedent(printed.split("\n\n")[0].strip("\n")) + "\n"]
+    program = built(write(room, "page.c", blocks[0]), folder, room)
+    done = subprocess.run([program], stdout=subprocess.PIPE, text=True)
+    expect("the example of docs/LIBRARY.md", done.stdout == blocks[1])
 
 
 def try_row(number, row, programs, room):
@@ -126,7 +156,8 @@ def try_all(folder):
         programs["check"] = built(os.path.join(TOP, "library", "check.c"), folder, room)
         for number, row in enumerate(ROWS, 1):
             try_row(number, row, programs, room)
-        done = subprocess.run([built(write(room, "edges.c", EDGES), folder, room)], stdout=subprocess.PIPE, text=True)
+        try_the_page(folder, room)
+        done = subprocess.run([built(write(room, "edges.c", EDGES), folder, room, "-Wl,--wrap=malloc,--wrap=realloc")], stdout=subprocess.PIPE, text=True)
         print(done.stdout, end="")
         TRIED.extend(line.startswith("ok") for line in done.stdout.splitlines() if line[:3] in ("ok ", "BAD"))
         expect("the edges end well", done.returncode == 0)
