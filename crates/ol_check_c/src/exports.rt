@@ -17,7 +17,7 @@ pub extern "C" fn ol_proved_check(
     translation: u32,
     journal: &[u8],
 ) -> Verdict
-    ensures { IsVerdictBy translation term.now journal.now result }
+    ensures verdict { IsVerdictBy translation term.now journal.now result }
 {
     match subject_of(translation) {
         Some(subject) => found(alloc, subject, term, journal),
@@ -28,7 +28,7 @@ pub extern "C" fn ol_proved_check(
 /// What a journal is found to be against the net of a net file.
 #[unsafe(no_mangle)]
 pub extern "C" fn ol_proved_check_net(alloc: Global, net: &[u8], journal: &[u8]) -> Verdict
-    ensures { IsVerdict Net net.now journal.now result }
+    ensures verdict { IsVerdict Net net.now journal.now result }
 {
     found(alloc, Subject::Net, net, journal)
 }
@@ -43,7 +43,7 @@ pub extern "C" fn ol_proved_count(
     journal: &[u8],
     counts: &mut RuleCounts,
 ) -> Verdict
-    ensures { IsCountedBy translation term.now journal.now result counts.new }
+    ensures counted { IsCountedBy translation term.now journal.now result counts.new }
 {
     match subject_of(translation) {
         Some(subject) => {
@@ -66,7 +66,7 @@ pub extern "C" fn ol_proved_count_net(
     journal: &[u8],
     counts: &mut RuleCounts,
 ) -> Verdict
-    ensures { IsCounted Net net.now journal.now result counts.new }
+    ensures counted { IsCounted Net net.now journal.now result counts.new }
 {
     let (verdict, rules) = counted(alloc, Subject::Net, net, journal);
     *counts = rules;
@@ -83,7 +83,7 @@ pub extern "C" fn ol_proved_explain(
     journal: &[u8],
     room: &mut [u8],
 ) -> usize
-    ensures { IsWrittenOutBy translation term.now journal.now room.old result room.new }
+    ensures written { IsWrittenOutBy translation term.now journal.now room.old result room.new }
 {
     match subject_of(translation) {
         Some(subject) => told(alloc, subject, term, journal, room),
@@ -99,7 +99,7 @@ pub extern "C" fn ol_proved_explain_net(
     journal: &[u8],
     room: &mut [u8],
 ) -> usize
-    ensures { IsWrittenOut Net net.now journal.now room.old result room.new }
+    ensures written { IsWrittenOut Net net.now journal.now room.old result room.new }
 {
     told(alloc, Subject::Net, net, journal, room)
 }
