@@ -1,5 +1,6 @@
 -- What a text is parsed to.
 use Rattle.std.specs.Prelude.{◌≡◌, ℕ, ◌<◌, List, [], ◌∷◌}
+use Rattle.ol_limits.specs.Limits.{most_depth}
 use Rattle.ol_term.specs.Trees.{Tree, depth}
 use Rattle.ol_parse.specs.Grammar.{Named}
 use Rattle.ol_parse.specs.Texts.{IsName, IsText}
@@ -11,10 +12,6 @@ pub record IsFileOf (bytes : List ℕ) (t : Tree) (names : List (List ℕ)) : Ty
   pub text : IsText bytes named
   pub tree : t ≡ number named
   pub free_names : names ≡ names_of named
-
--- the greatest depth of a term that is parsed
-abbrev pub most_depth : ℕ
-most_depth = 1000
 
 -- the bytes are a text of a term of this depth, which is above 1,000
 pub record IsTooDeep (bytes : List ℕ) (d : ℕ) : Type 0 where

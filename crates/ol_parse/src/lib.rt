@@ -23,4 +23,4 @@ mod tokens;
 
 pub use faults::ParseFault;
 pub use laws::{few_leaves, one_dead_place, one_file, one_term};
-pub use parsing::{MOST_DEPTH, parse};
+pub use parsing::parse;

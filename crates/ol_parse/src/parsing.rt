@@ -3,18 +3,17 @@
 ghost use Rattle.std.specs.Prelude.{◌≡◌, ◌≢◌, ℕ, ◌≤◌, ◌<◌, ◌↔◌, true, length, List, Err, IsOk, IfOk, IfErr};
 ghost use Rattle.ol_term.specs.Trees.{Tree, tree_of, depth, EachOccurs};
 ghost use Rattle.ol_parse.specs.Texts.{IsRefusedAt};
-ghost use Rattle.ol_parse.specs.Parsed.{AreNames, IsFileOf, IsTooDeep, most_depth};
+ghost use Rattle.ol_limits.specs.Limits.{most_depth};
+ghost use Rattle.ol_parse.specs.Parsed.{AreNames, IsFileOf, IsTooDeep};
 ghost use Rattle.ol_parse.specs.Refusals.{IsFault};
 
 use crate::bytes::read;
 use crate::depths::depth_of;
 use crate::faults::ParseFault;
 use crate::numbers::number_term;
+use ol_limits::MOST_DEPTH;
 use ol_term::TermFile;
 use std::alloc::Global;
-
-/// The deepest term that is parsed.
-pub const MOST_DEPTH: u64 = 1000;
 
 fn read_file(alloc: Global, text: &[u8]) -> Result<TermFile, ParseFault>
     requires { length text.now ≤ 1073741824 }
@@ -24,7 +23,7 @@ fn read_file(alloc: Global, text: &[u8]) -> Result<TermFile, ParseFault>
 {
     let steps = read(alloc, text)?;
     let depth = depth_of(alloc, &steps)?;
-    if depth > MOST_DEPTH {
+    if depth > MOST_DEPTH as u64 {
         return Err(ParseFault::Depth { depth });
     }
     Ok(number_term(alloc, &steps)?)
