@@ -2,7 +2,7 @@
 use Rattle.std.specs.Prelude.{◌≡◌, ◌≢◌, ◌<◌, ℕ, List, ◌++◌, length, slice_set, slice_get, slice_index_or, Some}
 use Rattle.ol_net.specs.declared.parts.Kind.{Kind}
 use Rattle.ol_net.specs.declared.parts.Port.{Port}
-use Rattle.ol_translate.specs.declared.parts.TheConstants.{MOST_NODES}
+use Rattle.ol_limits.specs.Limits.{most_nodes}
 use Rattle.ol_translate.specs.declared.faults.TransFault.{TransFault}
 use Rattle.ol_translate.specs.declared.faults.TransFault.TheVariants.{TooMany}
 use Rattle.ol_translate.specs.declared.parts.Parts.{Parts}
@@ -27,7 +27,7 @@ next_number parts = length parts.nodes.items
 
 -- `TooMany` comes only where these are more than 200,000 nodes
 abbrev pub OnlyAbove : ℕ → TransFault → Type 0
-OnlyAbove n e = e ≡ TooMany → MOST_NODES < n
+OnlyAbove n e = e ≡ TooMany → most_nodes < n
 
 -- the wire of this variable stands at this place
 pub record IsPlaced (v : ℕ) (wires : List (ℕ × Port)) (place : ℕ) : Type 0 where

@@ -5,7 +5,7 @@ ghost use Rattle.ol_term.specs.Trees.{tree_of};
 ghost use Rattle.ol_translate.specs.Translation.{nodes_of, links_of, name_links, occurrence, subnet_of, wire_of, outside, slot_port, erasers, bound_port, bracket_nodes, bracket_links, past_brackets, fans, fan_nodes, fan_links, merged};
 ghost use Rattle.ol_translate.specs.Growth.{next_number, Lays, Adds, OnlyAbove, HaveOneEach, IsIndex};
 ghost use Rattle.ol_translate.specs.Names.{HasNames};
-ghost use Rattle.ol_translate.specs.declared.parts.TheConstants.{MOST_NODES};
+ghost use Rattle.ol_limits.specs.Limits.{most_nodes};
 ghost use Rattle.ol_translate.specs.declared.faults.TransFault.TheVariants.{TooMany};
 
 use crate::faults::TransFault;
@@ -98,7 +98,7 @@ impl Parts {
     fn occurrence(&mut self, variable: usize, level: u32) -> Result<Ends, TransFault>
         ensures lays { IfOk result (λ ends. Lays self.old
             (occurrence variable level (next_number self.old)) self.new ends) }
-        ensures too_many { IfErr result (λ e. e ≡ TooMany → MOST_NODES ≤ next_number self.old) }
+        ensures too_many { IfErr result (λ e. e ≡ TooMany → most_nodes ≤ next_number self.old) }
     {
         let number = self.add(Kind::Croissant, level)?;
         let mut wires = Vec::new(self.alloc);

@@ -1,17 +1,15 @@
 //! The nodes and links that are laid down.
 
 ghost use Rattle.std.specs.Prelude.{◌≡◌, ◌≤◌, ◌<◌, ◌++◌, [], ◌∷◌, length, IfOk, OnOk, IfErr};
-ghost use Rattle.ol_translate.specs.declared.parts.TheConstants.{MOST_NODES};
+ghost use Rattle.ol_limits.specs.Limits.{most_nodes};
 ghost use Rattle.ol_translate.specs.declared.faults.TransFault.{TransFault};
 ghost use Rattle.ol_translate.specs.declared.faults.TransFault.TheVariants.{TooMany};
 
 use crate::faults::TransFault;
 use crate::index::Index;
+use ol_limits::MOST_NODES;
 use ol_net::{Kind, Port};
 use std::alloc::Global;
-
-/// The most nodes that a translated term has.
-const MOST_NODES: usize = 200_000;
 
 /// The nodes, in order of their numbers, and the links. The index serves each application in turn.
 #[derive(Drop)]
@@ -20,7 +18,7 @@ pub struct Parts {
     pub nodes: Vec<(Kind, u32)>,
     pub links: Vec<(Port, Port)>,
     pub index: Index,
-    ghost few: { length nodes.items ≤ MOST_NODES },
+    ghost few: { length nodes.items ≤ most_nodes },
 }
 
 impl Parts {
@@ -31,12 +29,12 @@ impl Parts {
             ≡ self.old.nodes.items ++ (kind, index) ∷ []) }
         ensures links { self.new.links.items ≡ self.old.links.items }
         ensures index { self.new.index ≡ self.old.index }
-        ensures fits { OnOk result (length self.old.nodes.items < MOST_NODES) }
+        ensures fits { OnOk result (length self.old.nodes.items < most_nodes) }
         ensures too_many { IfErr result (λ e.
-            e ≡ TooMany → MOST_NODES ≤ length self.old.nodes.items) }
+            e ≡ TooMany → most_nodes ≤ length self.old.nodes.items) }
     {
         let number = self.nodes.len();
-        if number >= MOST_NODES {
+        if number >= MOST_NODES as usize {
             return Err(TransFault::TooMany);
         }
         self.nodes.push((kind, index))?;
