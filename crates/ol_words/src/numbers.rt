@@ -6,6 +6,8 @@ ghost use Rattle.ol_words.specs.Numbers.{number_within, is_number};
 ghost use Rattle.ol_words.specs.Views.{limits_of};
 ghost use Rattle.ol_words.specs.Found.{setting_by};
 
+use ol_limits::{MOST_FUEL, MOST_HEADS, MOST_WORKERS, PLAIN_FUEL, PLAIN_HEADS, PLAIN_WORKERS};
+
 /// What a setting may be, and what it is where it isn't given.
 #[derive(Clone, Copy)]
 pub(crate) struct Limits {
@@ -16,20 +18,20 @@ pub(crate) struct Limits {
 
 pub(crate) const WORKERS: Limits = Limits {
     least: 1,
-    most: 64,
-    default: 4,
+    most: MOST_WORKERS,
+    default: PLAIN_WORKERS,
 };
 
 pub(crate) const FUEL: Limits = Limits {
     least: 0,
-    most: 8_000_000,
-    default: 200_000,
+    most: MOST_FUEL,
+    default: PLAIN_FUEL,
 };
 
 pub(crate) const HEADS: Limits = Limits {
     least: 1,
-    most: 100_000,
-    default: 4_096,
+    most: MOST_HEADS,
+    default: PLAIN_HEADS,
 };
 
 pub(crate) const EDGES: Limits = Limits {
@@ -40,7 +42,7 @@ pub(crate) const EDGES: Limits = Limits {
 
 pub(crate) const AFTER: Limits = Limits {
     least: 0,
-    most: 8_000_000,
+    most: MOST_FUEL,
     default: 0,
 };
 
