@@ -10,8 +10,8 @@ use ol_memory::NoMemory;
 use ol_net::{BuildFault, Kind, Net, NodeId, Port, port_at};
 use std::alloc::Global;
 
-// The greatest index that a net may have.
-const TOP_INDEX: u32 = 100_000_000;
+// The greatest index that a net may be built to.
+const MOST_TOP: u32 = 100_000_000;
 
 /// Nodes and links as far as they are known.
 #[derive(Drop)]
@@ -112,7 +112,7 @@ impl Draft {
             kinds,
             partners: _,
         } = self;
-        match Net::build_to(alloc, TOP_INDEX, free, kinds, links) {
+        match Net::build_to(alloc, MOST_TOP, free, kinds, links) {
             Ok(net) => Ok(net),
             Err(fault) => {
                 prove!(matches!(fault, BuildFault::NoMemory));
