@@ -1,5 +1,6 @@
 //! From seats to workers and back, and the work of all of them.
 ghost use Rattle.std.specs.Prelude.{◌≡◌, ◌||◌, ◌<◌, ◌≤◌, All, IfOk, vec_len, length, is_some, count_by, true, false};
+ghost use Rattle.ol_limits.specs.Limits.{most_fuel};
 ghost use Rattle.ol_pool.specs.Pools.{AreDealt};
 ghost use Rattle.ol_wire.specs.Layout.{cells_of};
 ghost use Rattle.ol_wire.specs.Sizes.{IsSmallNet};
@@ -37,7 +38,7 @@ pub(crate) fn run_workers<R: Threads + Wait + Sync, G: Gate + Sync>(
 ) -> Result<(Words, End), NoMemory>
     requires whole { count_by is_some net.now.nodes ≡ length net.now.nodes }
     requires small { IsSmallNet net.now }
-    requires fuel { fuel ≤ 8000000 }
+    requires fuel { fuel ≤ most_fuel }
     requires workers { (0 < workers) × (workers ≤ 64) }
     ensures parts { IfOk result (λ r. AreParts net.now fuel r.0.plan.parts) }
     ensures start { IfOk result (λ r. r.0.plan.start.value ≡ net.now) }

@@ -1,5 +1,6 @@
 //! The nodes that are left: those that were made and that no ticket rewrote.
 ghost use Rattle.std.specs.Prelude.{◌≡◌, ℕ, Bool, true, false, Some, ◌⊎◌, ◌+◌, ◌-◌, ◌*◌, ◌<◌, ◌≤◌, ◌++◌, [], ◌∷◌, length, slice_index, slice_get, if◌then◌else◌, IfOk, OnOk, MatchOption, ◌↔◌, vec_len, replicate};
+ghost use Rattle.ol_limits.specs.Limits.{most_fuel};
 ghost use Rattle.ol_rules.specs.declared.journal.NodeName.{NodeName};
 ghost use Rattle.ol_rules.specs.Rewriting.{is_meeting};
 ghost use Rattle.ol_wire.specs.Blocks.{copies_of_f, copies_of_g};
@@ -25,7 +26,7 @@ pub(crate) struct Live {
 
 // The rank of a name. `None`: no node can have the name after so many tickets.
 fn rank_of(parts: Parts, events: u32, name: NodeName) -> Option<u32>
-    requires { IsSmall parts × (events ≤ 8000000) }
+    requires { IsSmall parts × (events ≤ most_fuel) }
     ensures { MatchOption result (IsPlaced parts events name → ⊥) (IsRankOf parts events name) }
 {
     match name {
@@ -63,7 +64,7 @@ fn births(words: &Words, pairs: &Vec<(u64, u64)>, journal: &Journal, ticket: u32
 
 // Marks a name.
 fn mark(parts: Parts, events: u32, marks: &mut Vec<bool>, name: NodeName)
-    requires small { IsSmall parts × (events ≤ 8000000) }
+    requires small { IsSmall parts × (events ≤ most_fuel) }
     requires long { length marks.old.items ≡ parts.nodes + 4 * events }
     ensures long { length marks.new.items ≡ length marks.old.items }
     ensures marked { IsMarkedToo parts events marks.old.items name marks.new.items }
@@ -77,7 +78,7 @@ fn mark(parts: Parts, events: u32, marks: &mut Vec<bool>, name: NodeName)
 fn rewritten(alloc: Global, words: &Words, journal: &Journal) -> Result<Vec<bool>, NoMemory>
     requires small { IsSmall words.now.plan.parts }
     requires journal { journal.now ≡ journal_drawn words.now }
-    requires drawn { events_drawn words.now ≤ 8000000 }
+    requires drawn { events_drawn words.now ≤ most_fuel }
     ensures { IfOk result (λ v. AreMarked words.now (events_drawn words.now) v.items) }
 {
     let parts = words.parts();

@@ -1,5 +1,6 @@
 //! A rewrite that has its ticket, and the ends of its links.
 ghost use Rattle.std.specs.Prelude.{◌≡◌, ◌<◌, ◌≤◌, Some};
+ghost use Rattle.ol_limits.specs.Limits.{most_fuel};
 ghost use Rattle.ol_wire.specs.References.{index_in};
 ghost use Rattle.ol_wire.specs.Events.{rule_between};
 ghost use Rattle.ol_wire.specs.LinkLists.{joins_in};
@@ -34,7 +35,7 @@ pub(crate) struct Copies {
 impl Begun {
     // The copies that it makes. A meeting makes none.
     pub(crate) fn copies(&self, parts: Parts) -> Option<Copies>
-        requires small { IsSmall parts × (self.now.ticket ≤ 8000000) }
+        requires small { IsSmall parts × (self.now.ticket ≤ most_fuel) }
         requires index { index_in self.now.rewrite.g < 16777215 }
         ensures { HasCopies parts self.now result }
     {

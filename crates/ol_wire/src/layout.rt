@@ -1,5 +1,6 @@
 //! How the words of a table are laid out.
 ghost use Rattle.std.specs.Prelude.{◌≡◌, ℕ, ◌+◌, ◌*◌, ◌<◌, ◌≤◌};
+ghost use Rattle.ol_limits.specs.Limits.{most_fuel};
 ghost use Rattle.ol_wire.specs.References.{place_in};
 ghost use Rattle.ol_wire.specs.Layout.{port_word, start_node, start_wire, start_cell, block, table_size, left_word, cells_of, born_wire, born_cell};
 ghost use Rattle.ol_wire.specs.Sizes.{IsSmall};
@@ -61,7 +62,7 @@ impl Parts {
 
     /// The first word of the block of a ticket.
     pub fn block(self, ticket: u32) -> u32
-        requires { IsSmall self × (ticket ≤ 8000000) }
+        requires { IsSmall self × (ticket ≤ most_fuel) }
         ensures { result ≡ block self ticket }
     {
         2 + self.free + 2 * self.nodes + self.wires + 2 * self.cells + BLOCK * ticket
@@ -105,7 +106,7 @@ impl Parts {
 
     // The left word of the cell of a join of a ticket.
     pub(crate) fn born_cell(self, ticket: u32, join: u32) -> u32
-        requires { IsSmall self × (ticket ≤ 8000000) × (join < 4) }
+        requires { IsSmall self × (ticket ≤ most_fuel) × (join < 4) }
         ensures { result ≡ born_cell self ticket join }
     {
         self.block(ticket) + 14 + 2 * join
@@ -121,7 +122,7 @@ impl Parts {
 
     // The wire between the copy of f at slot q + 1 of g and the copy of g at slot p + 1 of f.
     pub(crate) fn born_wire(self, ticket: u32, q: u32, p: u32) -> u32
-        requires { IsSmall self × (ticket ≤ 8000000) × (q < 4) × (p < 4) }
+        requires { IsSmall self × (ticket ≤ most_fuel) × (q < 4) × (p < 4) }
         ensures { result ≡ born_wire self ticket q p }
     {
         self.block(ticket) + 10 + 2 * q + p

@@ -7,6 +7,7 @@
 //! - `moments`: looks at the whole table.
 //! - `close`: the end of the table.
 ghost use Rattle.std.specs.Prelude.{◌≡◌, ◌+◌, ◌<◌, ◌≤◌, [], All, IfOk, vec_len, length, is_some, count_by};
+ghost use Rattle.ol_limits.specs.Limits.{most_fuel};
 ghost use Rattle.ol_wire.specs.Layout.{table_size as size_of, cells_of};
 ghost use Rattle.ol_wire.specs.Sizes.{IsSmall, IsSmallNet};
 ghost use Rattle.ol_wire.specs.Starts.{AreParts};
@@ -68,7 +69,7 @@ impl Shared {
     ) -> Result<(Shared, Vec<Seat>), NoMemory>
         requires whole { count_by is_some net.now.nodes ≡ length net.now.nodes }
         requires small { IsSmallNet net.now }
-        requires fuel { fuel ≤ 8000000 }
+        requires fuel { fuel ≤ most_fuel }
         requires seats { (0 < seats) × (seats ≤ 64) }
         ensures parts { IfOk result (λ r. AreParts net.now fuel r.0.plan.parts) }
         ensures start { IfOk result (λ r. r.0.plan.start.value ≡ net.now) }
