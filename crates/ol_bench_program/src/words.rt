@@ -5,6 +5,7 @@ ghost use Rattle.ol_bench.specs.Commands.{IsWithinBounds};
 
 use clap::{Arg, ArgAction, ArgMatches, Command, Error};
 use ol_bench::Asked;
+use ol_limits::{MOST_FUEL, MOST_HEADS, MOST_JOURNAL_BYTES, PLAIN_FUEL, PLAIN_HEADS};
 use ol_orders::{Bounds, Order};
 use ol_subjects::Subject;
 use ol_term::Translation;
@@ -51,14 +52,14 @@ fn on_net<'a>(alloc: Global, name: &'a str, about: &'a str) -> Result<Command<'a
             alloc,
             "fuel",
             0,
-            8_000_000,
+            MOST_FUEL as i64,
             "the most interactions, by itself 200000",
         ))?
         .arg(number(
             alloc,
             "heads",
             1,
-            100_000,
+            MOST_HEADS as i64,
             "the most places that `demand` asks, by itself 4096",
         ))
 }
@@ -142,7 +143,7 @@ fn places<'a>(alloc: Global) -> Result<Command<'a>, AllocError> {
     let byte = Arg::new(alloc, "byte")
         .required(true)
         .action(ArgAction::Set)
-        .value_parser(clap::value_parser!(u32).range(0..=402_653_184))
+        .value_parser(clap::value_parser!(u32).range(0..=MOST_JOURNAL_BYTES as i64))
         .help("the place of the byte, counted from 0");
     Command::new(alloc, "where")
         .about("Line and column of a byte of a file, the line and a caret")
@@ -245,8 +246,8 @@ fn counts_asked(alloc: Global, found: &ArgMatches) -> Result<Asked, Error>
     ensures { IfOk result IsWithinBounds }
 {
     let bounds = Bounds {
-        fuel: number_of(found, "fuel", 0, 8_000_000, 200_000),
-        heads: number_of(found, "heads", 1, 100_000, 4_096),
+        fuel: number_of(found, "fuel", 0, MOST_FUEL, PLAIN_FUEL),
+        heads: number_of(found, "heads", 1, MOST_HEADS, PLAIN_HEADS),
         steps: number_of(found, "most", 0, 10_000, 1_000),
     };
     let subject = subject_of(found);
@@ -261,8 +262,8 @@ fn counts_asked(alloc: Global, found: &ArgMatches) -> Result<Asked, Error>
 fn journal_asked(alloc: Global, found: &ArgMatches) -> Result<Asked, Error>
     ensures { IfOk result IsWithinBounds }
 {
-    let fuel = number_of(found, "fuel", 0, 8_000_000, 200_000);
-    let heads = number_of(found, "heads", 1, 100_000, 4_096);
+    let fuel = number_of(found, "fuel", 0, MOST_FUEL, PLAIN_FUEL);
+    let heads = number_of(found, "heads", 1, MOST_HEADS, PLAIN_HEADS);
     let subject = subject_of(found);
     let order = order_of(found);
     let name = name_of(alloc, found)?;
@@ -314,7 +315,7 @@ fn same_asked(alloc: Global, found: &ArgMatches) -> Result<Asked, Error>
 fn place_asked(alloc: Global, found: &ArgMatches) -> Result<Asked, Error>
     ensures { IfOk result IsWithinBounds }
 {
-    let byte = number_of(found, "byte", 0, 402_653_184, 0);
+    let byte = number_of(found, "byte", 0, MOST_JOURNAL_BYTES, 0);
     let name = name_of(alloc, found)?;
     Ok(Asked::Where { byte, name })
 }
