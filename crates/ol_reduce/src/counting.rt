@@ -1,5 +1,6 @@
 //! A net rewritten by any number of workers, for a caller who doesn't read the journal.
 ghost use Rattle.std.specs.Prelude.{◌≡◌, ◌<◌, ◌≤◌, length, is_some, count_by, IfOk, ◌↔◌};
+ghost use Rattle.ol_limits.specs.Limits.{most_fuel};
 ghost use Rattle.ol_wire.specs.Sizes.{IsSmallNet};
 ghost use Rattle.ol_reduce.specs.Counted.{IsDoneCounted, ReducesCounted};
 ghost use Rattle.ol_reduce.specs.Reduced.{EndsWithin};
@@ -51,7 +52,7 @@ pub fn reduce_counted<R: Threads + Wait + Sync, G: Gate + Sync>(
 ) -> Result<Counted, NoMemory>
     requires whole { count_by is_some net.now.nodes ≡ length net.now.nodes }
     requires small { IsSmallNet net.now }
-    requires fuel { fuel ≤ 8000000 }
+    requires fuel { fuel ≤ most_fuel }
     requires workers { (0 < workers) × (workers ≤ 64) }
     ensures reduced { IfOk result (λ r. ReducesCounted net.now fuel workers r) }
     ensures done { IfOk result (λ r. IsDoneCounted r ↔ EndsWithin net.now fuel) }

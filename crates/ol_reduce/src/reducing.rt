@@ -79,7 +79,7 @@ pub(crate) fn reduce_words<R: Threads + Wait + Sync, G: Gate + Sync>(
 ) -> Result<(Words, End), NoMemory>
     requires whole { count_by is_some net.now.nodes ≡ length net.now.nodes }
     requires small { IsSmallNet net.now }
-    requires fuel { fuel ≤ 8000000 }
+    requires fuel { fuel ≤ most_fuel }
     requires workers { (0 < workers) × (workers ≤ 64) }
     ensures quiet { IfOk result (λ r. r.1 ≡ End.Quiet → IsDoneOnceFrozen net.now fuel workers r.0) }
     ensures spent { IfOk result (λ r. r.1 ≡ End.Spent →
