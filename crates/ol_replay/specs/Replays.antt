@@ -1,8 +1,7 @@
 -- A run on its way, and what a rewrite adds to it.
-use Rattle.std.specs.Prelude.{◌≡◌, ℕ, suc, ◌+◌, ◌*◌, ◌-◌, ◌<◌, ◌≤◌, true, List, [], ◌∷◌, ◌++◌, length}
+use Rattle.std.specs.Prelude.{◌≡◌, ℕ, suc, ◌+◌, ◌*◌, ◌<◌, ◌≤◌, true, List, [], ◌∷◌, ◌++◌, length}
 use Rattle.std.specs.Prelude.{Some, slice_get}
 use Rattle.ol_edges.specs.Edges.{IsIn}
-use Rattle.ol_net.specs.declared.parts.Rule.{Rule}
 use Rattle.ol_net.specs.Graph.{Graph}
 use Rattle.ol_net.specs.Nets.{NamedNet, slot, Linked, IsNet, net_under}
 use Rattle.ol_net.specs.Numbered.{net_of}
@@ -10,16 +9,15 @@ use Rattle.ol_rules.specs.declared.journal.NodeName.{NodeName}
 use Rattle.ol_rules.specs.declared.journal.NodeName.TheVariants.{Init, Born}
 use Rattle.ol_rules.specs.declared.journal.Entry.{Entry}
 use Rattle.ol_rules.specs.Names.{comes_before}
-use Rattle.ol_rules.specs.Runs.{IsRun, names_born}
-use Rattle.ol_rules.specs.Running.{name_in}
-use Rattle.ol_rules.specs.Steps.{StepsAt}
-use Rattle.ol_diamond.specs.Replaying.{node_number, AreIdle}
+use Rattle.ol_rules.specs.Runs.{IsRun}
+use Rattle.ol_rules.specs.UnderWay.{name_by, node_number, Advances}
+use Rattle.ol_diamond.specs.Replaying.{AreIdle}
 use Rattle.ol_view.specs.Checks.{start_net_of_graph}
 use Rattle.ol_replay.specs.declared.replaying.Replay.{Replay}
 
 -- the names of its numbers
 abbrev pub names_of : Replay → ℕ → NodeName
-names_of r = name_in r.start r.names.items
+names_of r = name_by r.run.names
 
 -- The last net of a run, under its names.
 abbrev pub net_here : Replay → NamedNet NodeName
@@ -36,54 +34,40 @@ pub record AreNames (start next ticket : ℕ) (m : ℕ → NodeName) : Type 0 wh
 -- The journal is that of a run from the graph to the net, under these names.
 pub record IsReplay (old : Graph) (r : Replay) : Type 0 where
   pub m : ℕ → NodeName
-  pub named : AreNames (length old.nodes) (length r.net.nodes) (length r.journal) m
-  pub start : r.start ≡ length old.nodes
-  pub sized : r.start + length r.names.items ≡ length r.net.nodes
+  pub named : AreNames (length old.nodes) (length r.net.nodes) (length r.run.journal) m
+  pub start : r.run.names.start ≡ length old.nodes
+  pub sized : r.run.names.start + length r.run.names.born.items ≡ length r.net.nodes
   pub listed : (k : ℕ) → k < length r.net.nodes → names_of r k ≡ m k
   pub is_net : IsNet (net_of r.net)
-  pub few : length r.net.nodes ≤ length old.nodes + 4 * length r.journal
-  pub run : IsRun (start_net_of_graph old) 0 r.journal (net_under m (net_of r.net))
-  pub tickets : length r.bases.items ≡ suc (length r.journal)
-  pub given : slice_get r.bases.items (length r.journal) ≡ Some (length r.net.nodes)
-  pub finds : (k : ℕ) → k < length r.net.nodes → node_number r.bases.items (m k) ≡ Some k
-  pub found : (x : NodeName) (k : ℕ) → node_number r.bases.items x ≡ Some k →
+  pub few : length r.net.nodes ≤ length old.nodes + 4 * length r.run.journal
+  pub run : IsRun (start_net_of_graph old) 0 r.run.journal (net_under m (net_of r.net))
+  pub tickets : length r.numbers.bases.items ≡ suc (length r.run.journal)
+  pub given : slice_get r.numbers.bases.items (length r.run.journal) ≡ Some (length r.net.nodes)
+  pub finds : (k : ℕ) → k < length r.net.nodes → node_number r.numbers.bases.items (m k) ≡ Some k
+  pub found : (x : NodeName) (k : ℕ) → node_number r.numbers.bases.items x ≡ Some k →
       (k < length r.net.nodes) × (m k ≡ x)
 
--- what is written down of a step by this rule, by the names of its two nodes
-abbrev pub entry_for : Replay → Rule → (x y : ℕ) → Entry
-entry_for r rule x y = record {
-  rule = rule;
-  first = names_of r x;
-  second = names_of r y;
-}
-
 -- The second is the first after the step of x and y, of which x has the smaller number.
-pub record Advances (old new : Replay) (x y : ℕ) : Type 0 where
+pub record ReplaysPair (old new : Replay) (x y : ℕ) : Type 0 where
   pub lesser : x < y
   pub linked : Linked (net_of old.net) (slot x 0) (slot y 0)
-  pub rule : Rule
-  pub step : StepsAt old.net new.net x rule
   pub old_net : IsNet (net_of old.net)
-  pub new_net : IsNet (net_of new.net)
-  pub start : new.start ≡ old.start
-  pub journal : new.journal ≡ old.journal ++ entry_for old rule x y ∷ []
-  pub names : new.names.items ≡ old.names.items
-      ++ names_born (length old.journal) (length new.net.nodes - length old.net.nodes)
-  pub bases : new.bases.items ≡ old.bases.items ++ length new.net.nodes ∷ []
+  pub advances : Advances old.run new.run old.net new.net x y
+  pub bases : new.numbers.bases.items ≡ old.numbers.bases.items ++ length new.net.nodes ∷ []
 
 -- the second is the first after the step of the nodes of two names
-pub record AdvancesNamed (old new : Replay) (first second : NodeName) : Type 0 where
+pub record ReplaysNamed (old new : Replay) (first second : NodeName) : Type 0 where
   pub x : ℕ
   pub y : ℕ
-  pub first_is : node_number old.bases.items first ≡ Some x
-  pub second_is : node_number old.bases.items second ≡ Some y
-  pub advances : Advances old new x y
+  pub first_is : node_number old.numbers.bases.items first ≡ Some x
+  pub second_is : node_number old.numbers.bases.items second ≡ Some y
+  pub pair : ReplaysPair old new x y
 
 -- no two nodes of these names, the first of which has the smaller number, are an active pair
 abbrev pub AreApart : Replay → NodeName → NodeName → Type 0
 AreApart r first second =
-    (x y : ℕ) → node_number r.bases.items first ≡ Some x →
-    node_number r.bases.items second ≡ Some y → x < y → AreIdle (net_of r.net) x y
+    (x y : ℕ) → node_number r.numbers.bases.items first ≡ Some x →
+    node_number r.numbers.bases.items second ≡ Some y → x < y → AreIdle (net_of r.net) x y
 
 -- the smaller name of each entry comes before those of the later ones
 abbrev pub AreRising : List Entry → Type 0

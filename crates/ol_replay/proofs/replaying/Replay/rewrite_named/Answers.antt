@@ -2,7 +2,8 @@ use Rattle.std.proofs.Common.{◌≡◌, ℕ, ◌<◌, List, Some, ◌∙◌, su
 use Rattle.ol_net.specs.Graph.{Graph}
 use Rattle.ol_net.specs.Numbered.{net_of}
 use Rattle.ol_rules.specs.declared.journal.NodeName.{NodeName}
-use Rattle.ol_diamond.specs.Replaying.{node_number, AreIdle}
+use Rattle.ol_rules.specs.UnderWay.{node_number}
+use Rattle.ol_diamond.specs.Replaying.{AreIdle}
 use Rattle.ol_replay.proofs.replaying.Replay.rewrite_named.Goals as goal
 
 apart : (g : Graph) (bases : List ℕ) (a b : NodeName) (f h : ℕ) → Some f ≡ node_number bases a →
@@ -15,6 +16,6 @@ apart g bases a b f h e e' idle x y p q =
 
 pub returns-clause-apart : goal.returns-clause-apart
 returns-clause-apart c = λ e.
-    apart c.args.self.now.net c.args.self.now.bases.items c.args.first c.args.second
+    apart c.args.self.now.net c.args.self.now.numbers.bases.items c.args.first c.args.second
     c.in-Some.x.0 c.in-Some-node_of.y.0 c.in-Some.ensures c.in-Some-node_of.ensures
     (c.in_ok-made.ensures.idle e)
