@@ -16,7 +16,7 @@ ghost use Rattle.ol_subjects.specs.Subjects.{IsSubject};
 
 use ol_memory::NoMemory;
 use ol_net::{Kind, Net, NodeId, Port};
-use ol_subjects::{Answer, End, NetRead, Subject, put, put_number, read_subject};
+use ol_subjects::{Answer, End, NetRead, Subject, put, put_number, put_shown, read_subject};
 use std::alloc::Global;
 
 // The pairs of nodes that have met, one of each net, in the order in which they did; and whom each
@@ -393,20 +393,10 @@ fn difference(alloc: Global, port: Port) -> Result<Answer, NoMemory>
 {
     let mut text = Vec::new(alloc);
     put(&mut text, b"different at ")?;
-    put_port(alloc, &mut text, port)?;
+    put_shown(alloc, &mut text, &port)?;
     put(&mut text, b"\n")?;
     let end = End::No;
     Ok(Answer { text, end })
-}
-
-// Appends the text of a port.
-fn put_port(alloc: Global, text: &mut Vec<u8>, port: Port) -> Result<(), NoMemory>
-    ensures { OnOk result (text.new.items ≡ text.old.items ++ port_text port) }
-{
-    let Ok(shown) = format!(in alloc; "{port}") else {
-        return Err(NoMemory);
-    };
-    put(text, shown.as_bytes())
 }
 
 // The answer that free ports don't reach all nodes.
@@ -506,34 +496,22 @@ pub fn same(alloc: Global, first: &[u8], second: &[u8]) -> Result<Answer, NoMemo
     requires short_second { length second.now ≤ 33554432 }
     ensures { IfOk result (λ x. IsSame first.now second.now x.text.items x.end) }
 {
-    match read_subject(alloc, first, Subject::Net)? {
+    let a = match read_subject(alloc, first, Subject::Net)? {
+        NetRead::Net(net) => net,
         NetRead::Refused(text) => {
             let end = End::Refused;
-            Ok(Answer { text, end })
+            return Ok(Answer { text, end });
         }
-        NetRead::Net(a) => {
-            let answer = same_as(alloc, &a, second)?;
-            Ok(answer)
+    };
+    let b = match read_subject(alloc, second, Subject::Net)? {
+        NetRead::Net(net) => net,
+        NetRead::Refused(text) => {
+            let end = End::Refused;
+            return Ok(Answer { text, end });
         }
-    }
-}
-
-// The answer to a net and a file with another.
-fn same_as(alloc: Global, a: &Net, second: &[u8]) -> Result<Answer, NoMemory>
-    requires short { length second.now ≤ 33554432 }
-    ensures { IfOk result (λ x. (first : List ℕ) → IsSubject Subject.Net first a.now →
-        IsSame first second.now x.text.items x.end) }
-{
+    };
     a.is_tabled();
-    match read_subject(alloc, second, Subject::Net)? {
-        NetRead::Refused(text) => {
-            let end = End::Refused;
-            Ok(Answer { text, end })
-        }
-        NetRead::Net(b) => {
-            b.is_tabled();
-            let answer = compare(alloc, a, &b)?;
-            Ok(answer)
-        }
-    }
+    b.is_tabled();
+    let answer = compare(alloc, &a, &b)?;
+    Ok(answer)
 }

@@ -11,4 +11,4 @@ mod texts;
 
 pub use answers::{Answer, End};
 pub use subjects::{NetRead, Subject, TermRead, most_bytes, read_subject, read_term};
-pub use texts::{put, put_number};
+pub use texts::{put, put_number, put_shown};

@@ -1,10 +1,11 @@
 //! Pieces of texts.
 
-ghost use Rattle.std.specs.Prelude.{◌≡◌, ◌++◌, ◌∷◌, [], OnOk, IfOk};
+ghost use Rattle.std.specs.Prelude.{◌≡◌, ◌++◌, ◌∷◌, [], OnOk, IfOk, IfSome};
 ghost use Rattle.std.specs.Fmt.{decimal};
 
 use ol_memory::NoMemory;
 use std::alloc::Global;
+use std::fmt;
 
 /// Appends some bytes.
 pub fn put(text: &mut Vec<u8>, piece: &[u8]) -> Result<(), NoMemory>
@@ -16,12 +17,24 @@ pub fn put(text: &mut Vec<u8>, piece: &[u8]) -> Result<(), NoMemory>
     }
 }
 
+/// Appends what is shown. `NoMemory`: no memory was found.
+pub fn put_shown<D: fmt::Display>(
+    alloc: Global,
+    text: &mut Vec<u8>,
+    shown: &D,
+) -> Result<(), NoMemory>
+    ensures { OnOk result (IfSome (D.output shown.now)
+        (λ bytes. text.new.items ≡ text.old.items ++ bytes)) }
+{
+    let Ok(bytes) = format!(in alloc; "{shown}") else {
+        return Err(NoMemory);
+    };
+    put(text, bytes.as_bytes())
+}
+
 /// Appends a number.
 pub fn put_number(alloc: Global, text: &mut Vec<u8>, number: u64) -> Result<(), NoMemory>
     ensures { OnOk result (text.new.items ≡ text.old.items ++ decimal number) }
 {
-    let Ok(digits) = format!(in alloc; "{number}") else {
-        return Err(NoMemory);
-    };
-    put(text, digits.as_bytes())
+    put_shown(alloc, text, &number)
 }
