@@ -26,7 +26,7 @@ at_the_header old text out f b = bad_text f (wanted.IsBadLine.header refl b.brea
     (let q : 0 + length b.before ≡ length b.before = omega arith in q))
 
 module _ (old : Graph) (text : List ℕ) (most : ℕ) (r : Replay) (at : ℕ) (m : most ≡ 8000000) where
-  pub at_the_line : (form : Form) → IsNoLine old text most r at form → (line : ℕ) → line ≡ length r.journal + 2 →
+  pub at_the_line : (form : Form) → IsNoLine old text most r at form → (line : ℕ) → line ≡ length r.run.journal + 2 →
       (out : List ℕ) → IsBadBy form text at line out → IsExplainedOf old text out No
   at_the_line form n line l out b = go b
     where
@@ -38,7 +38,7 @@ module _ (old : Graph) (text : List ℕ) (most : ℕ) (r : Replay) (at : ℕ) (m
 
       reached : IsReached old text line form at (drop at text)
       reached = record {
-        entries = r.journal;
+        entries = r.run.journal;
         waves = n.waves;
         last = net_here r;
         begins = n.told;
@@ -54,9 +54,9 @@ module _ (old : Graph) (text : List ℕ) (most : ℕ) (r : Replay) (at : ℕ) (m
       out ≡ line_with (codes "bad text at line ") 8000002 ++ end_at at ++ codes "\n" → IsExplainedOf old text out No
   at_the_end s b out e =
       let g = at_good old text most r at s in
-      let n : length r.journal ≡ 8000000 = ends g.ended in
+      let n : length r.run.journal ≡ 8000000 = ends g.ended in
       bad_text (full old text most r at s b m) (wanted.IsBadLine.full (record {
-        entries = r.journal;
+        entries = r.run.journal;
         waves = g.waves;
         last = net_here r;
         begins = g.told;
@@ -64,6 +64,6 @@ module _ (old : Graph) (text : List ℕ) (most : ℕ) (r : Replay) (at : ℕ) (m
         at_is = let y = length-drop at text in omega arith;
       }) refl (λ z. let q = ap length z in omega (arith, length-drop at text))) e
     where
-      ends : (length r.journal ≡ most) ⊎ (length text ≤ at) → length r.journal ≡ 8000000
+      ends : (length r.run.journal ≡ most) ⊎ (length text ≤ at) → length r.run.journal ≡ 8000000
       ends (inl e) = e ∙ m
       ends (inr k) = absurd (omega arith)

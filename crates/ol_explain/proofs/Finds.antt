@@ -16,7 +16,7 @@ use Rattle.ol_rules.specs.Names.{comes_before}
 use Rattle.ol_rules.proofs.FreshPairs.{linked_sym}
 use Rattle.ol_rules.proofs.NameOrder.{Names, names_apart, not_before, not_before_itself}
 use Rattle.ol_rules.proofs.Renaming.{net_alike, active_to, active_from}
-use Rattle.ol_rules.proofs.UnderWay.{node_below}
+use Rattle.ol_rules.proofs.OnTheWay.{node_below}
 use Rattle.ol_diamond.proofs.Pairs.{one_rule}
 use Rattle.ol_view.proofs.OneVerdict.{one_entry}
 use Rattle.ol_replay.specs.declared.replaying.Replay.{Replay}
@@ -42,7 +42,7 @@ rising_on (d ∷ es) e h later = (first, rising_on es e h.1 (λ x i. later x (in
         go (inr i) = subst (λ (y : Entry). comes_before d.first y.first ≡ true) (sym (only x e i)) (later d (inl refl))
 
 module _ (old : Graph) (r : Replay) (u : IsReplay old r) where
-  names : Names (length old.nodes) (length r.net.nodes) (length r.journal) u.m
+  names : Names (length old.nodes) (length r.net.nodes) (length r.run.journal) u.m
   names = record { room = u.named.room; initial = u.named.initial; rising = u.named.rising; born = u.named.born }
 
   later : (j k : ℕ) → j < k → k < length r.net.nodes → comes_before (names_of r j) (names_of r k) ≡ true
@@ -52,7 +52,7 @@ module _ (old : Graph) (r : Replay) (u : IsReplay old r) where
       rw (i, i') (u.named.rising j k b)
 
   one_number : (j k : ℕ) → u.m j ≡ u.m k → j ≡ k
-  one_number = names_apart (length old.nodes) (length r.net.nodes) (length r.journal) u.m names
+  one_number = names_apart (length old.nodes) (length r.net.nodes) (length r.run.journal) u.m names
 
   lesser : (j k : ℕ) → comes_before (u.m j) (u.m k) ≡ true → j < k
   lesser j k b = go (cases_lt j k) (cases_lt k j)

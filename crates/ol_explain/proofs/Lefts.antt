@@ -30,28 +30,28 @@ few_told r n told more f =
     omega (arith, length-take 20 f.pairs)
 
 module _ (old : Graph) (old_net : IsNet (net_of old)) (r : Replay) (u : IsReplay old r) (told : List Entry)
-    (more : ℕ) (f : AreFound r (length r.net.nodes) told more) (js : List Entry) (joined : js ≡ r.journal ++ told) where
+    (more : ℕ) (f : AreFound r (length r.net.nodes) told more) (js : List Entry) (joined : js ≡ r.run.journal ++ told) where
   waits : (e : Entry) → IsIn e f.pairs → IsOfPair (net_here r) e
   waits e i = let x = (f.below.all e).0 i in x.2.1
 
-  pub size : length js ≡ length r.journal + length told
-  size = ap (λ (es : List Entry). length es) joined ∙ length-append r.journal told
+  pub size : length js ≡ length r.run.journal + length told
+  size = ap (λ (es : List Entry). length es) joined ∙ length-append r.run.journal told
 
   pub run_is : (M : NamedNet NodeName) × IsRun (start_net_of_graph old) 0 js M
-  run_is = run_on_all old old_net r.journal (net_here r) (run_named old r u) f.pairs waits f.below.rising told js
+  run_is = run_on_all old old_net r.run.journal (net_here r) (run_named old r u) f.pairs waits f.below.rising told js
       f.told_is joined
 
-  pub text_is : (list : List ℕ) → IsWavesOf old js list → (from : ℕ) → from ≡ length r.journal →
+  pub text_is : (list : List ℕ) → IsWavesOf old js list → (from : ℕ) → from ≡ length r.run.journal →
       (b0 b1 b2 : List ℕ) → b1 ≡ b0 ++ wave_lines_text told (drop from list) → b2 ≡ b1 ++ more_text more →
       (left : List ℕ) × IsLeftText old r left × (b2 ≡ b0 ++ left)
   text_is list of from q b0 b1 b2 e e' =
-      let l = leaves old old_net r.journal (net_here r) (run_named old r u) f.pairs waits
+      let l = leaves old old_net r.run.journal (net_here r) (run_named old r u) f.pairs waits
       (each_found old r u f.pairs f.below) f.below.rising list
       (subst (λ (es : List Entry). IsWavesOf old es list)
-      (joined ∙ ap (λ (es : List Entry). r.journal ++ es) f.told_is) of) in (
+      (joined ∙ ap (λ (es : List Entry). r.run.journal ++ es) f.told_is) of) in (
         left_text l.pairs,
         record { waves = l.waves; waves_are = l.waves_are; pairs = l.pairs; left = l.left; text_is = refl },
-        text_of_left old r.journal (net_here r) f.pairs list l told from more b0 b1 b2 f.told_is q f.more_is e e',
+        text_of_left old r.run.journal (net_here r) f.pairs list l told from more b0 b1 b2 f.told_is q f.more_is e e',
       )
 
 -- the text of a whole journal, in whichever form
@@ -59,7 +59,7 @@ pub tells_left : (old : Graph) → IsNet (net_of old) → (r : Replay) → IsRep
     IsToldBy old text r → IsLeftText old r left → TellsLeft old text left
 tells_left old old_net r u text left t l = record {
   form = t.form;
-  entries = r.journal;
+  entries = r.run.journal;
   waves = l.waves;
   last = net_here r;
   begins = go t.form t.waves t.begins;
@@ -70,10 +70,10 @@ tells_left old old_net r u text left t l = record {
 }
   where
     go : (form : Form) (waves : List ℕ) →
-        BeginsWithRun form (start_net_of_graph old) text r.journal waves (net_here r) [] →
-        BeginsWithRun form (start_net_of_graph old) text r.journal l.waves (net_here r) []
+        BeginsWithRun form (start_net_of_graph old) text r.run.journal waves (net_here r) [] →
+        BeginsWithRun form (start_net_of_graph old) text r.run.journal l.waves (net_here r) []
     go One waves b = record { begins = b.begins; few = b.few; run = b.run }
     go Two waves b =
-        let q : waves ≡ l.waves = journal_has_one_waves (start_net_of_graph old) (net_here r) r.journal waves l.waves
+        let q : waves ≡ l.waves = journal_has_one_waves (start_net_of_graph old) (net_here r) r.run.journal waves l.waves
         (start_net (net_of old) old_net) (start_named (net_of old)) b.run.0 b.run.1 l.waves_are in
-        subst (λ ws. BeginsWithRun Two (start_net_of_graph old) text r.journal ws (net_here r) []) q b
+        subst (λ ws. BeginsWithRun Two (start_net_of_graph old) text r.run.journal ws (net_here r) []) q b

@@ -30,7 +30,7 @@ module _ (old : Graph) (text : List ℕ) (most : ℕ) (r : Replay) (at : ℕ) wh
       record {
         form = g.form;
         waves = g.waves;
-        begins = subst (λ rest. BeginsWithRun g.form (start_net_of_graph old) text r.journal g.waves (net_here r) rest)
+        begins = subst (λ rest. BeginsWithRun g.form (start_net_of_graph old) text r.run.journal g.waves (net_here r) rest)
             (drop_of_length-le text l) g.told;
       }
 
@@ -39,12 +39,12 @@ module _ (old : Graph) (text : List ℕ) (most : ℕ) (r : Replay) (at : ℕ) wh
       most ≡ 8000000 → IsFound (start_net_of_graph old) text (BadText 8000002)
   full s l m =
       let g = at_good old text most r at s in
-      let e : length r.journal ≡ 8000000 = ends g.ended in
+      let e : length r.run.journal ≡ 8000000 = ends g.ended in
       subst (λ n. IsFound (start_net_of_graph old) text (BadText n))
-      (let q : length r.journal + 2 ≡ 8000002 = omega arith in q)
+      (let q : length r.run.journal + 2 ≡ 8000002 = omega arith in q)
       (found.found_of (found.bad_text g.told (λ z. let q = ap length z in omega (arith, length-drop at text)) (inl e)))
     where
-      ends : (length r.journal ≡ most) ⊎ (length text ≤ at) → length r.journal ≡ 8000000
+      ends : (length r.run.journal ≡ most) ⊎ (length text ≤ at) → length r.run.journal ≡ 8000000
       ends (inl e) = e ∙ m
       ends (inr k) = absurd (omega arith)
 
@@ -54,7 +54,7 @@ module _ (old : Graph) (text : List ℕ) (most : ℕ) (r : Replay) (at : ℕ) wh
   explains line made (otherwise {form = form} {waves = waves} t b f o) out off =
       not_a_run f (record {
         form = form;
-        entries = r.journal;
+        entries = r.run.journal;
         waves = waves;
         last = net_here r;
         rest = drop at text;
@@ -79,6 +79,6 @@ module _ (old : Graph) (text : List ℕ) (most : ℕ) (r : Replay) (at : ℕ) wh
 pub no_other : (old : Graph) (text : List ℕ) (r : Replay) (v : Check) →
     IsReadAgain (start_net_of_graph old) text v → IsToldBy old text r → v ≢ Complete → ((n : ℕ) → v ≢ Run n) → ⊥
 no_other old text r v again w a b =
-    let h = again w.form r.journal w.waves (net_here r) w.begins.few w.begins.run
+    let h = again w.form r.run.journal w.waves (net_here r) w.begins.few w.begins.run
     (w.begins.begins ∙ append-nil _) in
-    b (length r.journal) (h.1 (λ c. a (h.0 c)))
+    b (length r.run.journal) (h.1 (λ c. a (h.0 c)))

@@ -19,12 +19,12 @@ use Rattle.ol_replay.specs.Replays.{net_here}
 
 module _ (old : Graph) (r : Replay) (u : IsReplay old r) (journal : List ℕ) (end : ℕ)
     (form : Form) (waves : List ℕ) (told : IsTold form waves old r journal end) (lines : ℕ) where
-  pub net_after : length r.journal + 1 ≡ lines → IsTable r.net → (text : List ℕ) →
-      text ≡ shown_text (names_of r) (length r.journal) r.net →
+  pub net_after : length r.run.journal + 1 ≡ lines → IsTable r.net → (text : List ℕ) →
+      text ≡ shown_text (names_of r) (length r.run.journal) r.net →
       IsNetAfter old journal lines text
   net_after count tabled text e = record {
     form = form;
-    entries = r.journal;
+    entries = r.run.journal;
     waves = waves;
     names = names_of r;
     last = r.net;
@@ -39,13 +39,13 @@ module _ (old : Graph) (r : Replay) (u : IsReplay old r) (journal : List ℕ) (e
     text_is = e;
   }
 
-  pub has_lines : length journal ≤ end → length r.journal + 1 ≡ lines → HasLines old journal lines
+  pub has_lines : length journal ≤ end → length r.run.journal + 1 ≡ lines → HasLines old journal lines
   has_lines all count = record {
     form = form;
-    entries = r.journal;
+    entries = r.run.journal;
     waves = waves;
     last = net_here r;
-    begins = subst (λ rest. BeginsWithRun form (start_net_of_graph old) journal r.journal waves
+    begins = subst (λ rest. BeginsWithRun form (start_net_of_graph old) journal r.run.journal waves
         (net_here r) rest) (drop_of_length-le journal all) told;
     count = count;
   }
@@ -55,15 +55,15 @@ pub record IsGood (old : Graph) (text : List ℕ) (most : ℕ) (r : Replay) (at 
   pub form : Form
   pub waves : List ℕ
   pub told : IsTold form waves old r text at
-  pub within : length r.journal ≤ most
-  pub ended : (length r.journal ≡ most) ⊎ (length text ≤ at)
+  pub within : length r.run.journal ≤ most
+  pub ended : (length r.run.journal ≡ most) ⊎ (length text ≤ at)
 
 -- and where no line stands
 pub record IsNoLine (old : Graph) (text : List ℕ) (most : ℕ) (r : Replay) (at : ℕ) (form : Form) : Type 0 where
   pub waves : List ℕ
   pub told : IsTold form waves old r text at
-  pub below : length r.journal < most
-  pub found : IsFound (start_net_of_graph old) text (BadText (length r.journal + 2))
+  pub below : length r.run.journal < most
+  pub found : IsFound (start_net_of_graph old) text (BadText (length r.run.journal + 2))
   pub within : at < length text
   pub none : HasNoLine form (drop at text)
 
@@ -85,7 +85,7 @@ module _ (old : Graph) (text : List ℕ) (most : ℕ) (r : Replay) (at : ℕ) wh
   }
 
   pub at_no_line : {form : Form} → Stops old text most r at (stop.NoLine form) →
-      (length r.journal < most) × IsFound (start_net_of_graph old) text (BadText (length r.journal + 2))
+      (length r.run.journal < most) × IsFound (start_net_of_graph old) text (BadText (length r.run.journal + 2))
   at_no_line (no_line t b f l h) = (b, f)
 
   pub no_line_here : {form : Form} → Stops old text most r at (stop.NoLine form) →
@@ -93,5 +93,5 @@ module _ (old : Graph) (text : List ℕ) (most : ℕ) (r : Replay) (at : ℕ) wh
   no_line_here (no_line {waves = waves} t b f l h) = record { waves = waves; told = t; below = b; found = f; within = l; none = h }
 
   pub at_other : (line : Line) (made : Option Rewritten) → Stops old text most r at (stop.Otherwise line made) →
-      (length r.journal < most) × IsFound (start_net_of_graph old) text (NotARun (length r.journal + 2))
+      (length r.run.journal < most) × IsFound (start_net_of_graph old) text (NotARun (length r.run.journal + 2))
   at_other line made (otherwise t b f o) = (b, f)

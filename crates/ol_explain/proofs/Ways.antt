@@ -39,7 +39,7 @@ use Rattle.ol_view.proofs.FormTexts.{text_on}
 use Rattle.ol_view.proofs.OneVerdict.{not_idle}
 use Rattle.ol_view.proofs.Replays.{idle_names}
 use Rattle.ol_replay.specs.declared.replaying.Replay.{Replay}
-use Rattle.ol_replay.specs.Replays.{IsReplay, Advances, AdvancesNamed, AreApart}
+use Rattle.ol_replay.specs.Replays.{IsReplay, ReplaysPair, ReplaysNamed, AreApart}
 use Rattle.ol_explain.specs.Followed.{IsTold, IsOff}
 use Rattle.ol_replay.specs.Replays.{net_here}
 use Rattle.ol_replay.proofs.KeptRuns as kept
@@ -113,7 +113,7 @@ idle_same M N a b m h r = (
 )
 
 module _ (form : Form) (old : Graph) (text : List ℕ) (g : Graph) (bases weights : List ℕ)
-    (r : Replay) (at : ℕ) (w : Way form old text g bases weights r.journal at) (u : IsReplay old r) where
+    (r : Replay) (at : ℕ) (w : Way form old text g bases weights r.run.journal at) (u : IsReplay old r) where
   abbrev start : NamedNet NodeName
   start = start_net_of_graph old
 
@@ -123,30 +123,30 @@ module _ (form : Form) (old : Graph) (text : List ℕ) (g : Graph) (bases weight
   n : IsNet (start_net_of_graph old)
   n = start_net (net_of old) w.old_net
 
-  plain_run : IsRun start 0 r.journal here
-  plain_run = run_of (weightless start) (weighted_named w.m g bases weights) 0 r.journal w.waves w.is_run
+  plain_run : IsRun start 0 r.run.journal here
+  plain_run = run_of (weightless start) (weighted_named w.m g bases weights) 0 r.run.journal w.waves w.is_run
 
-  pub same_to : (last : NamedNet NodeName) → IsRun start 0 r.journal last → SameNet here last
-  same_to last run = one_end start start here last 0 r.journal n (start_named (net_of old))
+  pub same_to : (last : NamedNet NodeName) → IsRun start 0 r.run.journal last → SameNet here last
+  same_to last run = one_end start start here last 0 r.run.journal n (start_named (net_of old))
       (same_refl start) plain_run run
 
   -- the text begins with that of the run
   pub is_told : IsTold form w.waves old r text at
   is_told = record { begins = w.begins; few = w.most; run = go form }
     where
-      go : (form : Form) → IsRunTold form start r.journal w.waves (net_here r)
+      go : (form : Form) → IsRunTold form start r.run.journal w.waves (net_here r)
       go One = run_named old r u
       go Two = (
         run_named old r u,
-        waves_to start here (net_here r) r.journal w.waves (same_to (net_here r) (run_named old r u))
-            (waves_of_run start (weighted_named w.m g bases weights) r.journal w.waves n
+        waves_to start here (net_here r) r.run.journal w.waves (same_to (net_here r) (run_named old r u))
+            (waves_of_run start (weighted_named w.m g bases weights) r.run.journal w.waves n
             (start_named (net_of old)) w.is_run),
       )
 
-  names : Names (length old.nodes) (length r.net.nodes) (length r.journal) u.m
+  names : Names (length old.nodes) (length r.net.nodes) (length r.run.journal) u.m
   names = record { room = u.named.room; initial = u.named.initial; rising = u.named.rising; born = u.named.born }
 
-  index : Index r.bases.items (length r.net.nodes) (length r.journal) u.m
+  index : Index r.numbers.bases.items (length r.net.nodes) (length r.run.journal) u.m
   index = record { tickets = u.tickets; last = u.given; finds = u.finds; found = u.found }
 
   -- the node of the smaller name has the smaller number
@@ -162,7 +162,7 @@ module _ (form : Form) (old : Graph) (text : List ℕ) (g : Graph) (bases weight
           let c : comes_before (u.m y) (u.m y) ≡ true = subst (λ z. comes_before (u.m z) (u.m y) ≡ true) e b in
           absurd (cc)
 
-  module _ (t : Option (Rule × ℕ)) (a b : NodeName) (rest : List ℕ) (d : length r.journal ≢ 8000000)
+  module _ (t : Option (Rule × ℕ)) (a b : NodeName) (rest : List ℕ) (d : length r.run.journal ≢ 8000000)
       (e : ◌≡◌ {A = Read} (front_entry form (drop at text)) (Some (t, a, b, rest)))
       (g' : Graph) (bases' weights' : List ℕ) (rule : Rule) (wave : ℕ)
       (x : WeighsEntry g g' bases bases' weights weights' (record { rule = rule; first = a; second = b }) wave) where
@@ -176,53 +176,53 @@ module _ (form : Form) (old : Graph) (text : List ℕ) (g : Graph) (bases weight
     ordered = line.begins.ordered
 
     abbrev m' : ℕ → NodeName
-    m' = names_after w.m (length g'.nodes) (suc (length r.journal))
+    m' = names_after w.m (length g'.nodes) (suc (length r.run.journal))
 
     abbrev there : NamedNet NodeName
     there = net_under m' (net_of g')
 
-    step : IsWaveEntry (weighted_named w.m g bases weights) (length r.journal) own wave
+    step : IsWaveEntry (weighted_named w.m g bases weights) (length r.run.journal) own wave
         (weighted_named m' g' bases' weights')
     step = wave_entry g g' bases bases' weights weights' own wave x ordered
-        (length old.nodes) (length r.journal) w.m w.named w.index w.sized
+        (length old.nodes) (length r.run.journal) w.m w.named w.index w.sized
 
-    entry_step : IsEntryStep here (length r.journal) own there
-    entry_step = entry_of (weighted_named w.m g bases weights) (length r.journal) own wave
+    entry_step : IsEntryStep here (length r.run.journal) own there
+    entry_step = entry_of (weighted_named w.m g bases weights) (length r.run.journal) own wave
         (weighted_named m' g' bases' weights') step
 
     -- the run makes the step too
     pub not_apart : AreApart r a b → ⊥
-    not_apart apart = not_idle here (net_under u.m (net_of r.net)) there (length r.journal) own a b
+    not_apart apart = not_idle here (net_under u.m (net_of r.net)) there (length r.run.journal) own a b
         (same_to (net_under u.m (net_of r.net)) u.run) entry_step refl refl
-        (idle_names r.net r.bases.items (length old.nodes) (length r.journal) u.m a b names index idle)
+        (idle_names r.net r.numbers.bases.items (length old.nodes) (length r.run.journal) u.m a b names index idle)
       where
-        idle : AreIdleNumbers r.net r.bases.items a b
+        idle : AreIdleNumbers r.net r.numbers.bases.items a b
         idle f h p q = apart f h p q (lesser f h
             (subst (λ z. comes_before z (u.m h) ≡ true) (sym (u.found a f p).1)
             (subst (λ z. comes_before a z ≡ true) (sym (u.found b h q).1) ordered)))
 
     -- the run with this entry, in this wave
     pub runs : (next : NamedNet NodeName)
-        × IsRunTold Two start (r.journal ++ own ∷ []) (w.waves ++ wave ∷ []) next
+        × IsRunTold Two start (r.run.journal ++ own ∷ []) (w.waves ++ wave ∷ []) next
     runs = (
       there,
       (
-        run_of (weightless start) (weighted_named m' g' bases' weights') 0 (r.journal ++ own ∷ [])
+        run_of (weightless start) (weighted_named m' g' bases' weights') 0 (r.run.journal ++ own ∷ [])
             (w.waves ++ wave ∷ []) on,
-        waves_of_run start (weighted_named m' g' bases' weights') (r.journal ++ own ∷ [])
+        waves_of_run start (weighted_named m' g' bases' weights') (r.run.journal ++ own ∷ [])
             (w.waves ++ wave ∷ []) n (start_named (net_of old)) on,
       ),
     )
       where
-        on : WavedRun (weightless start) 0 (r.journal ++ own ∷ []) (w.waves ++ wave ∷ [])
+        on : WavedRun (weightless start) 0 (r.run.journal ++ own ∷ []) (w.waves ++ wave ∷ [])
             (weighted_named m' g' bases' weights')
         on = waved_on (weightless start) (weighted_named w.m g bases weights)
-            (weighted_named m' g' bases' weights') 0 (length r.journal) r.journal w.waves own wave
-            (let q : 0 + length r.journal ≡ length r.journal = omega arith in q) w.is_run step
+            (weighted_named m' g' bases' weights') 0 (length r.run.journal) r.run.journal w.waves own wave
+            (let q : 0 + length r.run.journal ≡ length r.run.journal = omega arith in q) w.is_run step
 
-    module _ (r' : Replay) (adv : AdvancesNamed r r' a b) where
-      abbrev after : Advances r r' adv.x adv.y
-      after = adv.advances
+    module _ (r' : Replay) (adv : ReplaysNamed r r' a b) where
+      abbrev after : ReplaysPair r r' adv.x adv.y
+      after = adv.pair
 
       is_first : u.m adv.x ≡ a
       is_first = (u.found a adv.x adv.first_is).1
@@ -230,57 +230,57 @@ module _ (form : Form) (old : Graph) (text : List ℕ) (g : Graph) (bases weight
       is_second : u.m adv.y ≡ b
       is_second = (u.found b adv.y adv.second_is).1
 
-      one_rule : rule ≡ after.rule
+      one_rule : rule ≡ after.advances.rule
       one_rule = one_entry_rule here (net_under u.m (net_of r.net)) there
-          (kept.there old r r' adv.x adv.y u after) (length r.journal) (length r.journal) own
+          (kept.there old r r' adv.x adv.y u after) (length r.run.journal) (length r.run.journal) own
           (kept.entry old r r' adv.x adv.y u after)
-          (net_is w.m g (names_apart (length old.nodes) (length g.nodes) (length r.journal) w.m w.named)
+          (net_is w.m g (names_apart (length old.nodes) (length g.nodes) (length r.run.journal) w.m w.named)
           x.named.old_net)
           (same_to (net_under u.m (net_of r.net)) u.run) entry_step
           (kept.step old r r' adv.x adv.y u after) (sym is_first)
 
-      written : r'.journal ≡ r.journal ++ own ∷ []
+      written : r'.run.journal ≡ r.run.journal ++ own ∷ []
       written = kept.written old r r' adv.x adv.y u after
-          ∙ ap (λ (k : Rule). r.journal ++ record { rule = k; first = u.m adv.x; second = u.m adv.y } ∷ [])
+          ∙ ap (λ (k : Rule). r.run.journal ++ record { rule = k; first = u.m adv.x; second = u.m adv.y } ∷ [])
           (sym one_rule)
-          ∙ ap (λ (z : NodeName). r.journal ++ record { rule = rule; first = z; second = u.m adv.y } ∷ []) is_first
-          ∙ ap (λ (z : NodeName). r.journal ++ record { rule = rule; first = a; second = z } ∷ []) is_second
+          ∙ ap (λ (z : NodeName). r.run.journal ++ record { rule = rule; first = z; second = u.m adv.y } ∷ []) is_first
+          ∙ ap (λ (z : NodeName). r.run.journal ++ record { rule = rule; first = a; second = z } ∷ []) is_second
 
       -- one line more
       pub one_more : (next : ℕ) → rest ≡ drop next text → TellsOf t rule wave →
-          Way form old text g' bases' weights' r'.journal next
+          Way form old text g' bases' weights' r'.run.journal next
       one_more next q tells = subst (λ es. Way form old text g' bases' weights' es next) (sym written) longer
         where
-          count : length (r.journal ++ own ∷ []) ≡ suc (length r.journal)
-          count = omega (arith, length-append r.journal (own ∷ []))
+          count : length (r.run.journal ++ own ∷ []) ≡ suc (length r.run.journal)
+          count = omega (arith, length-append r.run.journal (own ∷ []))
 
-          longer : Way form old text g' bases' weights' (r.journal ++ own ∷ []) next
+          longer : Way form old text g' bases' weights' (r.run.journal ++ own ∷ []) next
           longer = record {
             old_net = w.old_net;
             waves = w.waves ++ wave ∷ [];
             m = m';
             begins = w.begins
-                ∙ ap (λ bs. text_of form r.journal w.waves ++ bs)
+                ∙ ap (λ bs. text_of form r.run.journal w.waves ++ bs)
                 (line_there form (drop at text) t a b rest e rule wave tells
                 ∙ ap (λ rest. line_of form own wave ++ rest) q)
-                ∙ sym (append_assoc (text_of form r.journal w.waves) (line_of form own wave) (drop next text))
-                ∙ ap (λ bs. bs ++ drop next text) (sym (text_on form r.journal w.waves own wave w.even));
+                ∙ sym (append_assoc (text_of form r.run.journal w.waves) (line_of form own wave) (drop next text))
+                ∙ ap (λ bs. bs ++ drop next text) (sym (text_on form r.run.journal w.waves own wave w.even));
             even = let q = w.even in
-                omega (arith, length-append w.waves (wave ∷ []), length-append r.journal (own ∷ []));
+                omega (arith, length-append w.waves (wave ∷ []), length-append r.run.journal (own ∷ []));
             most = let l = w.most in let c = count in omega arith;
             is_run = waved_on (weightless start) (weighted_named w.m g bases weights)
-                (weighted_named m' g' bases' weights') 0 (length r.journal) r.journal w.waves own wave
-                (let q : 0 + length r.journal ≡ length r.journal = omega arith in q) w.is_run step;
+                (weighted_named m' g' bases' weights') 0 (length r.run.journal) r.run.journal w.waves own wave
+                (let q : 0 + length r.run.journal ≡ length r.run.journal = omega arith in q) w.is_run step;
             named = subst (λ t. Names (length old.nodes) (length g'.nodes) t m') (sym count)
                 (names_next g g' bases bases' weights weights' own wave x ordered
-                (length old.nodes) (length r.journal) w.m w.named w.index w.sized);
+                (length old.nodes) (length r.run.journal) w.m w.named w.index w.sized);
             index = subst (λ t. Index bases' (length g'.nodes) t m') (sym count)
                 (index_next g g' bases bases' weights weights' own wave x ordered
-                (length old.nodes) (length r.journal) w.m w.named w.index w.sized);
+                (length old.nodes) (length r.run.journal) w.m w.named w.index w.sized);
             sized = sized_next g g' bases bases' weights weights' own wave x ordered
-                (length old.nodes) (length r.journal) w.m w.named w.index w.sized;
+                (length old.nodes) (length r.run.journal) w.m w.named w.index w.sized;
             few = let l = few_more g g' bases bases' a b x.named ordered
-                (length old.nodes) (length r.journal) w.m w.named w.index in
+                (length old.nodes) (length r.run.journal) w.m w.named w.index in
                 let k = w.few in let c = count in omega arith;
           }
 
@@ -289,8 +289,8 @@ module _ (form : Form) (old : Graph) (text : List ℕ) (g : Graph) (bases weight
 
 -- the line that was tried is so, whatever was made of it
 module _ (form : Form) (old : Graph) (text : List ℕ) (g : Graph) (bases weights : List ℕ)
-    (r : Replay) (at : ℕ) (w : Way form old text g bases weights r.journal at) (u : IsReplay old r)
-    (t : Option (Rule × ℕ)) (a b : NodeName) (rest : List ℕ) (d : length r.journal ≢ 8000000)
+    (r : Replay) (at : ℕ) (w : Way form old text g bases weights r.run.journal at) (u : IsReplay old r)
+    (t : Option (Rule × ℕ)) (a b : NodeName) (rest : List ℕ) (d : length r.run.journal ≢ 8000000)
     (e : ◌≡◌ {A = Read} (front_entry form (drop at text)) (Some (t, a, b, rest)))
     (g' : Graph) (bases' weights' : List ℕ) where
   pub never_apart : (made : Option Rewritten) →
@@ -304,8 +304,8 @@ module _ (form : Form) (old : Graph) (text : List ℕ) (g : Graph) (bases weight
   pub made_one : (made : Option Rewritten) (next : ℕ) → rest ≡ drop next text →
       IfSome made (λ of. WeighsEntry g g' bases bases' weights weights'
       (record { rule = of.rule; first = a; second = b }) of.wave) →
-      IsSomeAnd made (λ of. TellsOf t of.rule of.wave) → (r' : Replay) → AdvancesNamed r r' a b →
-      Way form old text g' bases' weights' r'.journal next × IsReplay old r'
+      IsSomeAnd made (λ of. TellsOf t of.rule of.wave) → (r' : Replay) → ReplaysNamed r r' a b →
+      Way form old text g' bases' weights' r'.run.journal next × IsReplay old r'
   made_one None next q x so r' adv = absurd so
   made_one (Some of) next q x so r' adv = (
     one_more form old text g bases weights r at w u t a b rest d e
@@ -340,7 +340,7 @@ module _ (form : Form) (old : Graph) (text : List ℕ) (g : Graph) (bases weight
       go_idle : (made : Option Rewritten) → IfNone made (AreIdleNumbers g bases a b) →
           IfNone made (AreIdle (net_here r) a b)
       go_idle None h = idle_same here_w (net_here r) a b same
-          (idle_names g bases (length old.nodes) (length r.journal) w.m a b w.named w.index h)
+          (idle_names g bases (length old.nodes) (length r.run.journal) w.m a b w.named w.index h)
         where
           here_w : NamedNet NodeName
           here_w = net_under w.m (net_of g)
@@ -361,7 +361,7 @@ module _ (form : Form) (old : Graph) (text : List ℕ) (g : Graph) (bases weight
           (record { rule = of.rule; first = a; second = b }) of.wave) →
           IfSome made (λ of. (next : NamedNet NodeName)
           × IsRunTold Two (start_net_of_graph old)
-          (r.journal ++ record { rule = of.rule; first = a; second = b } ∷ []) (w.waves ++ of.wave ∷ []) next)
+          (r.run.journal ++ record { rule = of.rule; first = a; second = b } ∷ []) (w.waves ++ of.wave ∷ []) next)
       go_runs None x = tt
       go_runs (Some of) x = runs form old text g bases weights r at w u t a b rest d e
           g' bases' weights' of.rule of.wave x

@@ -17,9 +17,9 @@ use Rattle.ol_rules.specs.declared.journal.Entry.{Entry}
 use Rattle.ol_rules.proofs.FreshPairs.{linked_sym}
 use Rattle.ol_rules.proofs.NameOrder.{names_apart}
 use Rattle.ol_rules.proofs.Renaming.{node_to, node_from, link_to}
-use Rattle.ol_rules.proofs.UnderWay.{node_below}
+use Rattle.ol_rules.proofs.OnTheWay.{node_below}
 use Rattle.ol_diamond.specs.declared.weighing.Rewritten.{Rewritten}
-use Rattle.ol_diamond.specs.Replaying.{node_number}
+use Rattle.ol_rules.specs.UnderWay.{node_number}
 use Rattle.ol_view.specs.declared.forms.Form.{Form}
 use Rattle.ol_view.specs.declared.forms.Form.TheVariants.{Two}
 use Rattle.ol_view.specs.declared.line_reading.Line.{Line}
@@ -74,7 +74,7 @@ went form net journal waves last e wave x m is none (d, got, names) =
 
 module _ (old : Graph) (r : Replay) (u : IsReplay old r) where
   -- a number and its name
-  pub named : (x : NodeName) (n : ℕ) → node_number r.bases.items x ≡ Some n → names_of r n ≡ x
+  pub named : (x : NodeName) (n : ℕ) → node_number r.numbers.bases.items x ≡ Some n → names_of r n ≡ x
   named x n e = let f = u.found x n e in u.listed n f.0 ∙ f.1
 
   pub there : (x : NodeName) (n : ℕ) (k : Kind) (i : ℕ) → names_of r n ≡ x → HasNode (net_of r.net) n k i →
@@ -82,17 +82,17 @@ module _ (old : Graph) (r : Replay) (u : IsReplay old r) where
   there x n k i e h = subst (λ x. HasNode (net_here r) x k i) e (node_to (names_of r) (net_of r.net) n k i h)
 
   -- a name whose number, if it has one, is none of a node
-  pub gone : (x : NodeName) → ((n : ℕ) → node_number r.bases.items x ≡ Some n → (k : Kind) (i : ℕ) →
+  pub gone : (x : NodeName) → ((n : ℕ) → node_number r.numbers.bases.items x ≡ Some n → (k : Kind) (i : ℕ) →
       HasNode (net_of r.net) n k i → ⊥) → IsGone (net_here r) x
   gone x none k i h =
       let t = node_from (names_of r) (net_of r.net) x k i h in
       let b = node_below r.net t.0 k i t.1 in
-      none t.0 (ap (node_number r.bases.items) (t.2 ∙ u.listed t.0 b) ∙ u.finds t.0 b) k i t.1
+      none t.0 (ap (node_number r.numbers.bases.items) (t.2 ∙ u.listed t.0 b) ∙ u.finds t.0 b) k i t.1
 
   one_number : (x y : ℕ) (k l : Kind) (i j : ℕ) → HasNode (net_of r.net) x k i → HasNode (net_of r.net) y l j →
       names_of r x ≡ names_of r y → x ≡ y
   one_number x y k l i j h h' e =
-      names_apart (length old.nodes) (length r.net.nodes) (length r.journal) u.m
+      names_apart (length old.nodes) (length r.net.nodes) (length r.run.journal) u.m
       (record { room = u.named.room; initial = u.named.initial; rising = u.named.rising; born = u.named.born }) x y
       (sym (u.listed x (node_below r.net x k i h)) ∙ e ∙ u.listed y (node_below r.net y l j h'))
 
@@ -167,7 +167,7 @@ module _ (line : Line) (of : Rewritten) (rule : Rule) (w : ℕ) (told : line.tol
       let q : of.rule ≡ o.entry.rule = sym same ∙ t.0 in
       explained.other_wave o.waved
       (subst (λ (k : Rule). IsRunTold Two (start_net_of_graph old)
-      (r.journal ++ record { rule = k; first = o.entry.first; second = o.entry.second } ∷ [])
+      (r.run.journal ++ record { rule = k; first = o.entry.first; second = o.entry.second } ∷ [])
       (waves ++ of.wave ∷ []) o.runs.0) q o.runs.1)
       (λ e. o.wrong (subst (λ o. TellsOf o of.rule of.wave) (sym told) (same, t.1 ∙ sym e)))
 

@@ -21,7 +21,7 @@ use Rattle.ol_replay.specs.Replays.{net_here}
 -- The text of a form begins with that of the run's entries, and what follows begins here.
 abbrev pub IsTold : Form → List ℕ → Graph → Replay → List ℕ → ℕ → Type 0
 IsTold form waves old r text at =
-    BeginsWithRun form (start_net_of_graph old) text r.journal waves (net_here r) (drop at text)
+    BeginsWithRun form (start_net_of_graph old) text r.run.journal waves (net_here r) (drop at text)
 
 -- The line that stands here tells of something else than what was made of its pair: the pair isn't
 -- active, or its rule or its wave is another.
@@ -39,20 +39,20 @@ pub record IsOff (form : Form) (waves : List ℕ) (old : Graph) (r : Replay) (te
   pub waved : IfSome made (λ of. form ≡ Two)
   pub runs : IfSome made (λ of. (next : NamedNet NodeName)
       × IsRunTold Two (start_net_of_graph old)
-      (r.journal ++ record { rule = of.rule; first = entry.first; second = entry.second } ∷ [])
+      (r.run.journal ++ record { rule = of.rule; first = entry.first; second = entry.second } ∷ [])
       (waves ++ of.wave ∷ []) next)
 
 -- The text was followed up to here: to its end, to so many entries, or to a line that isn't good.
 pub data Stops (old : Graph) (text : List ℕ) (most : ℕ) (r : Replay) (at : ℕ) : Stop → Type 0 where
   no_header : ((form : Form) (rest : List ℕ) → text ≢ header_of form ++ rest) →
       Stops old text most r at stop.NoHeader
-  good : {form : Form} {waves : List ℕ} → IsTold form waves old r text at → length r.journal ≤ most →
-      (length r.journal ≡ most) ⊎ (length text ≤ at) → Stops old text most r at stop.Good
+  good : {form : Form} {waves : List ℕ} → IsTold form waves old r text at → length r.run.journal ≤ most →
+      (length r.run.journal ≡ most) ⊎ (length text ≤ at) → Stops old text most r at stop.Good
   no_line : {form : Form} {waves : List ℕ} → IsTold form waves old r text at →
-      length r.journal < most →
-      IsFound (start_net_of_graph old) text (BadText (length r.journal + 2)) → at < length text →
+      length r.run.journal < most →
+      IsFound (start_net_of_graph old) text (BadText (length r.run.journal + 2)) → at < length text →
       HasNoLine form (drop at text) → Stops old text most r at (stop.NoLine form)
   otherwise : {form : Form} {waves : List ℕ} {line : Line} {made : Option Rewritten} →
-      IsTold form waves old r text at → length r.journal < most →
-      IsFound (start_net_of_graph old) text (NotARun (length r.journal + 2)) →
+      IsTold form waves old r text at → length r.run.journal < most →
+      IsFound (start_net_of_graph old) text (NotARun (length r.run.journal + 2)) →
       IsOff form waves old r text at line made → Stops old text most r at (stop.Otherwise line made)

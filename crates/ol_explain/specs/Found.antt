@@ -46,13 +46,13 @@ pub record AreFound (r : Replay) (n : ℕ) (told : List Entry) (more : ℕ) : Ty
 -- the text tells the pairs that are left after the run
 pub record IsLeftText (old : Graph) (r : Replay) (text : List ℕ) : Type 0 where
   pub waves : List ℕ
-  pub waves_are : AreWaves (start_net_of_graph old) r.journal (net_here r) waves
+  pub waves_are : AreWaves (start_net_of_graph old) r.run.journal (net_here r) waves
   pub pairs : List (Entry × ℕ)
-  pub left : AreLeft (start_net_of_graph old) r.journal waves pairs
+  pub left : AreLeft (start_net_of_graph old) r.run.journal waves pairs
   pub text_is : text ≡ left_text pairs
 
 -- the whole text is that of the run
 pub record IsToldBy (old : Graph) (text : List ℕ) (r : Replay) : Type 0 where
   pub form : Form
   pub waves : List ℕ
-  pub begins : BeginsWithRun form (start_net_of_graph old) text r.journal waves (net_here r) []
+  pub begins : BeginsWithRun form (start_net_of_graph old) text r.run.journal waves (net_here r) []

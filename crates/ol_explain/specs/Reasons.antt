@@ -35,19 +35,19 @@ IsNodeNamed r x at = (names_of r at.0 ≡ x) × IsLive r at
 -- the cause of a line by a name that is none of a node
 abbrev pub IsCauseAway : Replay → NodeName → Cause → Type 0
 IsCauseAway r x c = (form : Form) (net : NamedNet NodeName) (waves : List ℕ) (e : Entry) (wave : ℕ) →
-    Decides (net_here r) e x → IsCause form net r.journal waves (net_here r) e wave c
+    Decides (net_here r) e x → IsCause form net r.run.journal waves (net_here r) e wave c
 
 -- the cause of a line by two nodes that are no active pair
 abbrev pub IsCauseIdle : Replay → ℕ → ℕ → Cause → Type 0
 IsCauseIdle r x y c = (form : Form) (net : NamedNet NodeName) (waves : List ℕ) (e : Entry) (wave : ℕ) →
     names_of r x ≡ e.first → names_of r y ≡ e.second → AreIdle (net_here r) e.first e.second →
-    IsCause form net r.journal waves (net_here r) e wave c
+    IsCause form net r.run.journal waves (net_here r) e wave c
 
 -- the cause of a line by what was made of its pair
 abbrev pub IsCauseOff : Replay → Line → Option Rewritten → Cause → Type 0
 IsCauseOff r line made c = (form : Form) (waves : List ℕ) (old : Graph) (text : List ℕ) (at : ℕ) →
     (o : IsOff form waves old r text at line made) →
-    IsCause form (start_net_of_graph old) r.journal waves (net_here r) o.entry o.wave c
+    IsCause form (start_net_of_graph old) r.run.journal waves (net_here r) o.entry o.wave c
 
 abbrev pub IsCauseOther : Line → Rewritten → Cause → Type 0
 IsCauseOther line of c = (r : Replay) → IsCauseOff r line (Some of) c
@@ -56,5 +56,5 @@ IsCauseOther line of c = (r : Replay) → IsCauseOff r line (Some of) c
 pub record IsOffBy (r : Replay) (line : Line) (made : Option Rewritten) (text : List ℕ) : Type 0 where
   pub cause : Cause
   pub is : IsCauseOff r line made cause
-  pub text_is : text ≡ line_with (codes "not a run at line ") (length r.journal + 2)
+  pub text_is : text ≡ line_with (codes "not a run at line ") (length r.run.journal + 2)
       ++ cause_words line.first line.second cause ++ codes "\n"

@@ -9,13 +9,13 @@ ghost use Rattle.ol_explain.specs.Explained.{IsGone, Names, NoneNames, never_tex
 ghost use Rattle.ol_explain.specs.Reasons.{IsReplayed, IsLive, IsNodeNamed};
 ghost use Rattle.ol_explain.specs.Reasons.{IsCauseAway, IsCauseIdle, IsCauseOther, IsCauseOff};
 
-use crate::naming::{put, put_long, put_name, put_number};
+use crate::naming::{put, put_long, put_number};
 use ol_diamond::Rewritten;
 use ol_memory::NoMemory;
 use ol_net::{NodeId, Port, Rule};
 use ol_replay::Replay;
 use ol_rules::{Entry, Journal, NodeName};
-use ol_view::{Line, rule_word};
+use ol_view::{Line, put_name, rule_word};
 
 /// Why a line isn't the next one of a run.
 #[derive(Clone, Copy)]
@@ -80,7 +80,7 @@ fn live(replay: &Replay, name: NodeName) -> Option<NodeId>
     ensures there { IfSome result (IsNodeNamed replay.now name) }
     ensures gone { IfNone result (IsGone (net_here replay.now) name) }
 {
-    let Some(at) = replay.node_of(name) else {
+    let Some(at) = replay.numbers.node_of(name) else {
         return None;
     };
     match replay.net.kind_of(at) {
@@ -91,16 +91,16 @@ fn live(replay: &Replay, name: NodeName) -> Option<NodeId>
 
 // Why there is no node of this name.
 fn away(replay: &Replay, name: NodeName) -> Cause
-    requires few { length replay.now.journal ≤ 8000000 }
+    requires few { length replay.now.run.journal ≤ 8000000 }
     requires gone { IsGone (net_here replay.now) name }
     ensures { IsCauseAway replay.now name result }
 {
     if let NodeName::Born { ticket, .. } = name {
-        if ticket >= replay.journal.len() {
+        if ticket >= replay.run.journal.len() {
             return Cause::NotBorn { name };
         }
     }
-    match naming(&replay.journal, name) {
+    match naming(&replay.run.journal, name) {
         Some(m) => Cause::Gone { name, line: m + 2 },
         None => Cause::Never { name },
     }
@@ -120,7 +120,7 @@ fn idle(replay: &Replay, x: NodeId, y: NodeId) -> Cause
             if slot == 0 && node.0 == y.0 {
                 return Cause::NoRule;
             }
-            let name = replay.name_of(node);
+            let name = replay.run.names.name_of(node);
             Cause::FacesSlot { name, slot }
         }
         None => unreachable!(),
@@ -145,7 +145,7 @@ fn other(line: Line, of: Rewritten) -> Cause
 
 /// Why a line isn't the next one of a run, of whose pair this was made.
 pub fn cause_of(replay: &Replay, line: Line, made: Option<Rewritten>) -> Cause
-    requires few { length replay.now.journal ≤ 8000000 }
+    requires few { length replay.now.run.journal ≤ 8000000 }
     requires replay { IsReplayed replay.now }
     requires wrong { IfSome made (λ of. TellsOf line.told of.rule of.wave → ⊥) }
     ensures { IsCauseOff replay.now line made result }

@@ -55,7 +55,7 @@ fn off(
     line: Line,
     made: Option<Rewritten>,
 ) -> Result<Answer, NoMemory>
-    requires few { length replay.now.journal < 8000000 }
+    requires few { length replay.now.run.journal < 8000000 }
     requires replay { IsReplayed replay.now }
     requires wrong { IfSome made (λ of. TellsOf line.told of.rule of.wave → ⊥) }
     ensures text { IfOk result (λ a. IsOffBy replay.now line made a.text.items) }
@@ -64,7 +64,7 @@ fn off(
     let cause = cause_of(replay, line, made);
     let mut text = String::new(alloc);
     put(&mut text, "not a run at line ")?;
-    put_number(&mut text, replay.journal.len() + 2)?;
+    put_number(&mut text, replay.run.journal.len() + 2)?;
     put(&mut text, "\n")?;
     put_cause(&mut text, line.first, line.second, cause)?;
     put(&mut text, "\n")?;
@@ -114,7 +114,7 @@ fn of_net(alloc: Global, net: &Net, journal: &[u8]) -> Result<Answer, NoMemory>
             Ok(answer)
         }
         Stop::NoLine { form } => {
-            let bad = followed.replay.journal.len() + 2;
+            let bad = followed.replay.run.journal.len() + 2;
             let answer = bad_line(alloc, form, journal, followed.at, bad)?;
             Ok(answer)
         }

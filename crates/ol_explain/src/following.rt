@@ -1,10 +1,9 @@
 //! A journal, followed line by line by a run from a net.
 
-ghost use Rattle.std.specs.Prelude.{◌≡◌, ◌≢◌, ℕ, ◌++◌, ◌≤◌, List, length, drop, true, false, IfOk, IfSome, IfNone, IsSomeAnd};
+ghost use Rattle.std.specs.Prelude.{◌≡◌, ◌≢◌, ℕ, ◌++◌, ◌≤◌, List, length, drop, true, false, IfOk, IfSome, IfNone};
 ghost use Rattle.ol_view.specs.declared.forms.Form.{Form};
 ghost use Rattle.ol_view.specs.EachForm.{header};
 ghost use Rattle.ol_view.specs.Forms.{header_of};
-ghost use Rattle.ol_view.specs.LineReading.{TellsOf};
 ghost use Rattle.ol_replay.specs.Replays.{IsReplay};
 ghost use Rattle.ol_explain.specs.Followed.{Stops};
 
@@ -12,7 +11,7 @@ use ol_diamond::{Rewritten, Weighing};
 use ol_memory::NoMemory;
 use ol_net::Net;
 use ol_replay::Replay;
-use ol_view::{Form, Line, line_at};
+use ol_view::{Form, Line, is_so, line_at};
 use std::alloc::Global;
 
 /// Why a journal is followed no further.
@@ -54,21 +53,6 @@ fn form_of(text: &[u8]) -> Option<Form>
     None
 }
 
-// Whether the line tells of what was rewritten: of a pair that was active and, in the second form,
-// its rule and its wave.
-fn is_so(line: Line, made: Option<Rewritten>) -> bool
-    ensures so { result ≡ true → IsSomeAnd made (λ of. TellsOf line.told of.rule of.wave) }
-    ensures not { result ≡ false → IfSome made (λ of. TellsOf line.told of.rule of.wave → ⊥) }
-{
-    let Some(made) = made else {
-        return false;
-    };
-    match line.told {
-        Some((rule, wave)) => rule == made.rule && wave == made.wave,
-        None => true,
-    }
-}
-
 /// The run of the first entries of a journal, at most so many: up to the first line that isn't
 /// good. The journal may be of either form. `NoMemory`: no memory was found.
 pub fn follow(alloc: Global, net: &Net, text: &[u8], most: u32) -> Result<Followed, NoMemory>
@@ -90,7 +74,7 @@ pub fn follow(alloc: Global, net: &Net, text: &[u8], most: u32) -> Result<Follow
     let mut weighing = Weighing::new(alloc, net)?;
     let mut at = 11;
     while at < text.len() {
-        if replay.journal.len() == most {
+        if replay.run.journal.len() == most {
             let stop = Stop::Good;
             return Ok(Followed { replay, at, stop });
         }

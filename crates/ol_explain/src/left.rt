@@ -10,14 +10,14 @@ ghost use Rattle.ol_explain.specs.Left.{more_text};
 ghost use Rattle.ol_subjects.specs.declared.answers.End.{End};
 ghost use Rattle.ol_explain.specs.Found.{IsPairOf, AreFound, IsLeftText};
 
-use crate::naming::{put, put_name, put_number};
+use crate::naming::{put, put_number};
 use ol_diamond::{WaveList, waves};
 use ol_memory::NoMemory;
 use ol_net::{Facing, Net, NodeId, Port};
 use ol_replay::Replay;
 use ol_rules::{Entry, Journal};
 use ol_subjects::{Answer, End};
-use ol_view::rule_word;
+use ol_view::{put_name, rule_word};
 use std::alloc::Global;
 
 // How many pairs are told.
@@ -47,8 +47,8 @@ fn pair_at(replay: &Replay, at: NodeId) -> Option<Entry>
             }
             Some(Entry {
                 rule,
-                first: replay.name_of(at),
-                second: replay.name_of(node),
+                first: replay.run.names.name_of(at),
+                second: replay.run.names.name_of(node),
             })
         }
         Some(Port::Free(_)) => None,
@@ -163,16 +163,16 @@ fn put_left(
     replay: &mut Replay,
 ) -> Result<(), NoMemory>
     requires few { length net.now.nodes ≤ 200000 }
-    requires entries { length replay.old.journal ≤ 8000000 }
+    requires entries { length replay.old.run.journal ≤ 8000000 }
     requires replay { IsReplay net.now replay.old }
     ensures { OnOk result ((left : List ℕ) × IsLeftText net.now replay.old left
         × (string_bytes text.new ≡ string_bytes text.old ++ left)) }
 {
     net.is_net();
     let found = find(alloc, replay)?;
-    let from = replay.journal.len();
-    append(&mut replay.journal, &found.told)?;
-    let waves = waves(alloc, net, &replay.journal)?;
+    let from = replay.run.journal.len();
+    append(&mut replay.run.journal, &found.told)?;
+    let waves = waves(alloc, net, &replay.run.journal)?;
     put_lines(text, &found.told, &waves, from)?;
     put_more(text, found.more)?;
     Ok(())
@@ -189,7 +189,7 @@ pub fn run_and_left(
     replay: &mut Replay,
 ) -> Result<Answer, NoMemory>
     requires few { length net.now.nodes ≤ 200000 }
-    requires entries { length replay.old.journal ≤ 8000000 }
+    requires entries { length replay.old.run.journal ≤ 8000000 }
     requires replay { IsReplay net.now replay.old }
     ensures text { IfOk result (λ a. (left : List ℕ) × IsLeftText net.now replay.old left
         × (a.text.items ≡ line_with (codes "run ") entries ++ left)) }

@@ -3,14 +3,13 @@
 ghost use Rattle.std.specs.Prelude.{◌≡◌, ◌++◌, length, IfSome, OnOk, IfOk, string_bytes};
 ghost use Rattle.std.specs.Fmt.{decimal};
 ghost use Rattle.ol_net.specs.Graph.{kind_at, partner_of};
-ghost use Rattle.ol_view.specs.TraceTexts.{name_text};
-ghost use Rattle.ol_explain.specs.NamedTexts.{named_port, named_partner, named_free, named_partners, named_node, named_nodes, named_text};
+ghost use Rattle.ol_explain.specs.NamedTexts.{named_port, named_partner, named_free, named_node, named_nodes, named_text};
 ghost use Rattle.ol_replay.specs.Replays.{names_of};
 
 use ol_memory::NoMemory;
 use ol_net::{IndexOf, NodeId, Port};
 use ol_replay::Replay;
-use ol_rules::NodeName;
+use ol_view::put_name;
 use std::alloc::Global;
 use std::fmt;
 
@@ -47,20 +46,6 @@ pub fn put_long(text: &mut String, number: u64) -> Result<(), NoMemory>
     Ok(())
 }
 
-/// Appends a name.
-pub fn put_name(text: &mut String, name: NodeName) -> Result<(), NoMemory>
-    ensures { OnOk result (string_bytes text.new ≡ string_bytes text.old ++ name_text name) }
-{
-    match name {
-        NodeName::Init(k) => put_number(text, k),
-        NodeName::Born { ticket, place } => {
-            put_number(text, ticket)?;
-            put(text, ".")?;
-            put_number(text, place as u32)
-        }
-    }
-}
-
 // Appends a port, a slot by the name of its node.
 fn put_port(text: &mut String, replay: &Replay, port: Port) -> Result<(), NoMemory>
     ensures { OnOk result (string_bytes text.new
@@ -69,7 +54,7 @@ fn put_port(text: &mut String, replay: &Replay, port: Port) -> Result<(), NoMemo
     match port {
         Port::Free(_) => put_shown(text, &port),
         Port::Of { node, slot } => {
-            put_name(text, replay.name_of(node))?;
+            put_name(text, replay.run.names.name_of(node))?;
             put(text, ".")?;
             put_number(text, slot as u32)
         }
@@ -100,16 +85,6 @@ fn put_free_ports(text: &mut String, replay: &Replay) -> Result<(), NoMemory>
     Ok(())
 }
 
-fn put_partners(text: &mut String, replay: &Replay, node: NodeId, slots: u8) -> Result<(), NoMemory>
-    ensures { OnOk result (string_bytes text.new ≡ string_bytes text.old
-        ++ named_partners (names_of replay.now) replay.now.net node.0 slots) }
-{
-    for slot in 0..slots {
-        put_partner(text, replay, Port::Of { node, slot })?;
-    }
-    Ok(())
-}
-
 // Appends the line of a node, if it is live.
 fn put_node(text: &mut String, replay: &Replay, node: NodeId) -> Result<(), NoMemory>
     ensures { OnOk result (string_bytes text.new ≡ string_bytes text.old ++ named_node
@@ -118,12 +93,14 @@ fn put_node(text: &mut String, replay: &Replay, node: NodeId) -> Result<(), NoMe
     let Some((kind, index)) = replay.net.kind_of(node) else {
         return Ok(());
     };
-    put_name(text, replay.name_of(node))?;
+    put_name(text, replay.run.names.name_of(node))?;
     put(text, " ")?;
     put_shown(text, &kind)?;
     put(text, " ")?;
     put_shown(text, &IndexOf { kind, index })?;
-    put_partners(text, replay, node, kind.slots())?;
+    for slot in 0..kind.slots() {
+        put_partner(text, replay, Port::Of { node, slot })?;
+    }
     put(text, "\n")?;
     Ok(())
 }

@@ -30,7 +30,7 @@ fn nothing(alloc: Global, words: &str, number: u32) -> Result<Answer, NoMemory>
 // The last net of a run, behind the number of its steps.
 fn shown(alloc: Global, replay: &Replay) -> Result<Answer, NoMemory>
     ensures text { IfOk result (λ a. a.text.items ≡ shown_text (names_of replay.now)
-        (length replay.now.journal) replay.now.net) }
+        (length replay.now.run.journal) replay.now.net) }
     ensures end { IfOk result (λ a. a.end ≡ End.Yes) }
     ensures tabled { IsTable replay.now.net }
 {
@@ -38,7 +38,7 @@ fn shown(alloc: Global, replay: &Replay) -> Result<Answer, NoMemory>
     let net = named_net(alloc, replay)?;
     let mut text = Vec::new(alloc);
     put(&mut text, b"step ")?;
-    put_number(alloc, &mut text, replay.journal.len() as u64)?;
+    put_number(alloc, &mut text, replay.run.journal.len() as u64)?;
     put(&mut text, b"\n")?;
     put(&mut text, &net)?;
     let end = End::Yes;
@@ -58,7 +58,7 @@ fn of_net(alloc: Global, net: &Net, journal: &[u8], lines: u32) -> Result<Answer
             Ok(answer)
         }
         Stop::Good => {
-            let has = followed.replay.journal.len() + 1;
+            let has = followed.replay.run.journal.len() + 1;
             if has == lines {
                 let answer = shown(alloc, &followed.replay)?;
                 return Ok(answer);
@@ -67,12 +67,12 @@ fn of_net(alloc: Global, net: &Net, journal: &[u8], lines: u32) -> Result<Answer
             Ok(answer)
         }
         Stop::NoLine { .. } => {
-            let line = followed.replay.journal.len() + 2;
+            let line = followed.replay.run.journal.len() + 2;
             let answer = nothing(alloc, "bad text at line ", line)?;
             Ok(answer)
         }
         Stop::Otherwise { .. } => {
-            let bad = followed.replay.journal.len() + 2;
+            let bad = followed.replay.run.journal.len() + 2;
             let answer = nothing(alloc, "not a run at line ", bad)?;
             Ok(answer)
         }

@@ -18,12 +18,12 @@ ghost use Rattle.ol_explain.specs.Afters.{line_with};
 ghost use Rattle.ol_explain.specs.Fields.{IsField, Begins, GoesOn, IsEnd, IsCut, AreAt, IsFault, IsBrokenBy, IsBadBy};
 ghost use Rattle.ol_explain.specs.Wanted.{AreThose, IsLine, byte_words, choice_words, is_told, choices, end_at, greater_at, bytes_at, wanted_at};
 
-use crate::naming::{put as put_words, put_long, put_name};
+use crate::naming::{put as put_words, put_long};
 use ol_memory::NoMemory;
 use ol_net::Rule;
 use ol_rules::NodeName;
 use ol_subjects::{Answer, End, put, put_number};
-use ol_view::{Form, behind, name_at, number_at, rule_at, rule_word};
+use ol_view::{Form, RULES, behind, name_at, number_at, put_name, rule_at, rule_word};
 use std::alloc::Global;
 
 /// A part of a line, before the byte that ends it.
@@ -47,18 +47,6 @@ pub enum Fault {
     /// The second name, which begins at `start`, isn't greater than the first one.
     Unordered { first: NodeName, start: usize },
 }
-
-// All rules.
-const RULES: [Rule; 8] = [
-    Rule::Beta,
-    Rule::Fan,
-    Rule::Croissant,
-    Rule::Bracket,
-    Rule::CrossFan,
-    Rule::CrossCroissant,
-    Rule::CrossBracket,
-    Rule::Erase,
-];
 
 // Whether the word begins so.
 fn word_begins(word: &str, read: &[u8]) -> bool

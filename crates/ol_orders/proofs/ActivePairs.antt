@@ -13,16 +13,17 @@ use Rattle.ol_net.specs.Nets.{NamedPort, slot, NamedNet, HasNode, Linked, IsNet}
 use Rattle.ol_net.specs.Numbered.{net_of}
 use Rattle.ol_net.specs.Pairs.{IsActive, IsInActive, IsComplete}
 use Rattle.ol_rules.specs.Rewriting.{action_of}
-use Rattle.ol_rules.specs.Running.{AllWait, StillWait, RangeWaits, BesideWaits}
+use Rattle.ol_rules.specs.Running.{AllWait}
+use Rattle.ol_rules.specs.Waiting.{IsActiveIn, IsBeside}
 use Rattle.ol_rules.specs.Steps.{StepsAt}
 use Rattle.ol_rules.proofs.FreshPairs.{linked_sym, active_after, gone}
-use Rattle.ol_rules.proofs.UnderWay.{node_below}
+use Rattle.ol_rules.proofs.OnTheWay.{node_below}
 use Rattle.ol_rules.proofs.Waiting.{nat_is, differs, others_stay, lower, nothing_waits, active_node, active_below}
 use Rattle.ol_diamond.specs.Replaying.{AreIdle}
 use Rattle.ol_diamond.specs.Squares.{AreTogether}
 use Rattle.ol_diamond.proofs.Pairs.{one_partner, faces_after}
 use Rattle.ol_demand.proofs.Entries.{the_pair}
-use Rattle.ol_orders.specs.Played.{IsPair, AreRisingPairs, ArePairs, NewWait}
+use Rattle.ol_orders.specs.Played.{IsPair, AreRisingPairs, ArePairs, StillWait, NewWait}
 
 -- The pairs that were found before these nodes are looked at: their smaller numbers are smaller than
 -- all of these, and any other pair's smaller number is among them.
@@ -233,8 +234,11 @@ of_pair g n ps all z r (y, side) = go (cases_lt z y) (cases_lt y z) side
 
 -- after a step of x and y those nodes of active pairs are new that were born or stood beside the two
 pub new_wait : (g g' : Graph) → IsNet (net_of g) → (x y : ℕ) (r : Rule) (s : StepsAt g g' x r) →
-    Linked (net_of g) (slot x 0) (slot y 0) → (w : BTreeSet ℕ) → BesideWaits g x w → BesideWaits g y w →
-    RangeWaits g' (length g.nodes) (length g'.nodes) w → NewWait g g' x y w
+    Linked (net_of g) (slot x 0) (slot y 0) → (w : BTreeSet ℕ) →
+    ((z : ℕ) → IsBeside g x z → contains nat_cmp w z ≡ true) →
+    ((z : ℕ) → IsBeside g y z → contains nat_cmp w z ≡ true) →
+    ((z : ℕ) → IsActiveIn g' (length g.nodes) (length g'.nodes) z → contains nat_cmp w z ≡ true) →
+    NewWait g g' x y w
 new_wait g g' n x y r s l w beside_x beside_y born z t a =
     go (active_after nat_is (net_of g) (net_of g') n
     (λ p. length g.nodes + p) s.f s.g s.step.active.k s.step.active.i s.step.active.l
@@ -264,11 +268,17 @@ new_wait g g' n x y r s l w beside_x beside_y born z t a =
     beside : (f u : ℕ) → Linked (net_of g) (slot z 0) (slot f (suc u)) → (x ≡ f) ⊎ (y ≡ f) →
         contains nat_cmp w z ≡ true
     beside f u h (inl e) = let q : suc u ≡ u + 1 = omega arith in
-        beside_x z u (subst (λ x. Linked (net_of g) (slot z 0) (slot x (u + 1))) (sym e)
-        (subst (λ s. Linked (net_of g) (slot z 0) (slot f s)) q h))
+        beside_x z (
+          u,
+          subst (λ x. Linked (net_of g) (slot z 0) (slot x (u + 1))) (sym e)
+              (subst (λ s. Linked (net_of g) (slot z 0) (slot f s)) q h),
+        )
     beside f u h (inr e) = let q : suc u ≡ u + 1 = omega arith in
-        beside_y z u (subst (λ x. Linked (net_of g) (slot z 0) (slot x (u + 1))) (sym e)
-        (subst (λ s. Linked (net_of g) (slot z 0) (slot f s)) q h))
+        beside_y z (
+          u,
+          subst (λ x. Linked (net_of g) (slot z 0) (slot x (u + 1))) (sym e)
+              (subst (λ s. Linked (net_of g) (slot z 0) (slot f s)) q h),
+        )
 
     f_is : ((x ≡ s.f) × (y ≡ s.g)) ⊎ ((x ≡ s.g) × (y ≡ s.f)) → (x ≡ s.f) ⊎ (y ≡ s.f)
     f_is (inl e) = inl e.0
@@ -283,7 +293,7 @@ new_wait g g' n x y r s l w beside_x beside_y born z t a =
         ⊎ Linked (net_of g) (slot z 0) (slot s.g (suc u))))) →
         (contains nat_cmp w z ≡ true) ⊎ (IsInActive (net_of g) z t × (z ≢ x) × (z ≢ y))
     go (inl c) = inr (c, not_x both, not_y both)
-    go (inr (inl (p, e))) = let b = active_below g' z t a in inl (born z t (omega arith) b a)
+    go (inr (inl (p, e))) = let b = active_below g' z t a in inl (born z (omega arith, b, (t, a)))
     go (inr (inr (u, inl h))) = inl (beside s.f u h (f_is both))
     go (inr (inr (u, inr h))) = inl (beside s.g u h (g_is both))
 

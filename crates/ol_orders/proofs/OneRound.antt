@@ -15,13 +15,14 @@ use Rattle.ol_rules.specs.Runs.{IsEntryStep, IsRun}
 use Rattle.ol_rules.proofs.FreshPairs.{linked_sym}
 use Rattle.ol_rules.proofs.NameOrder.{not_before, not_before_itself}
 use Rattle.ol_rules.proofs.Renaming.{net_alike, active_to, active_from}
-use Rattle.ol_rules.proofs.UnderWay.{node_below}
+use Rattle.ol_rules.proofs.OnTheWay.{node_below}
 use Rattle.ol_diamond.proofs.Pairs.{one_rule}
 use Rattle.ol_view.proofs.OneVerdict.{one_entry}
 use Rattle.ol_demand.proofs.Entries.{one_name}
 use Rattle.ol_replay.specs.declared.replaying.Replay.{Replay}
 use Rattle.ol_replay.specs.Replays.{net_here}
-use Rattle.ol_replay.specs.Replays.{names_of, IsReplay, entry_for, Advances}
+use Rattle.ol_rules.specs.UnderWay.{entry_for}
+use Rattle.ol_replay.specs.Replays.{names_of, IsReplay, ReplaysPair}
 use Rattle.ol_orders.specs.Rounds.{IsActiveEntry, AreActivePairs}
 use Rattle.ol_replay.specs.Replays.{AreRising}
 use Rattle.ol_orders.specs.Played.{IsPair, AreRisingPairs, ArePairs, Plays, stop, go}
@@ -80,7 +81,7 @@ module _ (old : Graph) (r : Replay) (u : IsReplay old r) where
   here_is = net_alike u.m (names_of r) (net_of g) u.is_net (λ z k i h. sym (u.listed z (node_below g z k i h)))
 
   pub one_named : (x y : ℕ) → u.m x ≡ u.m y → x ≡ y
-  one_named = one_name (length old.nodes) (length g.nodes) (length r.journal) u.m (record {
+  one_named = one_name (length old.nodes) (length g.nodes) (length r.run.journal) u.m (record {
     room = u.named.room;
     initial = u.named.initial;
     rising = u.named.rising;
@@ -188,14 +189,14 @@ module _ (old : Graph) (r : Replay) (u : IsReplay old r) where
   all_entries ps all = let t = entries_of r ps all.each in (t.0, t.1, are_active ps all t.0 t.1)
 
 -- the later entries after the step of the first one
-module _ (old : Graph) (r s : Replay) (u : IsReplay old r) (p : ℕ × ℕ) (a : Advances r s p.0 p.1) where
+module _ (old : Graph) (r s : Replay) (u : IsReplay old r) (p : ℕ × ℕ) (a : ReplaysPair r s p.0 p.1) where
   entry_after : (q : ℕ × ℕ) (e : Entry) → p.0 < q.0 → IsEntryFor r q e → IsEntryFor s q e
   entry_after q e l h =
       let b = pair_below r.net u.is_net q.0 q.1 e.rule h.pair in
       record {
         first = h.first ∙ sym (still_named old r s p.0 p.1 u a q.0 b.0);
         second = h.second ∙ sym (still_named old r s p.0 p.1 u a q.1 b.1);
-        pair = pair_after r.net u.is_net s.net p.0 p.1 q.0 q.1 a.rule e.rule a.step a.lesser a.linked h.pair l;
+        pair = pair_after r.net u.is_net s.net p.0 p.1 q.0 q.1 a.advances.rule e.rule a.advances.step a.lesser a.linked h.pair l;
       }
 
   entries_after : (ps : List (ℕ × ℕ)) (es : List Entry) → AreEntries r ps es →
@@ -207,14 +208,14 @@ module _ (old : Graph) (r s : Replay) (u : IsReplay old r) (p : ℕ × ℕ) (a :
       (entry_after q e (l q (inl refl)) h.0, entries_after ps es h.1 (λ d i. l d (inr i)))
 
   -- and the first one's
-  written : (e : Entry) → IsEntryFor r p e → entry_for r a.rule p.0 p.1 ≡ e
-  written e h = one_entry (entry_for r a.rule p.0 p.1) e
-      (one_rule (net_of r.net) u.is_net p.0 a.rule e.rule (side a.step.one_of) h.pair.active)
+  written : (e : Entry) → IsEntryFor r p e → entry_for r.run a.advances.rule p.0 p.1 ≡ e
+  written e h = one_entry (entry_for r.run a.advances.rule p.0 p.1) e
+      (one_rule (net_of r.net) u.is_net p.0 a.advances.rule e.rule (side a.advances.step.one_of) h.pair.active)
       (sym h.first) (sym h.second)
     where
-      side : (p.0 ≡ a.step.f) ⊎ (p.0 ≡ a.step.g) → IsInActive (net_of r.net) p.0 a.rule
-      side (inl e) = (a.step.g, inl (subst (λ x. IsActive (net_of r.net) x a.step.g a.rule) (sym e) a.step.step.active))
-      side (inr e) = (a.step.f, inr (subst (λ x. IsActive (net_of r.net) a.step.f x a.rule) (sym e) a.step.step.active))
+      side : (p.0 ≡ a.advances.step.f) ⊎ (p.0 ≡ a.advances.step.g) → IsInActive (net_of r.net) p.0 a.advances.rule
+      side (inl e) = (a.advances.step.g, inl (subst (λ x. IsActive (net_of r.net) x a.advances.step.g a.advances.rule) (sym e) a.advances.step.step.active))
+      side (inr e) = (a.advances.step.f, inr (subst (λ x. IsActive (net_of r.net) a.advances.step.f x a.advances.rule) (sym e) a.advances.step.step.active))
 
 -- a round up to the pairs that are left
 pub record IsPlayedTo (old : Graph) (r s : Replay) (es : List Entry) (left : List (ℕ × ℕ)) : Type 0 where
@@ -223,8 +224,8 @@ pub record IsPlayedTo (old : Graph) (r s : Replay) (es : List Entry) (left : Lis
   pub rest : List Entry
   pub entries_are : es ≡ part ++ rest
   pub rest_are : AreEntries s left rest
-  pub run : IsRun (net_here r) (length r.journal) part (net_here s)
-  pub journal_is : s.journal ≡ r.journal ++ part
+  pub run : IsRun (net_here r) (length r.run.journal) part (net_here s)
+  pub journal_is : s.run.journal ≡ r.run.journal ++ part
 
 pub played : (old : Graph) (r s : Replay) (ps left : List (ℕ × ℕ)) (es : List Entry) → IsReplay old r →
     AreEntries r ps es → AreRisingPairs ps → Plays r ps left s → IsPlayedTo old r s es left
@@ -235,7 +236,7 @@ played old r s ps left es u a h stop = record {
   entries_are = refl;
   rest_are = a;
   run = IsRun.end;
-  journal_is = sym (append-nil r.journal);
+  journal_is = sym (append-nil r.run.journal);
 }
 played old r s (p ∷ ps) left [] u a h (go adv more) = absurd a
 played old r s (p ∷ ps) left (e ∷ es) u a h (go {s = q} adv more) =
@@ -249,11 +250,11 @@ played old r s (p ∷ ps) left (e ∷ es) u a h (go {s = q} adv more) =
       entries_are = ap (λ (es : List Entry). e ∷ es) i.entries_are;
       rest_are = i.rest_are;
       run = IsRun.then
-          (subst (λ d. IsEntryStep (net_here r) (length r.journal) d (net_here q)) w
+          (subst (λ d. IsEntryStep (net_here r) (length r.run.journal) d (net_here q)) w
           (step_named old r q p.0 p.1 u adv))
           (subst (λ t. IsRun (net_here q) t i.part (net_here s)) (longer old r q p.0 p.1 u adv) i.run);
       journal_is = i.journal_is
           ∙ ap (λ (js : List Entry). js ++ i.part)
-          (adv.journal ∙ ap (λ (d : Entry). r.journal ++ d ∷ []) w)
-          ∙ append_assoc r.journal (e ∷ []) i.part;
+          (adv.advances.journal ∙ ap (λ (d : Entry). r.run.journal ++ d ∷ []) w)
+          ∙ append_assoc r.run.journal (e ∷ []) i.part;
     }

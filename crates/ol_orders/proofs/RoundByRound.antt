@@ -13,7 +13,8 @@ use Rattle.ol_rules.proofs.Renaming.{active_from}
 use Rattle.ol_view.specs.Checks.{start_net_of_graph}
 use Rattle.ol_replay.specs.declared.replaying.Replay.{Replay}
 use Rattle.ol_replay.specs.Replays.{net_here}
-use Rattle.ol_replay.specs.Replays.{IsReplay, entry_for, Advances}
+use Rattle.ol_rules.specs.UnderWay.{entry_for}
+use Rattle.ol_replay.specs.Replays.{IsReplay, ReplaysPair}
 use Rattle.ol_orders.specs.Rounds.{AreActivePairs, IsInRounds, EndsInRounds, GoesOnInRounds}
 use Rattle.ol_orders.specs.Played.{ArePairs, Plays, stop, go, IsCut}
 use Rattle.ol_orders.proofs.ActivePairs.{complete}
@@ -34,16 +35,16 @@ rounds_on N M P t u js es (IsInRounds.then {M = K} {es = ds} {later = later} b s
 -- whole rounds so far
 pub record IsInPlay (old : Graph) (r : Replay) : Type 0 where
   pub replay : IsReplay old r
-  pub rounds : IsInRounds (start_net_of_graph old) 0 r.journal (net_here r)
+  pub rounds : IsInRounds (start_net_of_graph old) 0 r.run.journal (net_here r)
 
 no_round : (N M : NamedNet NodeName) (t : ℕ) (es : List Entry) → es ≡ [] → IsRun N t es M → IsInRounds N t es M
 no_round N M t [] e IsRun.end = IsInRounds.end
 no_round N M t (d ∷ es) e run = absurd (cc)
 
-pub begun : (old : Graph) (r : Replay) → IsReplay old r → r.journal ≡ [] → IsInPlay old r
+pub begun : (old : Graph) (r : Replay) → IsReplay old r → r.run.journal ≡ [] → IsInPlay old r
 begun old r u e = record {
   replay = u;
-  rounds = no_round (start_net_of_graph old) (net_here r) 0 r.journal e (run_named old r u);
+  rounds = no_round (start_net_of_graph old) (net_here r) 0 r.run.journal e (run_named old r u);
 }
 
 none_left : (s : Replay) (es : List Entry) → AreEntries s [] es → es ≡ []
@@ -66,22 +67,22 @@ module _ (old : Graph) (r s : Replay) (i : IsInPlay old r) (ps : List (ℕ × �
       record {
         replay = t.replay;
         rounds = subst (λ js. IsInRounds (start_net_of_graph old) 0 js (net_here s)) (sym t.journal_is)
-            (rounds_on (start_net_of_graph old) (net_here r) (net_here s) 0 (length r.journal) r.journal t.part
+            (rounds_on (start_net_of_graph old) (net_here r) (net_here s) 0 (length r.run.journal) r.run.journal t.part
             i.rounds (omega arith) (subst (λ es. AreActivePairs (net_here r) es) e es.2) t.run);
       }
 
   -- a part of one
-  pub cut : (fuel : ℕ) → IsCut fuel r ps s → GoesOnInRounds old fuel s.journal
+  pub cut : (fuel : ℕ) → IsCut fuel r ps s → GoesOnInRounds old fuel s.run.journal
   cut fuel c = some t.rest t.entries_are t.rest_are
     where
       t : IsPlayedTo old r s es.0 (c.next ∷ c.later)
       t = to (c.next ∷ c.later) c.plays
 
       some : (rest : List Entry) → es.0 ≡ t.part ++ rest → AreEntries s (c.next ∷ c.later) rest →
-          GoesOnInRounds old fuel s.journal
+          GoesOnInRounds old fuel s.run.journal
       some [] e a = absurd a
       some (d ∷ rest) e a = record {
-        whole = r.journal;
+        whole = r.run.journal;
         begun = t.part;
         next = d;
         later = rest;
@@ -96,12 +97,12 @@ module _ (old : Graph) (r s : Replay) (i : IsInPlay old r) (ps : List (ℕ × �
 
   -- either way it is a run
   pub still_run : (left : List (ℕ × ℕ)) → Plays r ps left s →
-      (M : NamedNet NodeName) × IsRun (start_net_of_graph old) 0 s.journal M
+      (M : NamedNet NodeName) × IsRun (start_net_of_graph old) 0 s.run.journal M
   still_run left p = (net_here s, run_named old s (to left p).replay)
 
 -- no round more
 pub ends : (old : Graph) (r : Replay) (fuel : ℕ) → IsInPlay old r → ArePairs r.net [] →
-    length r.journal ≤ fuel → EndsInRounds old fuel r.journal
+    length r.run.journal ≤ fuel → EndsInRounds old fuel r.run.journal
 ends old r fuel i all l = record {
   last = net_here r;
   rounds = i.rounds;
@@ -112,20 +113,20 @@ ends old r fuel i all l = record {
 }
 
 pub ends_with : (old : Graph) (r : Replay) (fuel : ℕ) (ps : List (ℕ × ℕ)) → IsInPlay old r → ArePairs r.net ps →
-    length ps ≡ 0 → length r.journal ≤ fuel → EndsInRounds old fuel r.journal
+    length ps ≡ 0 → length r.run.journal ≤ fuel → EndsInRounds old fuel r.run.journal
 ends_with old r fuel [] i all none l = ends old r fuel i all l
 ends_with old r fuel (p ∷ ps) i all none l = absurd (omega arith)
 
 pub few_nodes : (old : Graph) (r : Replay) (fuel : ℕ) → IsReplay old r → length old.nodes ≤ 200000 →
-    fuel ≤ 8000000 → length r.net.nodes + 4 * fuel ≤ 2000000000 + 4 * length r.journal
+    fuel ≤ 8000000 → length r.net.nodes + 4 * fuel ≤ 2000000000 + 4 * length r.run.journal
 few_nodes old r fuel u h l = let f = u.few in omega arith
 
 -- a round makes the journal longer
-pub grown : (r s : Replay) (x y : ℕ) → Advances r s x y → length s.journal ≡ length r.journal + 1
-grown r s x y a = ap (λ (es : List Entry). length es) a.journal
-    ∙ length_push r.journal (entry_for r a.rule x y)
+pub grown : (r s : Replay) (x y : ℕ) → ReplaysPair r s x y → length s.run.journal ≡ length r.run.journal + 1
+grown r s x y a = ap (λ (es : List Entry). length es) a.advances.journal
+    ∙ length_push r.run.journal (entry_for r.run a.advances.rule x y)
 
-not_shorter : (r s : Replay) (ps left : List (ℕ × ℕ)) → Plays r ps left s → length r.journal ≤ length s.journal
+not_shorter : (r s : Replay) (ps left : List (ℕ × ℕ)) → Plays r ps left s → length r.run.journal ≤ length s.run.journal
 not_shorter r s ps left stop = omega arith
 not_shorter r s (p ∷ ps) left (go {s = q} a more) =
     let i = not_shorter q s ps left more in
@@ -133,7 +134,7 @@ not_shorter r s (p ∷ ps) left (go {s = q} a more) =
     omega arith
 
 pub goes_on : (r s : Replay) (ps : List (ℕ × ℕ)) → Plays r ps [] s → 0 < length ps →
-    length r.journal < length s.journal
+    length r.run.journal < length s.run.journal
 goes_on r s [] p l = absurd (omega arith)
 goes_on r s (p ∷ ps) (go {s = q} a more) l =
     let i = not_shorter q s ps [] more in

@@ -12,7 +12,7 @@ use Rattle.ol_rules.specs.declared.journal.Entry.{Entry}
 use Rattle.ol_rules.specs.declared.one_thread.Ended.{Ended}
 use Rattle.ol_rules.specs.declared.one_thread.Ended.TheVariants.{Done, Spent}
 use Rattle.ol_replay.specs.declared.replaying.Replay.{Replay}
-use Rattle.ol_replay.specs.Replays.{Advances}
+use Rattle.ol_replay.specs.Replays.{ReplaysPair}
 use Rattle.ol_orders.specs.Rounds.{EndsInRounds, GoesOnInRounds}
 
 -- x and y, of which x has the smaller number, are an active pair with this rule
@@ -32,6 +32,10 @@ pub record ArePairs (g : Graph) (pairs : List (ℕ × ℕ)) : Type 0 where
   pub all : (x y : ℕ) (rule : Rule) → IsPair g x y rule → IsIn (x, y) pairs
   pub rising : AreRisingPairs pairs
 
+-- what waits in old waits in new
+abbrev pub StillWait : BTreeSet ℕ → BTreeSet ℕ → Type 0
+StillWait old new = (x : ℕ) → contains nat_cmp old x ≡ true → contains nat_cmp new x ≡ true
+
 -- After a step of x and y, the nodes of an active pair wait that were in none before.
 abbrev pub NewWait : Graph → Graph → (x y : ℕ) → BTreeSet ℕ → Type 0
 NewWait old new x y waiting = (z : ℕ) (r : Rule) → IsInActive (net_of new) z r →
@@ -40,7 +44,7 @@ NewWait old new x y waiting = (z : ℕ) (r : Rule) → IsInActive (net_of new) z
 -- The second run is the first after some of these pairs, in their order, up to those that are left.
 pub data Plays : Replay → List (ℕ × ℕ) → List (ℕ × ℕ) → Replay → Type 0 where
   stop : {r : Replay} {left : List (ℕ × ℕ)} → Plays r left left r
-  go : {r s t : Replay} {p : ℕ × ℕ} {ps left : List (ℕ × ℕ)} → Advances r s p.0 p.1 →
+  go : {r s t : Replay} {p : ℕ × ℕ} {ps left : List (ℕ × ℕ)} → ReplaysPair r s p.0 p.1 →
       Plays s ps left t → Plays r (p ∷ ps) left t
 
 -- the fuel was used up before some of the pairs
@@ -48,7 +52,7 @@ pub record IsCut (fuel : ℕ) (r : Replay) (pairs : List (ℕ × ℕ)) (s : Repl
   pub next : ℕ × ℕ
   pub later : List (ℕ × ℕ)
   pub plays : Plays r pairs (next ∷ later) s
-  pub spent : length s.journal ≡ fuel
+  pub spent : length s.run.journal ≡ fuel
 
 -- how the run in rounds ended
 abbrev pub IsPlayed : Graph → ℕ → List Entry → Ended → Type 0

@@ -2,7 +2,6 @@
 //!
 //! - `ordering`: the command `journal`: a run in one of three orders
 //! - `playing`: a run from a net, round by round
-//! - `waiting`: which nodes may stand in an active pair
 //! - `laws`: the law of runs in rounds
 //! - `stepping`: the command `steps`: leftmost reduction, term by term
 //! - `counting`: the command `counts`: three ways to reduce, side by side
@@ -13,7 +12,6 @@ mod laws;
 mod ordering;
 mod playing;
 mod stepping;
-mod waiting;
 
 pub use counting::{Bounds, Column, Row, counted};
 pub use laws::waves_are_rounds;

@@ -5,17 +5,16 @@ ghost use Rattle.std.specs.Prelude.{◌≡◌, ℕ, ◌+◌, ◌*◌, ◌<◌, �
 ghost use Rattle.ol_net.specs.declared.parts.Rule.{Rule};
 ghost use Rattle.ol_net.specs.Nets.{NamedNet};
 ghost use Rattle.ol_rules.specs.declared.journal.NodeName.{NodeName};
-ghost use Rattle.ol_rules.specs.Running.{AllWait, StillWait};
+ghost use Rattle.ol_rules.specs.Running.{AllWait};
 ghost use Rattle.ol_rules.specs.Runs.{IsRun};
 ghost use Rattle.ol_view.specs.Checks.{start_net_of_graph};
-ghost use Rattle.ol_replay.specs.Replays.{Advances};
-ghost use Rattle.ol_orders.specs.Played.{IsPair, ArePairs, NewWait, Plays, IsCut, IsPlayed};
+ghost use Rattle.ol_replay.specs.Replays.{ReplaysPair};
+ghost use Rattle.ol_orders.specs.Played.{IsPair, ArePairs, StillWait, NewWait, Plays, IsCut, IsPlayed};
 
-use crate::waiting::{await_active, await_beside};
 use ol_memory::NoMemory;
 use ol_net::{Facing, Net, NodeId, Port};
 use ol_replay::Replay;
-use ol_rules::{Ended, Ran};
+use ol_rules::{Ended, Ran, await_active, await_beside};
 use std::alloc::Global;
 use std::collections::BTreeSet;
 
@@ -69,9 +68,9 @@ fn play_pair(
     y: NodeId,
 ) -> Result<(), NoMemory>
     requires few { length replay.old.net.nodes ≤ 2000000000 }
-    requires journal { length replay.old.journal < 4294967295 }
+    requires journal { length replay.old.run.journal < 4294967295 }
     requires pair { (rule : Rule) × IsPair replay.old.net x.0 y.0 rule }
-    ensures advances { OnOk result (Advances replay.old replay.new x.0 y.0) }
+    ensures advances { OnOk result (ReplaysPair replay.old replay.new x.0 y.0) }
     ensures kept { OnOk result (StillWait waiting.old waiting.new) }
     ensures waits { OnOk result (NewWait replay.old.net replay.new.net x.0 y.0 waiting.new) }
 {
@@ -96,17 +95,17 @@ fn play_round(
 ) -> Result<bool, NoMemory>
     requires pairs { ArePairs replay.old.net pairs.now }
     requires few { length replay.old.net.nodes + 4 * fuel
-        ≤ 2000000000 + 4 * length replay.old.journal }
+        ≤ 2000000000 + 4 * length replay.old.run.journal }
     requires fuel { fuel ≤ 8000000 }
-    requires within { length replay.old.journal ≤ fuel }
+    requires within { length replay.old.run.journal ≤ fuel }
     ensures all { IfOk result (λ all. all ≡ true → Plays replay.old pairs.now [] replay.new) }
     ensures waits { IfOk result (λ all. all ≡ true → AllWait replay.new.net waiting.new) }
     ensures cut { IfOk result (λ all. all ≡ false → IsCut fuel replay.old pairs.now replay.new) }
-    ensures within { IfOk result (λ all. length replay.new.journal ≤ fuel) }
+    ensures within { IfOk result (λ all. length replay.new.run.journal ≤ fuel) }
 {
     replay.net.is_net();
     for pair in pairs {
-        if replay.journal.len() == fuel {
+        if replay.run.journal.len() == fuel {
             return Ok(false);
         }
         play_pair(replay, waiting, NodeId(pair.0), NodeId(pair.1))?;
@@ -133,16 +132,18 @@ pub fn play(alloc: Global, net: &Net, fuel: u32) -> Result<Ran, NoMemory>
     while !pairs.is_empty() {
         if !play_round(&mut replay, &mut waiting, pairs.as_slice(), fuel)? {
             let ended = Ended::Spent;
+            let run = replay.run;
             return Ok(Ran {
                 ended,
-                journal: replay.journal,
+                journal: run.journal,
             });
         }
         pairs = take_pairs(alloc, &mut waiting, &replay.net)?;
     }
     let ended = Ended::Done;
+    let run = replay.run;
     Ok(Ran {
         ended,
-        journal: replay.journal,
+        journal: run.journal,
     })
 }

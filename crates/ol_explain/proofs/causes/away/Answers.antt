@@ -17,7 +17,7 @@ returns-in-Some c = λ form net waves e wave d.
       | in-Born+else-ticket-len w ↦ (let q = w.name-is in let p = w.in-Born.is in cc)
       | in_default w ↦ (let q = w.name-is in cc)
     ] in
-    went form net c.args.replay.now.journal waves (net_here c.args.replay.now) e wave c.match-name.name c.in-Some.m
+    went form net c.args.replay.now.run.journal waves (net_here c.args.replay.now) e wave c.match-name.name c.in-Some.m
     (subst (λ x. Decides (net_here c.args.replay.now) e x) is d)
     (subst (λ x. IsGone (net_here c.args.replay.now) x) is c.requires.gone) c.in-Some.ensures.named
 
@@ -27,16 +27,16 @@ returns-in-None c = λ form net waves e wave d.
       | in-Born+else-ticket-len w ↦ (let q = w.name-is in let p = w.in-Born.is in cc)
       | in_default w ↦ (let q = w.name-is in cc)
     ] in
-    let before : IsOfBefore c.args.replay.now.journal c.args.name = elim c.match-name.branch [
-      | in-Born+else-ticket-len w ↦ is_of_before c.args.replay.now.journal c.args.name (λ ticket place e.
+    let before : IsOfBefore c.args.replay.now.run.journal c.args.name = elim c.match-name.branch [
+      | in-Born+else-ticket-len w ↦ is_of_before c.args.replay.now.run.journal c.args.name (λ ticket place e.
           let p = w.in-Born.is in
           let q : ticket ≡ w.in-Born.ticket = cc in
           let l = w.len.ensures in
           let t = w.if-ticket-len.false in
           omega arith)
-      | in_default w ↦ is_of_before c.args.replay.now.journal c.args.name (λ ticket place e.
+      | in_default w ↦ is_of_before c.args.replay.now.run.journal c.args.name (λ ticket place e.
           absurd (w.in_default.not-Born ticket place e))
     ] in
     explained.never (subst (λ x. Decides (net_here c.args.replay.now) e x) is d)
     (subst (λ x. IsGone (net_here c.args.replay.now) x) is c.requires.gone)
-    (subst (λ x. IsOfBefore c.args.replay.now.journal x) is before) c.in-None.ensures.none
+    (subst (λ x. IsOfBefore c.args.replay.now.run.journal x) is before) c.in-None.ensures.none

@@ -68,7 +68,7 @@ returns-in-NoLine c =
     (subst (λ s. Stops c.args.net.now c.args.journal.now 8000000 f.replay f.at s)
     c.in-NoLine.is c.in_ok-followed.ensures.stops) in
     let a = c.in_ok-answer-in-NoLine in
-    let q : c.len-bad.result + 2 ≡ length f.replay.journal + 2 = (let l = c.len-bad.ensures in omega arith) in
+    let q : c.len-bad.result + 2 ≡ length f.replay.run.journal + 2 = (let l = c.len-bad.ensures in omega arith) in
     subst (λ e. IsExplainedOf c.args.net.now c.args.journal.now a.answer.text.items e) (sym a.ensures.end)
     (at_the_line c.args.net.now c.args.journal.now 8000000 f.replay f.at refl c.in-NoLine.form n
     (c.len-bad.result + 2) q a.answer.text.items a.ensures.text)

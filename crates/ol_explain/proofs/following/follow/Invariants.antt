@@ -6,9 +6,9 @@ use Rattle.ol_explain.proofs.following.follow.Given as goal
 -- the lines so far are followed
 abbrev pub invariant-loop-at : goal.invariant-loop-at
 invariant-loop-at l = record {
-  way : Way l.form l.net l.text l.weighing.net l.weighing.bases.items l.weighing.weights.items l.replay.journal l.at;
+  way : Way l.form l.net l.text l.weighing.net l.weighing.numbers.bases.items l.weighing.weights.items l.replay.run.journal l.at;
   replay : IsReplay l.net l.replay;
-  most : length l.replay.journal ≤ l.most;
+  most : length l.replay.run.journal ≤ l.most;
 }
 
 abbrev pub decreases-loop-at : goal.decreases-loop-at

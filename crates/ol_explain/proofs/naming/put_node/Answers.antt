@@ -1,5 +1,5 @@
 -- A line is put piece by piece.
-use Rattle.std.proofs.Common.{rules, ◌≡◌, ℕ, List, Option, [], ◌∷◌, ◌++◌, sym, subst, ◌∙◌}
+use Rattle.std.proofs.Common.{rules, arith, ◌≡◌, ℕ, List, Option, [], ◌∷◌, ◌++◌, sym, subst, ◌∙◌}
 use Rattle.std.specs.Prelude.{string_bytes}
 use Rattle.std.proofs.lemmas.List.{append_assoc}
 use Rattle.ol_net.specs.declared.parts.Kind.{Kind}
@@ -21,12 +21,14 @@ returns c =
     let names = names_of c.args.replay.now in
     let b0 = string_bytes c.args.text.now in
     let b5 = string_bytes c.put_shown-2.new.text in
-    let b6 = string_bytes c.put_partners.new.text in
+    let b6 = string_bytes c.loop-slot.text in
     let b7 = string_bytes c.put-3.new.text in
     let kind = c.in-Some.kind in
     let index = c.in-Some.index in
-    let partners = subst (λ s. b6 ≡ b5 ++ named_partners names g c.args.node.0 s) c.slots.ensures
-    c.in_ok-put_partners.ensures in
+    let end : c.loop-slot.slot ≡ slots_of kind = (let t = c.loop-slot-test.false in
+    let e = c.slots-slot-end.ensures in let i = c.loop-slot.far-slot in omega arith) in
+    let partners = subst (λ s. b6 ≡ b5 ++ named_partners names g c.args.node.0 s) end
+    c.loop-slot.invariant in
     let name = subst (λ x. string_bytes c.put_name.new.text ≡ b0 ++ name_text x) c.name_of.ensures
     c.in_ok-put_name.ensures in
     let line = joined b0 (string_bytes c.put_name.new.text) (string_bytes c.put.new.text)

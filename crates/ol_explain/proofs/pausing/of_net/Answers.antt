@@ -40,7 +40,7 @@ returns-then-has-lines c =
     c.in-Good.is c.in_ok-followed.ensures.stops in
     let g = at_good c.args.net.now c.args.journal.now (c.args.lines - 1) f.replay f.at s in
     let a = c.in_ok-answer-in-Good in
-    let count : length f.replay.journal + 1 ≡ c.args.lines = (let l = c.len-has.ensures in
+    let count : length f.replay.run.journal + 1 ≡ c.args.lines = (let l = c.len-has.ensures in
     let e = c.if-has-lines.true in omega arith) in
     subst (λ e. IsAfterOf c.args.net.now c.args.journal.now c.args.lines a.answer.text.items e) (sym a.ensures.end)
     (of.IsAfterOf.shown (net_after c.args.net.now f.replay c.in_ok-followed.ensures.replay c.args.journal.now f.at
@@ -54,11 +54,11 @@ returns-in-Good c =
     let g = at_good c.args.net.now c.args.journal.now (c.args.lines - 1) f.replay f.at s in
     let a = c.in_ok-answer-in-Good-2 in
     let has = c.len-has.result + 1 in
-    let all : length c.args.journal.now ≤ f.at = ends (length f.replay.journal) c.args.lines
+    let all : length c.args.journal.now ≤ f.at = ends (length f.replay.run.journal) c.args.lines
     (length c.args.journal.now) f.at
     (let l = c.len-has.ensures in let d = c.if-has-lines.false in let b = c.requires.lines.0 in λ e. omega arith)
     g.ended in
-    let count : length f.replay.journal + 1 ≡ c.len-has.result + 1 = (let l = c.len-has.ensures in omega arith) in
+    let count : length f.replay.run.journal + 1 ≡ c.len-has.result + 1 = (let l = c.len-has.ensures in omega arith) in
     let few : c.len-has.result + 1 < c.args.lines = (let l = c.len-has.ensures in let w = g.within in
     let e = c.if-has-lines.false in let b = c.requires.lines.0 in omega arith) in
     subst (λ e. IsAfterOf c.args.net.now c.args.journal.now c.args.lines a.answer.text.items e) (sym a.ensures.end)
@@ -83,7 +83,7 @@ returns-in-NoLine c =
     c.in-NoLine.is c.in_ok-followed.ensures.stops in
     let g = at_no_line c.args.net.now c.args.journal.now (c.args.lines - 1) f.replay f.at s in
     let a = c.in_ok-answer-in-NoLine in
-    let q : length f.replay.journal + 2 ≡ c.len-line.result + 2 = (let l = c.len-line.ensures in omega arith) in
+    let q : length f.replay.run.journal + 2 ≡ c.len-line.result + 2 = (let l = c.len-line.ensures in omega arith) in
     subst (λ e. IsAfterOf c.args.net.now c.args.journal.now c.args.lines a.answer.text.items e) (sym a.ensures.end)
     (of.IsAfterOf.bad_text (subst (λ n. IsFound (start_net_of_graph c.args.net.now) c.args.journal.now (BadText n))
     q g.1)
@@ -109,7 +109,7 @@ returns c =
     o.is c.in_ok-followed.ensures.stops in
     let g = at_other c.args.net.now c.args.journal.now (c.args.lines - 1) f.replay f.at o.line o.made s in
     let a = c.in_ok-answer-in-Otherwise in
-    let q : length f.replay.journal + 2 ≡ c.len-bad.result + 2 = (let l = c.len-bad.ensures in omega arith) in
+    let q : length f.replay.run.journal + 2 ≡ c.len-bad.result + 2 = (let l = c.len-bad.ensures in omega arith) in
     subst (λ e. IsAfterOf c.args.net.now c.args.journal.now c.args.lines a.answer.text.items e) (sym a.ensures.end)
     (of.IsAfterOf.not_a_run (subst (λ n. IsFound (start_net_of_graph c.args.net.now) c.args.journal.now (NotARun n))
     q g.1)

@@ -1,4 +1,4 @@
-use Rattle.std.proofs.Common.{◌≡◌, ℕ, ◌<◌, List, ◌∷◌, length, vec_len, rules, sym, ap, subst, arith}
+use Rattle.std.proofs.Common.{◌≡◌, ℕ, ◌<◌, List, ◌∷◌, length, vec_len, rules, inr, sym, ap, subst, arith}
 use Rattle.std.proofs.lemmas.Bool.Decides.{nat_tests}
 use Rattle.ol_rules.specs.declared.journal.Entry.{Entry}
 use Rattle.ol_rules.proofs.Waiting.{active_below}
@@ -10,7 +10,7 @@ use Rattle.ol_orders.proofs.playing.play.Goals as goal
 pub take_pairs-requires : goal.take_pairs-requires
 take_pairs-requires c = record {
   waits = λ x r a. let b = active_below c.in_ok-replay.replay.net x r a in let e = c.born.ensures.born in
-      c.in_ok-await_active.ensures.active x r (omega arith) (omega arith) a;
+      (c.in_ok-await_active.ensures x).1 (inr (omega arith, omega arith, (r, a)));
 }
 
 pub loop-alloc-init : goal.loop-alloc-init

@@ -13,7 +13,7 @@ returns-then-len-fuel-clause-cut c = λ e. is_cut c.args.replay.now c.loop-pair.
 
 pub loop-pair-preserved : goal.loop-pair-preserved
 loop-pair-preserved c =
-    let more : length c.loop-pair.replay.journal ≢ c.args.fuel = λ q. c.if-len-fuel.false (c.len.ensures ∙ q) in
+    let more : length c.loop-pair.replay.run.journal ≢ c.args.fuel = λ q. c.if-len-fuel.false (c.len.ensures ∙ q) in
     let e = c.in_ok-play_pair.ensures in
     turn_on c.args.replay.now c.loop-pair.replay c.loop-pair.waiting c.args.pairs.now c.loop-pair.pair-index
     c.args.fuel c.loop-pair.invariant _ c.play_pair.new.replay c.play_pair.new.waiting
