@@ -66,6 +66,7 @@ impl Replay {
         requires journal { length self.old.run.journal < 4294967295 }
         ensures made { IfOk result (λ made. made ≡ true
             → ReplaysNamed self.old self.new first second) }
+        ensures stays { IfOk result (λ made. made ≡ false → self.new ≡ self.old) }
         ensures apart { IfOk result (λ made. made ≡ false → AreApart self.old first second) }
     {
         let Some(x) = self.numbers.node_of(first) else {
