@@ -11,6 +11,7 @@ static char *read_file(const char *name, size_t *length) {
     char *text = malloc(1 << 26);
     if (!file || !text) exit(2);
     *length = fread(text, 1, 1 << 26, file);
+    if (fgetc(file) != EOF) exit(2);
     fclose(file);
     return text;
 }

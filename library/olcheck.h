@@ -5,8 +5,9 @@
    side by side, each on memory of its own.
 
    What is believed of a caller. Behind each pointer stand as many bytes as the length beside it says;
-   while a call runs, nothing else writes to them, and nothing else reads or writes what `counts` or
-   `room` points to. malloc, realloc and free are those of the C library. No call is made from a signal
+   what `counts` or `room` points to overlaps nothing else that is given; while a call runs, nothing
+   else writes to any of these, and nothing else reads what `counts` or `room` points to. The stack has
+   room for terms 1,000 deep (docs/HOSTILE.md). malloc, realloc and free are those of the C library. No call is made from a signal
    handler, or from the forked child of a process with threads. Nothing can check these; all else is
    answered: a null pointer, any length, any bytes, and memory that isn't found. */
 
@@ -20,7 +21,8 @@
 extern "C" {
 #endif
 
-/* What `word` of a verdict is, and what `number` is beside it (0 where nothing is said). */
+/* What `word` of a verdict is, and what `number` is beside it (0 where nothing is said). OL_BAD_POINTER is
+   tried first, then OL_NO_TRANSLATION, then OL_TOO_LONG, then OL_REFUSED. */
 enum ol_word {
     OL_COMPLETE = 0,       /* `complete` */
     OL_RUN = 1,            /* `run K`: K entries, and a pair is left */
@@ -64,7 +66,8 @@ struct ol_verdict ol_count_net(const void *net, size_t net_length,
    at the end, and answers how many bytes the whole text has. Its first line is that of `ol check`.
    Below it stand the pairs that are left after a run, what bad text wants, or why a line isn't one of a
    run. Of a refused term or net the text is the line by which `ol` refuses it. 0: nothing was written,
-   since a file is too long, no memory was found, the translation is unknown or a pointer is null. */
+   since a file is too long, no memory was found, the translation is unknown, a pointer is null (that of
+   an empty room too) or a length is above PTRDIFF_MAX. */
 size_t ol_explain(const void *term, size_t term_length, uint32_t translation,
                   const void *journal, size_t journal_length, char *room, size_t room_length);
 size_t ol_explain_net(const void *net, size_t net_length,

@@ -14,11 +14,11 @@ use Rattle.ol_strategies.specs.declared.orders.Reached.{Reached}
 abbrev pub NextIsRedex : Type 0
 NextIsRedex = (order : Order) (t : Tree) (at : List ℕ) → next order t ≡ Some at → IsSome (contracted t at)
 
--- an order has one step from a term
+-- an order has at most one step from a term
 abbrev pub StepIsOne : Type 0
 StepIsOne = (order : Order) (t u v : Tree) → IsStep order t u → IsStep order t v → u ≡ v
 
--- so many steps of an order lead from a term to one term
+-- so many steps of an order lead from a term to at most one term
 abbrev pub ReductIsOne : Type 0
 ReductIsOne = (order : Order) (n : ℕ) (t u v : Tree) → Leads order n t u → Leads order n t v → u ≡ v
 

@@ -1,5 +1,6 @@
 -- Five orders of reduction, each by the address of the redex that it contracts next (Barendregt, The Lambda Calculus,
--- 1984, chapters 8 and 13; for call-by-value Plotkin, 1975; the names are those of Sestoft, 2002).
+-- 1984, chapters 8 and 13; for call-by-value Plotkin, 1975). docs/DECISIONS.md says what is added to Plotkin's rule on
+-- terms with free names.
 use Rattle.std.specs.Prelude.{ℕ, Bool, true, false, ◌&&◌, if◌then◌else◌, List, [], Option, Some, None}
 use Rattle.std.specs.Option.{option_or}
 use Rattle.ol_term.specs.Trees.{Tree, lam, app}
@@ -35,7 +36,7 @@ is_value (app f a) = false
 is_value _ = true
 
 -- Call-by-value: the leftmost redex whose argument is a value, below no abstraction. A function comes before its
--- argument.
+-- argument, and where it is stuck, as a free name with arguments is, its argument comes all the same.
 abbrev pub value_redex : Tree → Option (List ℕ)
 value_redex (app f a) = option_or (under 1 (value_redex f))
     (option_or (under 2 (value_redex a)) (root_if (is_abstraction f && is_value a)))

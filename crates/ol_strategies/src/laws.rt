@@ -14,7 +14,7 @@ pub fn orders_contract_redexes()
     ensures value { ValueIsFirst }
 {}
 
-/// A term has one step in an order, and equally many steps lead to one term. Where an order leads to
+/// A term has at most one step in an order, and equally many steps lead to one term. Where an order leads to
 /// a term that comes back after one step or more, it has no end: each term that it leads to from
 /// the first has a next redex.
 pub fn orders_are_one()

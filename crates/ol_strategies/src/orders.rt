@@ -26,6 +26,7 @@ pub enum Reached {
     WeakHeadNormal,
     /// A value: a variable, a free name or an abstraction.
     Value,
-    /// No value: a free name is applied, and call-by-value can't go on.
+    /// No value: a free name, or a variable that nothing binds, is applied, and call-by-value can't
+    /// go on.
     Stuck,
 }
