@@ -131,10 +131,8 @@ abbrev pub FileCause : Asked → Seen → Status → List ℕ → Type 0
 FileCause asked s = CauseOf s most_term_bytes bytes_text (file_name asked) (FileAnswer asked)
 
 -- Each status of a job, where it comes, and its text: of its term file; of its journal file, once
--- the term file was read and is no
--- refusal; of a text that is made; of the file of a net; or of two term files, of which the second
--- is begun once the first was read
--- and is no refusal.
+-- the term file was read and is no refusal; of a text that is made; of the file of a net; or of two
+-- term files, of which the second is begun once the first was read and is no refusal.
 pub data JobCause (s : Seen) (st : Status) (text : List ℕ) : Asked → Type 0 where
   by_file : {asked : Asked} → HasTermFile asked → FileCause asked s st text → JobCause s st text asked
   by_journal : {translation : Translation} {term journal : Text} {bytes : List ℕ} {t : Tree}

@@ -29,8 +29,7 @@ verdict_text steps (verdict.Differs road) = road_text (codes "differs") road
 verdict_text steps (verdict.Agreed road) = road_text (codes "agreed") road
 
 -- The one-thread run ends within `fuel` steps, and the text tells the verdict of leftmost reduction
--- of the term, by at most `steps`
--- steps, on the tree that is read from its last net.
+-- of the term, by at most `steps` steps, on the tree that is read from its last net.
 pub record Certifies (translation : Translation) (t : Tree) (names : List (List ℕ))
     (steps fuel heads : ℕ) (text : List ℕ) : Type 0 where
   pub tree : List ReadNode

@@ -19,8 +19,7 @@ found_text (check.BadText l) = count_line (codes "bad text at line") l
 found_text (check.NotARun l) = count_line (codes "not a run at line") l
 
 -- What `check` answers to the bytes of a journal file, against a term: a limit that they pass, or
--- the one thing that they are found
--- to be.
+-- the one thing that they are found to be.
 abbrev pub JournalAnswer : Translation → Tree → List (List ℕ) → List ℕ → Status → List ℕ → Type 0
 JournalAnswer translation t names journal status.Limit text =
     Exceeds (length journal) most_journal_bytes (codes "limit journal") text

@@ -23,8 +23,7 @@ use Rattle.ol_cli.specs.Net.{IsNetFile, NetRunEnds}
 use Rattle.ol_limits.specs.Limits.{most_journal_bytes, most_nodes}
 
 -- where the job rewrites a term until no pair is active, the one-thread run of this term ends
--- within the job's fuel; and where it
--- rewrites in demand order, so does the demand run
+-- within the job's fuel; and where it rewrites in demand order, so does the demand run
 abbrev pub EndsWithinFuel : Asked → Tree → List (List ℕ) → Type 0
 EndsWithinFuel (run translation workers fuel heads name) t names = RunEnds (start_net_of_term translation t names) fuel
 EndsWithinFuel (trace translation workers fuel name) t names = RunEnds (start_net_of_term translation t names) fuel
@@ -48,8 +47,7 @@ abbrev pub HasJournalWithin : (Text → Option (List ℕ)) → Text → Type 0
 HasJournalWithin files name = (journal : List ℕ) × (files name ≡ Some journal) × (length journal ≤ most_journal_bytes)
 
 -- the bytes of a file with a net are told, no more than are read, and they are the text of a net
--- whose run ends within the fuel, with
--- few nodes left
+-- whose run ends within the fuel, with few nodes left
 pub record HasNetWithin (files : Text → Option (List ℕ)) (name : Text) (fuel : ℕ) : Type 0 where
   pub bytes : List ℕ
   pub net : Graph
@@ -59,8 +57,7 @@ pub record HasNetWithin (files : Text → Option (List ℕ)) (name : Text) (fuel
   pub few : live ends.ends.net ≤ most_nodes
 
 -- The job can be done, its files having these bytes. A term that is only made can always be. Two
--- terms can be compared where `run`
--- can be done on both.
+-- terms can be compared where `run` can be done on both.
 abbrev pub CanDo : Files → Asked → Type 0
 CanDo files (gen translation false k) = Unit {0}
 CanDo files (check translation term journal) =

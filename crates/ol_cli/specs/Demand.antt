@@ -14,8 +14,7 @@ use Rattle.ol_cli.specs.Run.{start_net_of_term}
 use Rattle.ol_cli.specs.Texts.{answer_text}
 
 -- The demand run from the term's net, of which the first `heads` subterms are asked, ends within
--- `fuel` steps: it rewrites the pairs
--- of this journal, reads this tree and leaves this net.
+-- `fuel` steps: it rewrites the pairs of this journal, reads this tree and leaves this net.
 pub record DemandEnds (translation : Translation) (t : Tree) (names : List (List ℕ)) (fuel heads : ℕ) : Type 0 where
   pub journal : List Entry
   pub tree : List ReadNode
@@ -24,8 +23,7 @@ pub record DemandEnds (translation : Translation) (t : Tree) (names : List (List
   pub within : length journal ≤ fuel
 
 -- It ends so, and this is printed of it: the tree's text, the counts of its journal, and the number
--- of pairs that are stuck in the
--- net that it leaves.
+-- of pairs that are stuck in the net that it leaves.
 pub record Demands (translation : Translation) (t : Tree) (names : List (List ℕ)) (fuel heads : ℕ)
     (text : List ℕ) : Type 0 where
   pub ends : DemandEnds translation t names fuel heads

@@ -11,8 +11,7 @@ use Rattle.ol_translate.specs.Translation.{translation_of}
 use Rattle.ol_cli.specs.Run.{Prints, RunEnds, RunsOut, Shows, start_net_of_term}
 
 -- This complete run has no more than `fuel` steps, and what is printed of its journal and its net
--- (up to the order in which the net is
--- listed) is this text.
+-- (up to the order in which the net is listed) is this text.
 pub record PrintsOf (names : List (List ℕ)) (fuel heads : ℕ) (journal : List Entry)
     (net : NamedNet NodeName) (text : List ℕ) : Type 0 where
   pub within : length journal ≤ fuel

@@ -1,6 +1,5 @@
 -- Private: words of private contracts alone, which no clause of a public call needs: what is asked
--- of a job within the call, and what is kept of
--- it there.
+-- of a job within the call, and what is kept of it there.
 use Rattle.std.specs.Prelude.{◌≡◌, ℕ, ◌≤◌, ◌⊎◌, List, [], length, take, Option, None, Some, Result, Ok, Err, String}
 use Rattle.std.specs.declared.alloc.Global.{Global}
 use Rattle.ol_io.specs.Outside.{Rose, Appended}

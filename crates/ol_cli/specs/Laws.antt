@@ -31,10 +31,9 @@ HaveOneCounts text text' = (counts : Counts) × (stuck : ℕ) × (rest : List �
     × (text ≡ counts_text counts stuck ++ rest) × (text' ≡ counts_text counts stuck ++ rest')
 
 -- What two texts with which a job is answered have in common, by its status. They are one text. But
--- what `trace` writes of a run is
--- the journal of any of many; and what `net` writes of a net that was rewritten begins with the
--- same nine lines, while the stuck
--- pairs and the net that follow them are those of any of many runs.
+-- what `trace` writes of a run is the journal of any of many; and what `net` writes of a net that
+-- was rewritten begins with the same nine lines, while the stuck pairs and the net that follow them
+-- are those of any of many runs.
 abbrev pub HaveOneText : Asked → Status → List ℕ → List ℕ → Type 0
 HaveOneText (trace translation workers fuel name) status.Done text text' = Unit {0}
 HaveOneText (trace translation workers fuel name) status.Spent text text' = Unit {0}

@@ -52,9 +52,8 @@ pub record NetRunEnds (net : Graph) (fuel : ℕ) : Type 0 where
   pub counted : HasStuck ends.net stuck
 
 -- The text of a net without an active pair that some run leads to: its nodes are numbered by
--- ascending name, and the lines of its
--- stuck pairs stand before it. Each such run leads to one net, up to names, so the text leaves
--- nothing open but the numbers.
+-- ascending name, and the lines of its stuck pairs stand before it. Each such run leads to one net,
+-- up to names, so the text leaves nothing open but the numbers.
 pub record TellsLast (net : Graph) (text : List ℕ) : Type 0 where
   pub journal : List Entry
   pub last : NamedNet NodeName

@@ -34,8 +34,7 @@ DemandIsReadAgain translation t names fuel heads text =
     (d : Demands translation t names fuel heads text) × (HasAllHeads d.ends.tree → IsReadBack names d.ends.tree d.term)
 
 -- What a job answers to a term, and that the tree whose text it prints is read again, where each of
--- its places has a head. The other
--- jobs print no tree.
+-- its places has a head. The other jobs print no tree.
 abbrev pub TextIsReadAgain : Asked → Tree → List (List ℕ) → List ℕ → Type 0
 TextIsReadAgain (run translation workers fuel heads name) t names text = RunIsReadAgain translation
     t names fuel heads text

@@ -31,10 +31,9 @@ abbrev pub start_net_of_term : Translation → Tree → List (List ℕ) → Name
 start_net_of_term translation t names = net_under Init (translation_of translation t (length names))
 
 -- What is printed of a journal and its net, each node of which is listed once: the term that is
--- read from the net, of which the first
--- `heads` subterms are asked, each by walks of at most twice as many crossings as there are nodes;
--- the counts of the journal; and the
--- number of pairs that are stuck.
+-- read from the net, of which the first `heads` subterms are asked, each by walks of at most twice
+-- as many crossings as there are nodes; the counts of the journal; and the number of pairs that are
+-- stuck.
 pub record Shows (names : List (List ℕ)) (heads : ℕ) (journal : List Entry)
     (net : NamedNet NodeName) (text : List ℕ) : Type 0 where
   pub stuck : ℕ
@@ -90,8 +89,8 @@ abbrev pub journal_of : ClosedTable → List Entry
 journal_of w = journal_in w.plan.parts w.words
 
 -- The words are those of a table that was made from the net of this term, its nodes numbered as
--- that net has them, with this fuel and
--- so many seats. Their journal leads from that net to this one, and rewrites no node twice.
+-- that net has them, with this fuel and so many seats. Their journal leads from that net to this
+-- one, and rewrites no node twice.
 pub record IsWorkOn (translation : Translation) (t : Tree) (names : List (List ℕ)) (fuel seats : ℕ)
     (w : ClosedTable) (net : NamedNet NodeName) : Type 0 where
   pub start : Graph

@@ -35,21 +35,16 @@ use Rattle.ol_cli.specs.Demand.{Demands}
 -- ---- the tree that is written
 
 -- What `run` prints of a term, and what holds of the tree whose text it prints. Each of its heads
--- is the one that the term's own
--- translation gives, by paths of any length; in each place without a head it gives none, nor in one
--- that was asked and is cut all the
--- same, as its walk used up its crossings. Beta reduction leads from the term to the tree's own
--- term, with some term in each place that has no head or was cut. Where each place has a head,
--- leftmost reduction of the term ends
--- in the tree's own term, which is a beta-normal form; the text is in the grammar, and read back,
--- with its free names numbered by
--- these, it is the tree's own term, in which no application has an abstraction as its function.
--- Where some place has no head, head
--- reduction of the term in each such place has no end, and leftmost reduction of the whole term
--- ends in no normal form. And whatever
--- is reduced: where each place has a head, the tree's term is the term's one normal form, to which
--- each of its reducts leads; where
--- some place has no head, the term has no normal form.
+-- is the one that the term's own translation gives, by paths of any length; in each place without a
+-- head it gives none, nor in one that was asked and is cut all the same, as its walk used up its
+-- crossings. Beta reduction leads from the term to the tree's own term, with some term in each
+-- place that has no head or was cut. Where each place has a head, leftmost reduction of the term
+-- ends in the tree's own term, which is a beta-normal form; the text is in the grammar, and read
+-- back, with its free names numbered by these, it is the tree's own term, in which no application
+-- has an abstraction as its function. Where some place has no head, head reduction of the term in
+-- each such place has no end, and leftmost reduction of the whole term ends in no normal form. And
+-- whatever is reduced: where each place has a head, the tree's term is the term's one normal form,
+-- to which each of its reducts leads; where some place has no head, the term has no normal form.
 pub record PrintsTree (translation : Translation) (t : Tree) (names : List (List ℕ))
     (fuel heads : ℕ) (text : List ℕ) : Type 0 where
   pub prints : Prints translation t names fuel heads text
@@ -83,8 +78,7 @@ pub record DemandsTree (translation : Translation) (t : Tree) (names : List (Lis
   pub complete : CompleteRunsAreEnough (start_net_of_term translation t names) heads
 
 -- What a job prints of a term, with the facts of its tree, if it prints one. `gen --run` does with
--- the term that it makes what `run`
--- does without options.
+-- the term that it makes what `run` does without options.
 abbrev pub TellsTree : Asked → Tree → List (List ℕ) → List ℕ → Type 0
 TellsTree (run translation workers fuel heads name) t names text = PrintsTree translation t names fuel heads text
 TellsTree (walk translation edges heads name) t names text = WalksTree translation t names edges heads text

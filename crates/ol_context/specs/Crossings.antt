@@ -41,8 +41,7 @@ abbrev pub NoCrossing : Kind → ℕ → ℕ → Context → Type 0
 NoCrossing k i s c = (t : ℕ) (d : Context) → Crosses k i s c t d → ⊥
 
 -- where the walk leaves a node of this kind and index and with which context; None where no
--- crossing is defined, and then
--- nothing is changed
+-- crossing is defined, and then nothing is changed
 abbrev pub IsCrossed : Kind → ℕ → ℕ → List Level → List Level → List ℕ → List ℕ → Option ℕ → Type 0
 IsCrossed k i s old new ns ms None = NoCrossing k i s (context_of old ns) × (ms ≡ ns)
 IsCrossed k i s old new ns ms (Some t) = Crosses k i s (context_of old ns) t (context_of new ms)

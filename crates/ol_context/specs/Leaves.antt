@@ -14,10 +14,9 @@ use Rattle.ol_context.specs.declared.leaf.Fate.{Fate}
 use Rattle.ol_context.specs.declared.leaf.Fate.TheVariants as fate
 
 -- A node of kind k and index i is entered by slot s, with the context F v where the leaf is v, and
--- left by slot t, with the
--- context G v. The leaf stays: it only moves. It gives off an o: G is what is left of it, and with
--- an empty leaf no crossing
--- is defined. It goes: that is so with an empty leaf alone, and no leaf is left.
+-- left by slot t, with the context G v. The leaf stays: it only moves. It gives off an o: G is what
+-- is left of it, and with an empty leaf no crossing is defined. It goes: that is so with an empty
+-- leaf alone, and no leaf is left.
 abbrev pub Moves : Kind → ℕ → ℕ → (Level → Context) → (Level → Context) → Context → ℕ → Fate → Type 0
 Moves k i s F G c t fate.Stays = (v : Level) → Crosses k i s (F v) t (G v)
 Moves k i s F G c t fate.Grows = ((v : Level) → Crosses k i s (F (o v)) t (G v)) × NoCrossing k i s (F empty)

@@ -19,8 +19,8 @@ filled vs [] v = v
 filled vs (p ∷ ps) v = filled vs ps (wrapped vs p v)
 
 -- The levels but for the one with the leaf, by their numbers. Which level has the leaf, and the
--- parts round it, the innermost
--- first; None where no leaf is left. And the number of abstractions that the leaf has given off.
+-- parts round it, the innermost first; None where no leaf is left. And the number of abstractions
+-- that the leaf has given off.
 pub record Open : Type 0 where
   pub levels : List ℕ
   pub leaf : Option (ℕ × List Around)

@@ -25,16 +25,15 @@ IsOpenExit vs (walk.Undefined n' k') n q d k = ⊥
 IsOpenExit vs (walk.Budget n') n q d k = ⊥
 
 -- An exit with n abstractions comes exactly where the walk that asks for n leaves within the
--- crossings, by that port with that
--- context and in that number of crossings, and each that asks for fewer breaks off.
+-- crossings, by that port with that context and in that number of crossings, and each that asks for
+-- fewer breaks off.
 abbrev pub OpenExitsExactly : NamedNet ℕ → ℕ → List Level → ℕ → List Level → OpenWalk → Type 0
 OpenExitsExactly N p ls edges vs w =
     (n q : ℕ) (d : Context) (k : ℕ) → IsOpenExit vs w n q d k ↔
     (Exits N (free p) (asked ls n) edges q d k × AllBelowBreakOff N p ls edges n)
 
 -- Budget with n abstractions comes exactly where the walk that asks for n stands at a node after
--- all crossings, and each that
--- asks for fewer breaks off.
+-- all crossings, and each that asks for fewer breaks off.
 abbrev pub OpenStandsExactly : NamedNet ℕ → ℕ → List Level → ℕ → OpenWalk → Type 0
 OpenStandsExactly N p ls edges w = (n : ℕ) →
     (w ≡ walk.Budget n) ↔ (WalkStands N (free p) (asked ls n) edges × AllBelowBreakOff N p ls edges n)
@@ -47,8 +46,7 @@ pub record AllBreakOff (N : NamedNet ℕ) (p : ℕ) (ls : List Level) (edges n k
   pub least : (m : ℕ) → m < n → BreaksOff N p ls edges m k → ⊥
 
 -- Undefined comes exactly where every walk breaks off, with the greatest number of the crossing at
--- which one does, and the least
--- number of abstractions with which one does there.
+-- which one does, and the least number of abstractions with which one does there.
 abbrev pub OpenStopsExactly : NamedNet ℕ → ℕ → List Level → ℕ → OpenWalk → Type 0
 OpenStopsExactly N p ls edges w = (n k : ℕ) → (w ≡ walk.Undefined n k) ↔ AllBreakOff N p ls edges n k
 

@@ -12,16 +12,14 @@ use Rattle.ol_context.specs.declared.answers.Cross.TheVariants as cross
 use Rattle.ol_context.specs.Open.{Open, IsOpenFor, open_at}
 
 -- The new open context stands for those n of the old one for which P says that the crossing is
--- made, and for the others Q says
--- that none is defined.
+-- made, and for the others Q says that none is defined.
 pub record Narrows (X Y : Open) (P Q : ℕ → Type 0) : Type 0 where
   pub within : (n : ℕ) → IsOpenFor Y n → IsOpenFor X n
   pub made : (n : ℕ) → IsOpenFor Y n → P n
   pub barred : (n : ℕ) → IsOpenFor X n → (IsOpenFor Y n → ⊥) → Q n
 
 -- A node of the net is entered by port p and left by port q: the new open context stands for those
--- n of the old one for which a
--- crossing is defined, with the context there.
+-- n of the old one for which a crossing is defined, with the context there.
 abbrev pub OpenThrough : NamedNet ℕ → NamedPort ℕ → NamedPort ℕ → List Level → List Level → Open → Open → Type 0
 OpenThrough N p q old new X Y = Narrows X Y (λ n. Through N p (open_at old X n) q (open_at new Y n))
     (λ n. IsBarred N p (open_at old X n))

@@ -58,8 +58,7 @@ WalkGoesOn A = (N : NamedNet A) → IsNet N → HasNoFacing N → (p : ℕ) (c :
     2 * live N ≤ edges → WalkStands N (free p) c edges → (n : ℕ) → WalkStands N (free p) c n
 
 -- An exit comes exactly where a path leads to a free port, of any number of crossings: by that
--- port, with the context there,
--- and with the number of crossings.
+-- port, with the context there, and with the number of crossings.
 abbrev pub LeavesExactly : NamedNet ℕ → ℕ → Context → List Level → Walk → Type 0
 LeavesExactly N p c vs w = (q : ℕ) (d : Context) (n : ℕ) →
     IsExit vs w q d n ↔ ((r : Path N (free p) c q d) × (crossings r ≡ n))

@@ -14,8 +14,7 @@ IsExit vs (walk.Undefined n') q d n = ⊥
 IsExit vs walk.Budget q d n = ⊥
 
 -- An exit comes exactly where a path of no more than edges crossings leads to a free port: by that
--- port, with the context
--- there, and with the number of crossings.
+-- port, with the context there, and with the number of crossings.
 abbrev pub ExitsExactly : NamedNet ℕ → ℕ → Context → ℕ → List Level → Walk → Type 0
 ExitsExactly N p c edges vs w = (q : ℕ) (d : Context) (n : ℕ) → IsExit vs w q d n ↔ Exits N (free p) c edges q d n
 

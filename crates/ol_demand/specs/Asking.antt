@@ -18,8 +18,7 @@ use Rattle.ol_demand.specs.Demands.{Asking, asks, place_of, next, Turns, GoesOn}
 use Rattle.ol_demand.specs.Answers.{start_of, StopsOnTheWay}
 
 -- Names of all numbers: a start node's number names it, a greater number has a later name, and from
--- next on come the nodes that
--- this ticket will make.
+-- next on come the nodes that this ticket will make.
 pub record IsNaming (start next ticket : ℕ) (m : ℕ → NodeName) : Type 0 where
   pub room : start ≤ next
   pub initial : (k : ℕ) → k < start → m k ≡ Init k
@@ -52,9 +51,8 @@ pub record IsRunning (g : Graph) (run : UnderWay) (fuel : ℕ) : Type 0 where
   pub few : length g.nodes + 4 * fuel ≤ 2000000000 + 4 * length run.journal
 
 -- Whatever demand run it is, if the first subterm that is left has the last of the frames F and is
--- asked for no abstraction yet,
--- P holds of the graph it began with, of the number of heads, of the places, the other frames, this
--- subterm and the later ones.
+-- asked for no abstraction yet, P holds of the graph it began with, of the number of heads, of the
+-- places, the other frames, this subterm and the later ones.
 abbrev pub Whatever : Graph → UnderWay → List Frame →
     (Graph → ℕ → List ReadNode → List Frame → Subterm → List Subterm → Type 0) → Type 0
 Whatever g run F P =

@@ -19,8 +19,7 @@ abbrev pub IsAtNoPair : {A : Type 0} → NamedNet A → NamedPort A → Type 0
 IsAtNoPair {A} N p = (f g : A) (r : Rule) → IsAtPair N p f g r → ⊥
 
 -- From the free port p with context c, n crossings were made, of at most twice as many as there are
--- nodes, and no active pair
--- was met before: the last node was left by this port with this context.
+-- nodes, and no active pair was met before: the last node was left by this port with this context.
 pub data Chain {A : Type 0} (N : NamedNet A) (p : ℕ) (c : Context) : ℕ → NamedPort A → Context → Type 0 where
   starts : Chain N p c 0 (free p) c
   crosses : {n : ℕ} {u : NamedPort A} {d e : Context} {x : A} {k : Kind} {i s t : ℕ} →
@@ -29,8 +28,7 @@ pub data Chain {A : Type 0} (N : NamedNet A) (p : ℕ) (c : Context) : ℕ → N
       Chain N p c (suc n) (slot x t) e
 
 -- How it ends: it stands on the link of an active pair, or at a free port, or its next crossing
--- isn't defined, or this would be
--- one crossing too many.
+-- isn't defined, or this would be one crossing too many.
 pub data End (A : Type 0) : Type 0 where
   met : A → A → Rule → End A
   left : ℕ → Context → End A

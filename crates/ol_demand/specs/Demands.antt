@@ -16,8 +16,7 @@ use Rattle.ol_readback.specs.declared.answers.ReadNode.TheVariants as node
 use Rattle.ol_demand.specs.Chains.{End, met, left, undefined, budget, Ends}
 
 -- What is to be read: the frames of the places before, the subterms that are left, in preorder, and
--- the number of abstractions
--- for which the first of them is asked next.
+-- the number of abstractions for which the first of them is asked next.
 pub record Asking : Type 0 where
   pub frames : List Frame
   pub waiting : List Subterm
@@ -64,10 +63,9 @@ next F s ss no_head = asks (F ++ framed s 0 ∷ []) ss 0
 next F s ss answer.budget = asks (F ++ framed s 0 ∷ []) ss 0
 
 -- One turn, in net M: entries written down, places found, the net after it, and what is to be read
--- then. A pair that was met is
--- rewritten, and the same is asked again. Where a crossing wasn't defined, one abstraction more is
--- asked for, as long as there
--- are fewer than nodes. Else a place was found.
+-- then. A pair that was met is rewritten, and the same is asked again. Where a crossing wasn't
+-- defined, one abstraction more is asked for, as long as there are fewer than nodes. Else a place
+-- was found.
 pub data Turn (heads : ℕ) (M : NamedNet NodeName) (ticket : ℕ) : Asking → List Entry →
     List ReadNode → NamedNet NodeName → Asking → Type 0 where
   rewrites : {F : List Frame} {s : Subterm} {ss : List Subterm} {n : ℕ} {e : Entry} {P : NamedNet NodeName} →

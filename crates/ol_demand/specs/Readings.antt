@@ -8,8 +8,7 @@ use Rattle.ol_demand.specs.Asking.{IsUnderWay, IsLeftOff}
 use Rattle.ol_rules.specs.declared.under_way.UnderWay.{UnderWay}
 
 -- The fuel is that with which it began from graph g, and the run has made turns of the demand run
--- from there, which is to read
--- what the reading is to read.
+-- from there, which is to read what the reading is to read.
 pub record IsReadByChains (g : Graph) (fuel : ℕ) (g' : Graph) (run : UnderWay) (fuel' : ℕ) (heads : ℕ)
     (r : Reading) : Type 0 where
   pub same_fuel : fuel' ≡ fuel

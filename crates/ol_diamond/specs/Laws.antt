@@ -1,6 +1,5 @@
 -- Strong confluence (Lafont, Interaction Nets, 1990): over birth names a step depends on its pair
--- alone, and so the order of
--- steps doesn't matter.
+-- alone, and so the order of steps doesn't matter.
 use Rattle.std.specs.Prelude.{◌≡◌, ◌≢◌, ℕ, ◌≤◌, ◌↔◌, List, ◌∷◌, ◌++◌, length, count_by, Bool}
 use Rattle.ol_edges.specs.Edges.{IsIn}
 use Rattle.ol_net.specs.declared.parts.Kind.{Kind}
@@ -44,8 +43,7 @@ DoneMeansDone = (N : NamedNet BirthName) → IsBirthNet N →
     IsComplete N ↔ ((p : BirthPair) (M : NamedNet BirthName) → IsPairStep N p M → ⊥)
 
 -- A pair that is active now stands in each complete run, and the run with this pair moved to its
--- front is complete and leaves the
--- same net.
+-- front is complete and leaves the same net.
 abbrev pub PairToFront : Type 0
 PairToFront = (N K M : NamedNet BirthName) (p : BirthPair) (ps : List BirthPair) → IsBirthNet N →
     IsPairStep N p K → IsPairRun N ps M → IsComplete M →
@@ -103,8 +101,7 @@ pub record RunByBirths (N : NamedNet NodeName) (journal : List Entry) (M : Named
   pub apart : (x y : NodeName) (k l : Kind) (i j : ℕ) → HasNode M x k i → HasNode M y l j → birth x ≡ birth y → x ≡ y
 
 -- A run along a journal from a net of start nodes is, entry by entry, a run by birth names, and its
--- net is that run's net under
--- these names.
+-- net is that run's net under these names.
 abbrev pub BirthFollows : Type 0
 BirthFollows = (N M : NamedNet NodeName) (journal : List Entry) → IsNet N → AreNamedBefore N 0 →
     IsRun N 0 journal M → RunByBirths N journal M

@@ -1,6 +1,5 @@
 -- Any run, whatever pairs it takes first, tells of the one-thread run: whether it ends within the
--- fuel, how many steps it has and how
--- often each rule, and its last net.
+-- fuel, how many steps it has and how often each rule, and its last net.
 use Rattle.std.specs.Prelude.{◌≡◌, ℕ, ◌≤◌, ◌<◌, ◌↔◌, List, length}
 use Rattle.ol_net.specs.declared.parts.Kind.{Kind}
 use Rattle.ol_net.specs.declared.parts.Rule.{Rule}
@@ -14,8 +13,7 @@ use Rattle.ol_net.specs.Pairs.{IsComplete, HasActive}
 use Rattle.ol_diamond.specs.Laws.{RunByBirths}
 
 -- The last nets of two runs from N are one net under birth names, which tell what made a node and
--- not when. No two nodes of a net have
--- one birth name (`apart` of each run by births).
+-- not when. No two nodes of a net have one birth name (`apart` of each run by births).
 pub record AreOneByBirths (N : NamedNet NodeName) (journal : List Entry) (M : NamedNet NodeName)
     (journal' : List Entry) (M' : NamedNet NodeName) : Type 0 where
   pub births : RunByBirths N journal M
@@ -28,8 +26,7 @@ pub record IsWritten (names : NodeName → NodeName) (M M' : NamedNet NodeName) 
   pub same : SameNet (net_under names M) M'
 
 -- Two runs from N have as many steps and each rule as often, and their last nets are one: some
--- names write the first as the second,
--- and they take each node to that of the same birth.
+-- names write the first as the second, and they take each node to that of the same birth.
 pub record RunsAgree (N : NamedNet NodeName) (journal : List Entry) (M : NamedNet NodeName)
     (journal' : List Entry) (M' : NamedNet NodeName) : Type 0 where
   pub steps : length journal' ≡ length journal

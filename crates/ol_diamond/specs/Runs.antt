@@ -37,8 +37,7 @@ abbrev pub pair_under : (NodeName → BirthName) → Entry → BirthPair
 pair_under birth e = record { f = birth e.first; g = birth e.second; rule = e.rule }
 
 -- These are the pairs of the entries from this ticket on, one for each and in order, and the nodes
--- that each entry made are
--- named by its pair.
+-- that each entry made are named by its pair.
 abbrev pub AreBirths : (NodeName → BirthName) → ℕ → List Entry → List BirthPair → Type 0
 AreBirths birth ticket [] [] = Unit {0}
 AreBirths birth ticket (e ∷ es) (p ∷ ps) =

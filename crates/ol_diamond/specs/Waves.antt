@@ -38,10 +38,8 @@ module _ {A : Type 0} (names : ℕ → A) (f g : A) (k l : Kind) (a : Action) (w
   LeftWithin within n = Contracted (Edge (within n) (IsPrincipalOf f g) (JoinWithin n)) (IsSlotOf f g)
 
 -- The step of an active pair between nets with weights. Its wave is one more than the weight of the
--- link of its two nodes. Of two
--- edges that become one the greater weight stays: a link weighs n at most exactly where its ports
--- were joined by edges that weigh
--- n at most.
+-- link of its two nodes. Of two edges that become one the greater weight stays: a link weighs n at
+-- most exactly where its ports were joined by edges that weigh n at most.
 pub record IsWaveStep {A : Type 0} (names : ℕ → A) (N : WeightedNet A) (f g : A) (r : Rule)
     (wave : ℕ) (M : WeightedNet A) : Type 0 where
   pub step : IsStep names N.net f g r M.net

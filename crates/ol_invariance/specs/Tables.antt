@@ -10,8 +10,7 @@ use Rattle.ol_net.specs.declared.parts.Rule.{Rule}
 use Rattle.ol_rules.specs.Rewriting.{index_after}
 
 -- Where a node of kind k and index i crosses one of index i + n + 1, the copies of that other have
--- the index of the level
--- to which a crossing of the first moves its level.
+-- the index of the level to which a crossing of the first moves its level.
 abbrev pub IndexesAgree : Type 0
 IndexesAgree = (k : Kind) (r : Rule) (i n : ℕ) → crossed k ≡ Some r → index_after r (i + suc n) ≡ i + shift k n
 

@@ -18,8 +18,7 @@ outer (app t s) = 0
 -- ---- head normal forms
 
 -- A variable or a name with j arguments after it: its wire, level 0 of that wire at the term's
--- interface (a mark for each argument
--- that has this wire too, over empty), and j.
+-- interface (a mark for each argument that has this wire too, over empty), and j.
 pub data Spine : Tree → Wire → Level → ℕ → Type 0 where
   head_var : {y : ℕ} → Spine (var y) (bound y) empty 0
   head_free : {f : ℕ} → Spine (free f) (name f) empty 0
@@ -27,8 +26,8 @@ pub data Spine : Tree → Wire → Level → ℕ → Type 0 where
       Spine (app R P) y w (suc j)
 
 -- From the interface of an abstraction's body to the abstraction's own: the place and level 0
--- inside, and those outside. The body's
--- root is the root below an o, the wire of the abstraction's variable the root below a star.
+-- inside, and those outside. The body's root is the root below an o, the wire of the abstraction's
+-- variable the root below a star.
 pub data OutOf : Place → Level → Place → Level → Type 0 where
   up_root : {v w : Level} → w ≡ o v → OutOf root v root w
   up_own : {x : Wire} {a w : Level} → x ≡ bound 0 → w ≡ star a → OutOf (wire x) a root w
@@ -57,8 +56,7 @@ SameAlong τ (step h s) p v v' = (w : Level) × Same τ h p v w × SameAlong τ 
 -- ---- where the root of a head normal form leads
 
 -- With o^k.u at the root of a head normal form of k abstractions one comes to its head's place,
--- past as many applications as it has
--- arguments, j; level 1 is o^j.u there. One comes nowhere else.
+-- past as many applications as it has arguments, j; level 1 is o^j.u there. One comes nowhere else.
 abbrev pub HeadPath : Type 0
 HeadPath = (τ : Translation) (t : Tree) (q : Place) (a u : Level) (j : ℕ) (c : Context) →
     Normal t q a j →
@@ -79,10 +77,8 @@ NormalOrStep = (t : Tree) →
 -- ---- where the root of any term leads
 
 -- Where o^n.empty leads from the root to another place, by a trail of weight w, at most w head
--- steps lead to a head normal form. It
--- has at most n abstractions, and the place is that of its head: level 0 is the same along the
--- steps, and level 1 tells the number
--- of arguments.
+-- steps lead to a head normal form. It has at most n abstractions, and the place is that of its
+-- head: level 0 is the same along the steps, and level 1 tells the number of arguments.
 abbrev pub HeadFound : Type 0
 HeadFound = (τ : Translation) (t : Tree) (p : Place) (v : Level) (c d : Context) (n w : ℕ) →
     Leads τ t (at root (os n empty) c) (at p v d) w →
@@ -99,8 +95,7 @@ ExitIsHead = (τ : Translation) (t u : Tree) (m : ℕ) (s : Steps t u m) (p q : 
     × (d ≡ cons (os (j + e) empty) c)
 
 -- Where head steps lead to a head normal form of k abstractions, o^k.empty leads from the root of
--- the first term to the head's
--- place, and o^n.empty leads nowhere for n less than k.
+-- the first term to the head's place, and o^n.empty leads nowhere for n less than k.
 abbrev pub HeadIsFound : Type 0
 HeadIsFound = (τ : Translation) (t u : Tree) (m : ℕ) (s : Steps t u m) (q : Place) (a : Level)
     (j : ℕ) (c : Context) → Normal u q a j →
@@ -110,8 +105,7 @@ HeadIsFound = (τ : Translation) (t u : Tree) (m : ℕ) (s : Steps t u m) (q : P
     n < outer u → Leads τ t (at root (os n empty) c) (at p v d) w → ⊥)
 
 -- Of the least n for which o^n.empty leads from the root to another place: n is the number of
--- abstractions of the head normal form,
--- and level 1 tells its number of arguments, j, as o^j.empty.
+-- abstractions of the head normal form, and level 1 tells its number of arguments, j, as o^j.empty.
 abbrev pub LeastIsHead : Type 0
 LeastIsHead = (τ : Translation) (t : Tree) (p : Place) (v : Level) (c d : Context) (n w : ℕ) →
     Leads τ t (at root (os n empty) c) (at p v d) w →
@@ -143,10 +137,9 @@ abbrev pub Stands : Type 1
 Stands = Place → Level → Context → Place → Level → Context → Type 0
 
 -- Where a spot of the interface of P, argument i, stands at that of the application R P whose last
--- argument it is; w is the value of
--- P's box. P's root stands at the wire of the head, level 1 is o^i and a star over w, and P's own
--- levels come after it. A wire of P
--- is packed with w and marked; its later levels stay.
+-- argument it is; w is the value of P's box. P's root stands at the wire of the head, level 1 is
+-- o^i and a star over w, and P's own levels come after it. A wire of P is packed with w and marked;
+-- its later levels stay.
 pub data HatLast (τ : Translation) (R P : Tree) (y : Wire) (a : Level) (i : ℕ) (w : Level) :
     Place → Level → Context → Place → Level → Context → Type 0 where
   hat_root : {z : Wire} {v b : Level} {c d : Context} →
@@ -174,8 +167,8 @@ StandsAt τ (earlier {Q = Q} s k) w = HatEarlier Q (StandsAt τ k w)
 StandsAt τ (inner k) w = HatInner (StandsAt τ k w)
 
 -- An argument is as a term of its own. What a spot of its interface leads to in the argument, that
--- it leads to in the head normal
--- form, past as many applications or more; and all that it leads to there is that.
+-- it leads to in the head normal form, past as many applications or more; and all that it leads to
+-- there is that.
 abbrev pub BelowHead : Type 0
 BelowHead = (τ : Translation) (u P : Tree) (i : ℕ) (k : Arg u i P) (w : Level) (p q : Place)
     (v b : Level) (c d : Context) →
@@ -188,8 +181,7 @@ BelowHead = (τ : Translation) (u P : Tree) (i : ℕ) (k : Arg u i P) (w : Level
     × (n : ℕ) × (n ≤ n') × Leads τ P (at p v c) (at p' v' c') n)
 
 -- each spot of the argument's interface stands at one of the head normal form, with a level 0 that
--- the wire has, and no two stand at
--- the same
+-- the wire has, and no two stand at the same
 abbrev pub HatIsOne : Type 0
 HatIsOne = (τ : Translation) (u P : Tree) (i : ℕ) (k : Arg u i P) (w : Level) →
     ((v : Level) (c : Context) → (q : Place) × (b : Level) × (d : Context)

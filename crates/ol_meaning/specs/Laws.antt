@@ -11,8 +11,7 @@ LiftKeeps = (τ : Translation) (t : Tree) (d i : ℕ) (s s' : Spot) (w : ℕ) �
     Edge τ t s s' w → Edge τ (lift d i t) (lifted d i s) (lifted d i s') w
 
 -- An edge of the cut, taken either way round from a spot that M[N] holds, is a trail of M[N] of the
--- same weight, to a spot that
--- holds the edge's other end.
+-- same weight, to a spot that holds the edge's other end.
 abbrev pub CutIsHeld : Type 0
 CutIsHeld = (τ : Translation) (N M : Tree) (i : ℕ) (c c' : Cut) (z : Spot) (n : ℕ) →
     Held τ N M i c z →
@@ -47,10 +46,9 @@ CutCloses = (τ : Translation) (N M : Tree) (s : Spot) (c c' : Cut) (n : ℕ) �
     × Trail (Edge τ (app (lam M) N)) s s' m)
 
 -- A head step keeps where the interface leads to. A trail of t from one of its interface's spots to
--- another is one of t', between
--- the same places with values that are the same, with the same later levels, and of no more weight.
--- It is of less weight where it
--- begins at the root with a value that passes all outer abstractions.
+-- another is one of t', between the same places with values that are the same, with the same later
+-- levels, and of no more weight. It is of less weight where it begins at the root with a value that
+-- passes all outer abstractions.
 abbrev pub HeadKeeps : Type 0
 HeadKeeps = (τ : Translation) (t t' : Tree) (h : HeadStep t t') (p q : Place) (v v' w : Level)
     (c d : Context) (n : ℕ) →

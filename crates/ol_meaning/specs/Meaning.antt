@@ -42,8 +42,8 @@ WholeTermIsSeen = (τ : Translation) (t : Tree) (names : ℕ) → HasNames t nam
     IsSeen τ (translation_of τ t names) [] 0 [] t WholeSeats
 
 -- Where P is seen, head steps lead from it to a head normal form u, and the wire of u's head leaves
--- by port q behind levels ms,
--- there argument i of u is seen: behind ms and the level of argument i, with P's frame round it.
+-- by port q behind levels ms, there argument i of u is seen: behind ms and the level of argument i,
+-- with P's frame round it.
 abbrev pub ArgIsSeen : Type 0
 ArgIsSeen = (τ : Translation) (N : NamedNet ℕ) (ch : Chain) (f : Frame) (t P : Tree)
     (p : Within t P) → IsSeen τ N ch f.port f.levels P (seats_of τ p) →
@@ -60,8 +60,7 @@ pub record IsSeenAt (τ : Translation) {t P : Tree} (N : NamedNet ℕ) (F : List
   pub seen : IsSeen τ N ch s.port s.levels P (seats_of τ p)
 
 -- A path that its frame has, asked for some number of abstractions, crosses at least as many
--- applications as head steps lead from it
--- to a head normal form.
+-- applications as head steps lead from it to a head normal form.
 abbrev pub HeadIsReachedSoon : Type 0
 HeadIsReachedSoon = (τ : Translation) (N : NamedNet ℕ) (F : List Frame) (s : Subterm) (ch : Chain)
     (t P : Tree) (p : Within t P) → IsSeenAt τ N F s ch p →
@@ -69,8 +68,7 @@ HeadIsReachedSoon = (τ : Translation) (N : NamedNet ℕ) (F : List Frame) (s : 
     (u : Tree) × (m : ℕ) × (m ≤ applications r) × Steps P u m × IsHeadNormal u
 
 -- The head of its frame, by paths of any length, is that of a head normal form which head steps
--- lead to: so many abstractions, this
--- variable, and so many arguments.
+-- lead to: so many abstractions, this variable, and so many arguments.
 abbrev pub HeadIsReached : Type 0
 HeadIsReached = (τ : Translation) (N : NamedNet ℕ) (F : List Frame) (s : Subterm) (ch : Chain)
     (t P : Tree) (p : Within t P) → IsSeenAt τ N F s ch p →
@@ -106,17 +104,15 @@ ShownIsNormalForm = (t : Tree) (lost_too : Bool) (T : Part true) → Shows lost_
     LeftmostReduces t (term_of T) × IsNormal (term_of T)
 
 -- Where some place of the tree has no head, and the tree says that such places are endless,
--- leftmost reduction of the term ends in no
--- beta-normal form.
+-- leftmost reduction of the term ends in no beta-normal form.
 abbrev pub ShownHasNoEnd : Type 0
 ShownHasNoEnd = (t : Tree) (T : Part true) → Shows true [] 0 T t → LacksHead (preorder T) →
     (v : Tree) → LeftmostReduces t v → IsNormal v → ⊥
 
 -- What the places of a tree say of a term: it reduces to the tree's term, with some term in the
--- place of each hole; and where each
--- place has a head, its leftmost reduction ends in the tree's term, which is a beta-normal form.
--- Where lost_too is true and some
--- place has no head, its leftmost reduction ends in no beta-normal form.
+-- place of each hole; and where each place has a head, its leftmost reduction ends in the tree's
+-- term, which is a beta-normal form. Where lost_too is true and some place has no head, its
+-- leftmost reduction ends in no beta-normal form.
 pub record SaysOf (t : Tree) (lost_too : Bool) (ns : List ReadNode) : Type 0 where
   pub tree : Part true
   pub is_list : preorder tree ≡ ns

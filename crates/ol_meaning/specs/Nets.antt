@@ -10,9 +10,8 @@ use Rattle.ol_meaning.specs.Spots.{Tree, Level, empty, Context, cons, tail}
 use Rattle.ol_meaning.specs.Heads.{os, outer, Normal, Steps, SameAlong}
 
 -- In this net of either translation, where a path leads from the root's free port, with o^n.empty
--- on level 0, to free port q, at most as many head steps as
--- it crosses applications lead from the term to a head normal form. It has at most n abstractions,
--- and its head leaves at q's place.
+-- on level 0, to free port q, at most as many head steps as it crosses applications lead from the
+-- term to a head normal form. It has at most n abstractions, and its head leaves at q's place.
 abbrev pub FindsHeads : Translation → NamedNet ℕ → Tree → Type 0
 FindsHeads τ N t = (q n : ℕ) (c d : Context) → c 0 ≡ os n empty → (r : Path N (free 0) c q d) →
     (u : Tree) × (m : ℕ) × (s : Steps t u m) × (m ≤ applications r) × (a : Level) × (j : ℕ)
@@ -26,8 +25,7 @@ PathFindsHead = (τ : Translation) (t : Tree) (names : ℕ) → HasNames t names
     FindsHeads τ (translation_of τ t names) t
 
 -- And where head steps lead to a head normal form of k abstractions, whose head leaves at the place
--- of a free port, such a path is
--- there, with o^k.empty on level 0.
+-- of a free port, such a path is there, with o^k.empty on level 0.
 abbrev pub HeadHasPath : Type 0
 HeadHasPath = (τ : Translation) (t : Tree) (names : ℕ) → HasNames t names →
     (u : Tree) (m : ℕ) (s : Steps t u m) (q : ℕ) (a : Level) (j : ℕ) →

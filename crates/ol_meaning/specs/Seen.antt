@@ -60,11 +60,9 @@ abbrev pub Seats : Type 1
 Seats = Place → Level → Context → ℕ → Context → Type 0
 
 -- Subterm P, with these frames round it, is seen in the net at free port p behind these levels.
--- Each spot of its root stands there, and
--- each of its wires stands where the binder's or the name's exits are; no two stand at the same,
--- nor one at two. From where a spot
--- stands the paths lead to just those exits at which the spots stand that it leads to in P alone,
--- where it crosses no more
+-- Each spot of its root stands there, and each of its wires stands where the binder's or the name's
+-- exits are; no two stand at the same, nor one at two. From where a spot stands the paths lead to
+-- just those exits at which the spots stand that it leads to in P alone, where it crosses no more
 -- applications than the path.
 pub record IsSeen {A : Type 0} (τ : Translation) (N : NamedNet A) (ch : Chain) (p : ℕ)
     (ls : List Level) (P : Tree) (S : Seats) : Type 0 where
@@ -97,8 +95,7 @@ ArgSeats τ s k S x v c q X =
 -- ---- subterms of a term
 
 -- How one comes from a term to what its tree's places show: to the term itself, and to an argument
--- of a head normal form, to which
--- head steps lead from one that one came to before.
+-- of a head normal form, to which head steps lead from one that one came to before.
 pub data Within (t : Tree) : Tree → Type 0 where
   whole : Within t t
   argument : {P u Q : Tree} {m i : ℕ} → Within t P → Steps P u m → Arg u i Q → Within t Q

@@ -1,6 +1,5 @@
 -- What a printed tree says of a term, by head reduction, beta reduction and leftmost reduction
--- (Barendregt, The Lambda Calculus,
--- 1984, chapters 3, 8 and 13).
+-- (Barendregt, The Lambda Calculus, 1984, chapters 3, 8 and 13).
 use Rattle.std.specs.Prelude.{◌≡◌, ℕ, suc, ◌+◌, Bool, true, false, List, [], ◌∷◌, ◌++◌, length, replicate}
 use Rattle.std.specs.Prelude.{Some, IsSome}
 use Rattle.ol_term.specs.Trees.{Tree, var, free, lam, app}
@@ -80,10 +79,9 @@ LacksHead (node.NoHead ∷ ns) = Unit {0}
 LacksHead (n ∷ ns) = LacksHead ns
 
 -- The term is the tree's own, with some term in the place of each hole: where a place was cut, and
--- where it has no head. Where
--- lost_too is true, head reduction of the term in the place of the latter has no end. The part
--- begins at place i; ss are the
--- places round it, with their abstractions.
+-- where it has no head. Where lost_too is true, head reduction of the term in the place of the
+-- latter has no end. The part begins at place i; ss are the places round it, with their
+-- abstractions.
 abbrev pub Fills : {b : Bool} → Bool → List (ℕ × ℕ) → ℕ → Part b → Shown b → Type 0
 Fills lost_too ss i (term l v ts) t =
     (Ps : List Tree) × (t ≡ abstracted l (applied (variable_of ((i, l) ∷ ss) v) Ps))
@@ -96,8 +94,7 @@ Fills lost_too ss i (more t ts) (P ∷ Ps) = Fills lost_too ss i t P
     × Fills lost_too ss (i + length (preorder t)) ts Ps
 
 -- The tree shows the term: the same with head reduction at each head in the place of equality, so
--- that each head is that of a head
--- normal form of the subterm at its place.
+-- that each head is that of a head normal form of the subterm at its place.
 abbrev pub Shows : {b : Bool} → Bool → List (ℕ × ℕ) → ℕ → Part b → Shown b → Type 0
 Shows lost_too ss i (term l v ts) t =
     (Ps : List Tree) × HeadReduces t (abstracted l (applied (variable_of ((i, l) ∷ ss) v) Ps))

@@ -97,8 +97,7 @@ pub data Tag : Type 0 where
   ofN : Level → Wire → Level → Tag
 
 -- Which wire of M[N], with which level 0, a wire of the cut is. An occurrence keeps the values of
--- the boxes round it; marks of
--- fans, and what is packed, follow the new term.
+-- the boxes round it; marks of fans, and what is packed, follow the new term.
 pub data WireOf (τ : Translation) (N : Tree) : Tree → ℕ → Tag → Wire → Level → Type 0 where
   same : {M : Tree} {i : ℕ} {y z : Wire} {a : Level} →
       wire_without i y ≡ Some z → occurs z (lift 0 i N) ≡ false → occurs y M ≡ true →
@@ -177,8 +176,7 @@ IsSpotOf τ N (fun s) = Unit {0}
 IsSpotOf τ N (arg v s) = Unit {0}
 
 -- Which spot of the cut of M with N at variable 0 a spot of the redex (lam M) N is: the two nodes
--- of the redex fall away. Spots
--- of N are spoken of only where the variable occurs in M.
+-- of the redex fall away. Spots of N are spoken of only where the variable occurs in M.
 pub data Opens (τ : Translation) (N M : Tree) : Spot → Cut → Type 0 where
   in_m : {s : Spot} → Opens τ N M (fun (body s)) (inM s)
   in_n : {w : Level} {s : Spot} → occurs (bound 0) M ≡ true → IsSpotOf τ N s →

@@ -14,8 +14,7 @@ pub data SameRedex (τ : Translation) (M N : Tree) : Place → Level → Level �
       WireOf τ N M 0 (ofN v y b) y a' → SameRedex τ M N (wire y) w a'
 
 -- under an abstraction, where S says it of the body: at the root, the body's root stands below an
--- o, and the wire of the
--- abstraction's own variable below a star
+-- o, and the wire of the abstraction's own variable below a star
 pub data SameBelow (S : Place → Level → Level → Type 0) : Place → Level → Level → Type 0 where
   below_o : {v v' : Level} → S root v v' → SameBelow S root (o v) (o v')
   below_star : {a a' : Level} → S (wire (bound 0)) a a' → SameBelow S root (star a) (star a')

@@ -48,8 +48,7 @@ abbrev pub doubled : Tree
 doubled = app (term.free 0) (term.free 0)
 
 -- its net by translation 1, where slot s of the fan is joined to the occurrence in the function,
--- and slot r to the bracket of that in
--- the argument
+-- and slot r to the bracket of that in the argument
 abbrev pub net_of_doubled : (s r : ℕ) → NamedNet ℕ
 net_of_doubled s r = record {
   nodes = (0, kind.App, 0) ∷ (1, kind.Croissant, 0) ∷ (2, kind.Croissant, 1) ∷ (3, kind.Bracket, 0)

@@ -11,8 +11,7 @@ top_index_of (None ∷ nodes) = top_index_of nodes
 top_index_of (Some k ∷ nodes) = max k.1 (top_index_of nodes)
 
 -- A net begins with indexes of at most 100,000,000, the greatest `top` of `build_to`, and each node
--- born may raise the greatest
--- by one. An eraser has index 0.
+-- born may raise the greatest by one. An eraser has index 0.
 pub record HasIndexes (nodes : List (Option (Kind × ℕ))) : Type 0 where
   pub top : top_index_of nodes ≤ 100000000 + length nodes
   pub erasers : (x : ℕ) (k : Kind × ℕ) → kind_at nodes x ≡ Some k → is_eraser k.0 ≡ true → k.1 ≡ 0

@@ -33,8 +33,7 @@ born_ends p [] = []
 born_ends p (k ∷ ks) = all_ends (Born p) k.0 ++ born_ends (p + 1) ks
 
 -- the open ends of a replacement: the slots of the two nodes that go, but the principal ones, and
--- all slots of those that
--- come
+-- all slots of those that come
 abbrev pub open_ends : Option (Kind × ℕ) → Option (Kind × ℕ) → List (Kind × ℕ) → List JoinEnd
 open_ends first second born = side_ends First first ++ side_ends Second second ++ born_ends 0 born
 

@@ -48,8 +48,8 @@ abbrev pub IsBorn : (next : ℕ) → List (Kind × ℕ) → ℕ → Kind → ℕ
 IsBorn next born x k i = (p : ℕ) × (x ≡ next + p) × (slice_get born p ≡ Some (k, i))
 
 -- The two nodes go, and those that come have the next numbers. Of the links, those of the two
--- principal ports go, the joins
--- are added as edges, and what is then joined by way of the slots of the two nodes is linked.
+-- principal ports go, the joins are added as edges, and what is then joined by way of the slots of
+-- the two nodes is linked.
 pub record Replaces (old new : Graph) (first second : NodeId) (born : List (Kind × ℕ))
     (joins : List (JoinEnd × JoinEnd)) : Type 0 where
   pub free_ports : new.free ≡ old.free

@@ -27,8 +27,7 @@ abbrev pub by_index : Kind → ℕ → Kind → ℕ → Option Rule
 by_index k i l j = if nat_eq i j then met k l else (if nat_lt i j then crossed k else None)
 
 -- The rule of a node of kind k and index i, which acts, and one of kind l and index j: an eraser
--- acts on any node, and else
--- the one of the lower index acts.
+-- acts on any node, and else the one of the lower index acts.
 abbrev pub rule_of : Kind → ℕ → Kind → ℕ → Option Rule
 rule_of kind.Eraser i l j = Some rule.Erase
 rule_of k i kind.Eraser j = None

@@ -1,8 +1,7 @@
 -- How far a reading has come, and what is known of it each time that a frame was asked. The
--- relations are those of one who asks
--- frames: `reads` says of a reading that began with the first two values how far it has come with
--- the second two, where so many
--- places are asked; `ends`, that it ends without a tree; `stops`, that no memory was found.
+-- relations are those of one who asks frames: `reads` says of a reading that began with the first
+-- two values how far it has come with the second two, where so many places are asked; `ends`, that
+-- it ends without a tree; `stops`, that no memory was found.
 use Rattle.std.specs.Prelude.{◌≡◌, ℕ, ◌+◌, ◌<◌, ◌≤◌, ◌⊎◌, List, [], ◌∷◌, ◌++◌, length, map, Option, Some, None}
 use Rattle.ol_context.specs.Contexts.{Level}
 use Rattle.ol_readback.specs.Frames.{Frame}
@@ -37,8 +36,7 @@ found ns F s ss no_head = so_far (F ++ framed s 0 ∷ []) ss (ns ++ node.NoHead 
 found ns F s ss budget = so_far (F ++ framed s 0 ∷ []) ss (ns ++ node.Cut ∷ [])
 
 -- The frame with the last number of a list, its skips among those of the list: each parent stands
--- before its child, at one of so
--- many free ports, the levels are of this holder.
+-- before its child, at one of so many free ports, the levels are of this holder.
 pub record IsLastAsked (free : ℕ) (vs : List Level) (fs : List listed.Frame)
     (skips : List (Option ℕ)) (at : ℕ) : Type 0 where
   pub list : IsFrameList free vs fs
@@ -46,10 +44,8 @@ pub record IsLastAsked (free : ℕ) (vs : List Level) (fs : List listed.Frame)
   pub last : at + 1 ≡ length fs
 
 -- Whatever reading it is that came so far with s and n, if F are its frames and that of the subterm
--- that is asked next, P holds
--- of what it began with, of the number of places that are asked, of the places, of the frames
--- before, of that subterm and of the
--- later ones.
+-- that is asked next, P holds of what it began with, of the number of places that are asked, of the
+-- places, of the frames before, of that subterm and of the later ones.
 abbrev pub Whatever : {S N : Type 0} → (S → N → S → N → ℕ → Reading → Type 0) → S → N → List Frame →
     (S → N → ℕ → List ReadNode → List Frame → Subterm → List Subterm → Type 0) → Type 0
 Whatever {S} {N} reads s n F P =

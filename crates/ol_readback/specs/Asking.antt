@@ -1,6 +1,5 @@
 -- What asking a frame answers. The net is that of graph g, and old are the values of the frames fs
--- before the call, new those
--- after it.
+-- before the call, new those after it.
 use Rattle.std.specs.Prelude.{◌≡◌, ◌≢◌, ◌↔◌, ℕ, ◌*◌, ◌≤◌, List}
 use Rattle.ol_net.specs.Graph.{Graph}
 use Rattle.ol_net.specs.Numbered.{net_of}

@@ -6,8 +6,7 @@ use Rattle.ol_context.specs.Shapes.{value, AreHeld}
 use Rattle.ol_readback.specs.declared.frames.Frame as code
 
 -- A frame: a free port, the levels that each question to it begins with, the number of the frame
--- round it, and the number
--- of abstractions of the head that was found there.
+-- round it, and the number of abstractions of the head that was found there.
 pub record Frame : Type 0 where
   pub port : ℕ
   pub levels : List Level

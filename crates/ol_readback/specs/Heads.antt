@@ -13,8 +13,7 @@ use Rattle.ol_readback.specs.declared.answers.Head.{Head}
 use Rattle.ol_readback.specs.declared.answers.Head.TheVariants as code
 
 -- What a frame is asked for: abstractions, variable, number of arguments, and the levels that the
--- arguments' frames begin
--- with; or no head; or a walk used up its budget.
+-- arguments' frames begin with; or no head; or a walk used up its budget.
 pub data Answer : Type 0 where
   head : ℕ → HeadVar → ℕ → List Level → Answer
   no_head : Answer

@@ -19,10 +19,9 @@ abbrev pub IsOpen : Context → Level → ℕ → Type 0
 IsOpen X v k = X ≡ levels (v ∷ (os k empty ∷ []))
 
 -- What the exit by port q with context X is against frame i with l abstractions and the frames
--- round it: a variable with k
--- arguments, whose frames begin with levels ls. The nearest frame that fits decides. Where none
--- does, the port isn't the
--- root's and the context is that of a free name, it is the free name of the port.
+-- round it: a variable with k arguments, whose frames begin with levels ls. The nearest frame that
+-- fits decides. Where none does, the port isn't the root's and the context is that of a free name,
+-- it is the free name of the port.
 pub data Matches (frames : List Frame) (q : ℕ) (X : Context) : ℕ → ℕ → HeadVar → ℕ → List Level → Type 0 where
   here : {i l j k : ℕ} {d : Level} → (frame_at frames i).port ≡ q → Fits (frame_at frames i).levels l X j k d →
       Matches frames q X i l (var.Bound i (suc j)) k ((frame_at frames i).levels ++ os j (star d) ∷ [])

@@ -37,8 +37,8 @@ arguments i q ls j (suc k) = record {
 } ∷ arguments i q ls (suc j) k
 
 -- The subterms still to be read, in preorder, give this list, where these frames are those of the
--- places before. The first
--- heads places are asked. Every later one is Cut, and so is one that meets the budget.
+-- places before. The first heads places are asked. Every later one is Cut, and so is one that meets
+-- the budget.
 pub data ReadsBack {A : Type 0} (N : NamedNet A) (heads edges : ℕ) : List Frame → List Subterm →
     List ReadNode → Type 0 where
   end : {frames : List Frame} → ReadsBack N heads edges frames [] []

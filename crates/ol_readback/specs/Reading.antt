@@ -11,8 +11,7 @@ use Rattle.ol_readback.specs.declared.frames.Frame.{Frame}
 use Rattle.ol_readback.specs.declared.groups.Group.{Group}
 
 -- the frames of the places that were read: each parent before its child, at one of so many free
--- ports, their levels of this
--- holder
+-- ports, their levels of this holder
 pub record IsFrameList (free : ℕ) (vs : List Level) (fs : List Frame) : Type 0 where
   pub parents : ParentsFirst (frames_of vs fs)
   pub held : AreHeldFrames vs fs

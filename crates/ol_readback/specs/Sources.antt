@@ -38,8 +38,7 @@ abbrev pub HasHeadsOf : {A : Type 0} → NamedNet A → Bool → List ReadNode �
 HasHeadsOf N lost_too ns = HaveHeadsOf N lost_too [] (whole_term ∷ []) ns
 
 -- In a net without facing pairs, a number of abstractions for which a walk leaves is found among
--- the first ones, as many as
--- there are nodes.
+-- the first ones, as many as there are nodes.
 abbrev pub FewAreEnough : Type 0 → Type 0
 FewAreEnough A = (N : NamedNet A) → IsNet N → HasNoFacing N →
     (p : ℕ) (ls : List Level) (n q : ℕ) (X : Context) → Path N (free p) (asked ls n) q X →
@@ -51,8 +50,7 @@ NoHeadIsNoHead A = (N : NamedNet A) → IsNet N → HasNoFacing N →
     (frames : List Frame) (i edges : ℕ) → IsHeadWithin N frames i edges no_head → IsHead N frames i no_head
 
 -- The heads of a tree are those of each net with the same paths; and where the net that was read
--- has no facing pairs, so are
--- the places without a head.
+-- has no facing pairs, so are the places without a head.
 abbrev pub PrintedHeads : Type 0 → Type 0 → Type 0
 PrintedHeads A B = (N : NamedNet A) (M : NamedNet B) → HaveSamePaths N M → IsNet M →
     (heads edges : ℕ) (ns : List ReadNode) → IsTree M heads edges ns →

@@ -25,8 +25,7 @@ abstracted zero t = t
 abstracted (suc l) t = tree.lam (abstracted l t)
 
 -- The number of binder j of place i, counted from the innermost as 0. These places stand round, the
--- nearest first, each with its
--- number of abstractions, whose first is the outermost.
+-- nearest first, each with its number of abstractions, whose first is the outermost.
 abbrev pub index_of : List (ℕ × ℕ) → ℕ → ℕ → ℕ
 index_of [] i j = 0
 index_of (s ∷ ss) i j = if s.0 == i then s.1 - j else s.1 + index_of ss i j

@@ -37,8 +37,7 @@ pub record AreMarked (w : ClosedTable) (t : ℕ) (marks : List Bool) : Type 0 wh
       → (slice_get marks (rank_of w.plan.parts x) ≡ Some true) ↔ IsNamedBefore w t x
 
 -- The places of the nodes that are left, of those of the first n ranks, in order. `numbers` has a
--- place for each rank: there 1 more than the
--- number of the node, where it is left.
+-- place for each rank: there 1 more than the number of the node, where it is left.
 pub record AreLeft (w : ClosedTable) (n : ℕ) (places numbers : List ℕ) : Type 0 where
   pub long : length numbers ≡ ranks_in w
   pub few : length places ≤ n

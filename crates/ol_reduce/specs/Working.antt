@@ -6,8 +6,7 @@ use Rattle.ol_pool.specs.Weights.{weigh, weigh_given}
 use Rattle.ol_wire.specs.Stand.{SeatState}
 
 -- Each cell that the hand was given in the call was claimed by the seat in the call, as often as it
--- was given: however cells
--- are weighed, the hand was given no more than the seat claimed.
+-- was given: however cells are weighed, the hand was given no more than the seat claimed.
 abbrev pub ClaimsGiven : SeatState → HandState → SeatState → HandState → Type 0
 ClaimsGiven s v t n =
     (claimed : List ℕ) × (t.view.claimed ≡ s.view.claimed ++ claimed)
@@ -20,8 +19,7 @@ HasPut v cells n =
     × ((h : ℕ → ℕ) → weigh h cells ≡ weigh h put + weigh h missing)
 
 -- Each cell that the seat published in the call was put by the hand in the call, or is one of those
--- that are missing. It is
--- said where the count of refused puts doesn't end at its last value.
+-- that are missing. It is said where the count of refused puts doesn't end at its last value.
 abbrev pub PutsPublished : SeatState → HandState → SeatState → HandState → Type 0
 PutsPublished s v t n =
     n.refused < 2 ^ 64 - 1

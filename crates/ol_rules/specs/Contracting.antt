@@ -23,8 +23,7 @@ pub record IsCounted {A : Type 0} (same : A → A → Bool) (N : NamedNet A) : T
   pub once : (p : NamedPort A) → IsPort N p → ends (port_same same) p N.links ≡ 1
 
 -- Where edges end in a step: at a port of the net before it, or at a slot of a copy. The copy of f
--- at slot q + 1 of g is
--- f_copy q, the copy of g at slot p + 1 of f is g_copy p.
+-- at slot q + 1 of g is f_copy q, the copy of g at slot p + 1 of f is g_copy p.
 pub data Vertex (A : Type 0) : Type 0 where
   old : NamedPort A → Vertex A
   f_copy : ℕ → ℕ → Vertex A
@@ -94,10 +93,8 @@ module _ {A : Type 0} (f g : A) where
         (rewritten (born_nodes born k i l (index_after r j)) (crossing_joins (arity k) (arity l)) (arity k) (arity l))
 
 -- The links of M are what is left of the edges, which are the joins and the links of N that stay,
--- once the slots of f and g
--- were taken out one by one. Each slot that goes has two ends of edges, and each other vertex one
--- at most: so the slots can be
--- taken out in any order.
+-- once the slots of f and g were taken out one by one. Each slot that goes has two ends of edges,
+-- and each other vertex one at most: so the slots can be taken out in any order.
 pub record IsContracted {A : Type 0} (same : A → A → Bool) (born : ℕ → A) (N : NamedNet A) (f g : A) (k l : Kind)
     (joins : List (Vertex A × Vertex A)) (M : NamedNet A) : Type 0 where
   pub ready : Ready (vertex_same same) (gone f g (arity k) (arity l)) (joins ++ links_left f g same born N)

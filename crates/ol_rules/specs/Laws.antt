@@ -39,8 +39,7 @@ StepKeepsNet A = (same : A → A → Bool) → IsTest same → (born : ℕ → A
     IsNet N → IsFresh N born → IsStep born N f g r M → IsNet M
 
 -- What a step links is what is left where the slots of its two nodes are taken out, one by one, in
--- a net whose list has each
--- link once.
+-- a net whose list has each link once.
 abbrev pub StepIsContraction : Type 0 → Type 0
 StepIsContraction A = (same : A → A → Bool) → IsTest same → (born : ℕ → A) (N M : NamedNet A) (f g : A) (r : Rule) →
     IsCounted same N → IsFresh N born → (s : IsStep born N f g r M) →

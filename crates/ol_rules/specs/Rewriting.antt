@@ -31,8 +31,7 @@ abbrev pub action_of : Rule → ℕ → Action
 action_of r j = if is_meeting r then meeting else crossing (index_after r j)
 
 -- The joins of a step of f and g. In a crossing the copy of f at slot q + 1 of g has place q, and
--- the copy of g at slot p + 1
--- of f has place arity l + p.
+-- the copy of g at slot p + 1 of f has place arity l + p.
 pub data JoinOf {A : Type 0} (born : ℕ → A) (f g : A) (k l : Kind) (a : Action) : NamedPort A →
     NamedPort A → Type 0 where
   meet : {s : ℕ} → a ≡ meeting → s < arity k → JoinOf born f g k l a (slot f (suc s)) (slot g (suc s))
@@ -50,8 +49,7 @@ pub data NodeOf {A : Type 0} (N : NamedNet A) (born : ℕ → A) (f g : A) (k : 
   of_g : {p : ℕ} (j : ℕ) → a ≡ crossing j → p < arity k → NodeOf N born f g k i l a (born (arity l + p)) l j
 
 -- The two nodes and the link of their slots 0 go, the born nodes come, the joins are added as
--- edges, and what is joined by
--- way of the slots that go is linked.
+-- edges, and what is joined by way of the slots that go is linked.
 pub record Rewrites {A : Type 0} (born : ℕ → A) (N : NamedNet A) (f g : A) (k : Kind) (i : ℕ)
     (l : Kind) (a : Action) (M : NamedNet A) : Type 0 where
   pub free_ports : M.free_ports ≡ N.free_ports

@@ -71,8 +71,7 @@ pub record IsNaming (start : ℕ) (made : List NodeName) (names : ℕ → NodeNa
   pub rising : (j k : ℕ) → j < k → k < start + length made → comes_before (names j) (names k) ≡ true
 
 -- New is old after these leads. The nodes that they made took the next numbers, in the order in
--- which they came, and no other
--- number was given out.
+-- which they came, and no other number was given out.
 pub record LeadsTo (old : Graph) (journal : List Entry) (new : Graph) : Type 0 where
   pub names : ℕ → NodeName
   pub run : IsLeadRun (net_under Init (net_of old)) 0 journal (net_under names (net_of new))

@@ -1,6 +1,5 @@
 -- Spots: where a walk over a term's net can stand, said by the term alone, without nodes and
--- numbers; and what joins them, by each
--- of the two translations.
+-- numbers; and what joins them, by each of the two translations.
 use Rattle.std.specs.Prelude.{◌≡◌, ◌≢◌, ℕ, zero, suc, ◌+◌, ◌==◌, Bool, true, false, ◌||◌, if◌then◌else◌}
 use Rattle.ol_term.specs.declared.translations.Translation.{Translation}
 use Rattle.ol_term.specs.declared.translations.Translation.TheVariants.{One, Two}
@@ -33,8 +32,7 @@ occurs y (lam t) = occurs (under y) t
 occurs y (app t u) = occurs y t || occurs y u
 
 -- Level 0 of wire y at an application's interface, by what it is at the function: where the
--- argument N has this wire too, a
--- fan joins both, and o tells the function's side.
+-- argument N has this wire too, a fan joins both, and o tells the function's side.
 abbrev pub left : Tree → Wire → Level → Level
 left N y a = if occurs y N then o a else a
 
@@ -53,14 +51,12 @@ abbrev pub IsLevelOf : Translation → Tree → Level → Type 0
 IsLevelOf τ N b = is_bare τ N ≡ true → b ≡ empty
 
 -- Level 0 of a wire outside of the argument, by what it is inside, b, and by the value v from which
--- the argument is entered. The
--- bracket of a box packs both; where there is no box, it is v.
+-- the argument is entered. The bracket of a box packs both; where there is no box, it is v.
 abbrev pub boxed : Bool → Level → Level → Level
 boxed bare b v = if bare then v else pair b v
 
 -- Level 0 of wire y at an application's interface, by what it is at the argument N: a star tells
--- the argument's side where the
--- function M has this wire too.
+-- the argument's side where the function M has this wire too.
 abbrev pub right : Translation → Tree → Tree → Wire → Level → Level → Level
 right τ M N y b v = if occurs y M then star (boxed (is_bare τ N) b v) else boxed (is_bare τ N) b v
 

@@ -90,8 +90,7 @@ past_brackets b [] = []
 past_brackets b (w ∷ wires) = (w.0, slot_port b 0) ∷ past_brackets (b + 1) wires
 
 -- a fan n for a variable that is free in both: slot_port 1 with its wire from M, slot_port 2 with
--- its bracket, slot_port 0 towards the
--- binder
+-- its bracket, slot_port 0 towards the binder
 abbrev pub fan_nodes : (n : ℕ) → Option Port → List (Kind × ℕ)
 fan_nodes n None = []
 fan_nodes n (Some p) = (kind.Fan, n) ∷ []

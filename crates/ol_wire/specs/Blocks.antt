@@ -1,6 +1,6 @@
 -- What the seat that draws a ticket writes into its block, and the links that it has to make. In a
--- crossing of f and g the copy of f at slot
--- q + 1 of g is born at place q, and the copy of g at slot p + 1 of f behind these.
+-- crossing of f and g the copy of f at slot q + 1 of g is born at place q, and the copy of g at
+-- slot p + 1 of f behind these.
 use Rattle.std.specs.Prelude.{ℕ, ◌+◌, ◌-◌, nat_lt, if◌then◌else◌, List, [], ◌∷◌}
 use Rattle.ol_net.specs.Parts.{arity}
 use Rattle.ol_rules.specs.Rewriting.{is_meeting}

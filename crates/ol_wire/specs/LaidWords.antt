@@ -14,8 +14,7 @@ use Rattle.std.specs.declared.alloc.Global.{Global}
 use Rattle.ol_wire.specs.Laid.{field_of, node_word}
 
 -- The word of free port n, by its partner. Of two free ports that of the smaller number names the
--- other; an auxiliary slot names the port in
--- its own field.
+-- other; an auxiliary slot names the port in its own field.
 abbrev pub word_to : Graph → Parts → ℕ → Option Port → ℕ
 word_to net z n None = 0
 word_to net z n (Some (Free m)) = if nat_lt n m then wire_ref (port_word m) else 0

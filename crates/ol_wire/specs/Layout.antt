@@ -1,6 +1,5 @@
 -- Which part of the table each word is. A node's place is the number of the word of the field of
--- its slot 1, also where it has no such slot; the
--- field of its slot 2 is the next word.
+-- its slot 1, also where it has no such slot; the field of its slot 2 is the next word.
 use Rattle.std.specs.Prelude.{ℕ, ◌+◌, ◌-◌, ◌*◌, ◌/◌, ◌%◌, ◌==◌, ◌<◌, ◌≤◌, nat_lt, if◌then◌else◌}
 use Rattle.ol_rules.specs.declared.journal.NodeName.{NodeName}
 use Rattle.ol_rules.specs.declared.journal.NodeName.TheVariants.{Init, Born}

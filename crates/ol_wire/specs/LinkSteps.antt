@@ -20,8 +20,8 @@ spread zero xs = 0
 spread (suc n) xs = spread n xs + times_in n xs
 
 -- An exchange of one end of the first pending link into the word of the wire or free port at its
--- other end. The word was empty, or the link
--- goes on between the two ends, and one wire more is dead: of these there are no more than words.
+-- other end. The word was empty, or the link goes on between the two ends, and one wire more is
+-- dead: of these there are no more than words.
 abbrev pub links : Play
 links s m r n = (n.1 ≡ m.1) × (r ≡ 0 → n.0 ≡ linked m.0)
     × (r ≢ 0 → (n.0 ≡ moved m.0 s.word s.first r) × IsRefOf m.0.parts s.first × IsRefOf m.0.parts r

@@ -21,8 +21,8 @@ abbrev pub EndsWith : List ℕ → ℕ → Type 0
 EndsWith xs n = (ys : List ℕ) × (xs ≡ ys ++ n ∷ [])
 
 -- A moment at which it was asked whether no active pair is left: the live word was what the view
--- says that it read last, and it was quiet exactly
--- where that is 0. Where it was quiet, the net of its journal has no active pair.
+-- says that it read last, and it was quiet exactly where that is 0. Where it was quiet, the net of
+-- its journal has no active pair.
 abbrev pub IsMomentAsked : Plan → View → Bool → Type 0
 IsMomentAsked p v quiet = (m : Moment p v) × EndsWith v.looked (slice_index m.table.words 1)
     × ((quiet ≡ true) ↔ (slice_index m.table.words 1 ≡ 0)) × (quiet ≡ true → IsComplete m.kept.net)

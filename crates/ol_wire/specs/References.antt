@@ -1,8 +1,7 @@
 -- What a word of the table may hold, and the ends of edges. Each is a number whose two low bits
--- tell its sort: 1 for a node, with its kind, its
--- index and its place; 2 for a wire or a free port, by the place of its word; 3 for an auxiliary
--- slot, by the place of its field. A word that
--- holds nothing is 0, and no word holds a slot.
+-- tell its sort: 1 for a node, with its kind, its index and its place; 2 for a wire or a free port,
+-- by the place of its word; 3 for an auxiliary slot, by the place of its field. A word that holds
+-- nothing is 0, and no word holds a slot.
 use Rattle.std.specs.Prelude.{◌≡◌, ℕ, zero, suc, ◌+◌, ◌*◌, ◌/◌, ◌%◌, ◌⊎◌}
 use Rattle.ol_net.specs.declared.parts.Kind.{Kind}
 use Rattle.ol_net.specs.declared.parts.Kind.TheVariants as kind

@@ -161,8 +161,7 @@ IsUnpublished p from full v l = (part_of_word p.parts l.cell ≡ left) × (slice
     × IsRightOf v l (slice_index full (suc l.cell)) × ((t w : ℕ) → slice_get from t ≡ Some w → w ≢ l.cell)
 
 -- The cells. `from` has, for each ticket, the left word of the cell whose pair it rewrote; that
--- word stays empty, and the right word stays one of
--- the two nodes.
+-- word stays empty, and the right word stays one of the two nodes.
 pub record CellsKeep (p : Plan) (s : Table) (log : List Event) (from full : List ℕ) : Type 0 where
   pub tickets : length from ≡ length log
   pub used : (t w : ℕ) → slice_get from t ≡ Some w → IsUsedBy p log full t w

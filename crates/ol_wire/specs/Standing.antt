@@ -50,8 +50,7 @@ pub record WordsStandFor (w : ClosedTable) (net : NamedNet NodeName) (reached : 
   pub indexes : (x : NodeName) (k : Kind) (i : ℕ) → HasNode net x k i → i ≤ 1000000 + events_in w.plan.parts w.words
   pub erasers : (x : NodeName) (k : Kind) (i : ℕ) → HasNode net x k i → is_eraser k ≡ true → i ≡ 0
   -- each word behind the ticket word and the live word holds a whole reference of something that
-  -- was made, or nothing; the words of a cell hold
-  -- nodes
+  -- was made, or nothing; the words of a cell hold nodes
   pub refs : (n : ℕ) → 1 < n → slice_index w.words n ≢ 0
       → IsRef (slice_index w.words n) × IsWholeRef (slice_index w.words n)
       × (place_in (slice_index w.words n) < block w.plan.parts (events_in w.plan.parts w.words))

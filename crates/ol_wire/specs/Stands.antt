@@ -22,8 +22,7 @@ abbrev pub IsWireEnd : (ℕ → Bool) → ℕ → Type 0
 IsWireEnd reached e = (w : ℕ) × (reached w ≡ true) × (e ≡ wire_ref w)
 
 -- Each port of the net stands at one end of an edge, each reached wire at two, and nothing else at
--- any. Once the wires are taken out, the edges
--- are the links of the net.
+-- any. Once the wires are taken out, the edges are the links of the net.
 pub record StandsForNet (z : Parts) (net : NamedNet NodeName) (reached : ℕ → Bool) (edges : List (ℕ × ℕ)) : Type 0 where
   pub ports : (p : NamedPort NodeName) (e : ℕ) → IsEnd z net p e → ends nat_eq e edges ≡ 1
   pub wires : (e : ℕ) → IsWireEnd reached e → ends nat_eq e edges ≡ 2

@@ -69,8 +69,8 @@ cell_in_hand [] = 0
 cell_in_hand (x ∷ xs) = x.0
 
 -- The seat has claimed the pair of the cell with left word w, has looked at its right word and at
--- the fields of its two nodes, and the pair is
--- active: this is what it needs before it draws a ticket.
+-- the fields of its two nodes, and the pair is active: this is what it needs before it draws a
+-- ticket.
 pub record IsLookedUp (v : View) (w : ℕ) : Type 0 where
   pub held : 0 < v.holds
   pub under : v.over ≡ false
@@ -166,8 +166,7 @@ abbrev pub IsRefOf : Parts → ℕ → Type 0
 IsRefOf z r = IsNodeOf z r ⊎ (IsWireRef r × (0 < place_in r) × (place_in r < table_size z))
 
 -- The cell was empty, at a moment, or a node of its pair stood there. A step can't read the plan,
--- so that the moment is told for each plan that the
--- view knows, and there is one.
+-- so that the moment is told for each plan that the view knows, and there is one.
 abbrev pub claims : Play
 claims s m r n = (n.1 ≡ m.1) × (r ≡ 0 →
     (n.0 ≡ missing m.0 s.word) × ((p : Plan) → KnowsPlan p m.0 → MomentEmpty p s.word n.0))

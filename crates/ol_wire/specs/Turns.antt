@@ -79,9 +79,8 @@ IsMomentOf p c Spent n = MomentHolding p (left_word p.parts c) n
 IsMomentOf p c (Rewrote t r b m) n = Unit {0}
 
 -- Which cell is which join's. Once the ticket was drawn the seat had a link to make for each join,
--- by what the fields of the two nodes held; the cell
--- of the link of join j is that of number b + j. Bit j of the mask is set exactly where this link
--- ended with two nodes face to face, and the pair
+-- by what the fields of the two nodes held; the cell of the link of join j is that of number b + j.
+-- Bit j of the mask is set exactly where this link ended with two nodes face to face, and the pair
 -- was published in this cell.
 pub record LinksJoins (p : Plan) (v : View) (t b m : ℕ) (n : View) : Type 0 where
   pub of_f : ℕ → ℕ
