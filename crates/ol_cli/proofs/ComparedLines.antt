@@ -9,12 +9,12 @@ use Rattle.ol_equal.specs.declared.answers.Compared.{Compared}
 use Rattle.ol_equal.specs.declared.answers.Compared.TheVariants as answer
 use Rattle.ol_equal.specs.Texts.{path_text, compared_text}
 use Rattle.ol_equal.specs.Walking.{dotted}
-use Rattle.ol_confluence.specs.Reductions.{Convertible, turned, joined}
-use Rattle.ol_confluence.specs.Compared.{TellsTerms, ShareNormalForm}
-use Rattle.ol_confluence.proofs.Meetings.{convertible}
-use Rattle.ol_lines.proofs.Counts.{times, times_append}
-use Rattle.ol_lines.proofs.Printed.{decimal_none, feed}
-use Rattle.ol_lines.proofs.Lines.{line_of}
+use Rattle.ol_law_confluence.specs.Reductions.{Convertible, turned, joined}
+use Rattle.ol_law_confluence.specs.Compared.{TellsTerms, ShareNormalForm}
+use Rattle.ol_law_confluence.proofs.Meetings.{convertible}
+use Rattle.ol_law_lines.proofs.Counts.{times, times_append}
+use Rattle.ol_law_lines.proofs.Printed.{decimal_none, feed}
+use Rattle.ol_law_lines.proofs.Lines.{line_of}
 use Rattle.ol_cli.specs.Jobs.{Files}
 use Rattle.ol_words.specs.declared.jobs.Job.TheVariants.{Equal as equal}
 use Rattle.ol_cli.specs.SourceLaws.{WritesOfSources}

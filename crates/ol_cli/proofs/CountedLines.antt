@@ -3,14 +3,14 @@ use Rattle.std.proofs.Common.{◌≡◌, ℕ, List, Option, String, Global, ◌�
 use Rattle.std.specs.Prelude.{[], ◌∷◌, length, true, false}
 use Rattle.ol_beta.specs.Leftmost.{IsNormal}
 use Rattle.ol_demand.specs.Demands.{IsDemandRun}
-use Rattle.ol_families.proofs.Labelling.{leftmost_is_labelled}
+use Rattle.ol_law_families.proofs.Labelling.{leftmost_is_labelled}
 use Rattle.ol_io.specs.Outside.{Appended}
-use Rattle.ol_levy.proofs.Demanding.{is_no_longer, is_as_short}
-use Rattle.ol_levy.proofs.Steps.{leftmost_families_are_families}
-use Rattle.ol_lines.proofs.Lines.{holes_are_no_text}
-use Rattle.ol_lines.proofs.Read.{one_line, line_is_normal_form}
-use Rattle.ol_lines.specs.NormalForms.{by_names_of, IsNormalFormOf}
-use Rattle.ol_meaning.specs.Shows.{LeftmostReduces}
+use Rattle.ol_law_levy.proofs.Demanding.{is_no_longer, is_as_short}
+use Rattle.ol_law_levy.proofs.Steps.{leftmost_families_are_families}
+use Rattle.ol_law_lines.proofs.Lines.{holes_are_no_text}
+use Rattle.ol_law_lines.proofs.Read.{one_line, line_is_normal_form}
+use Rattle.ol_law_lines.specs.NormalForms.{by_names_of, IsNormalFormOf}
+use Rattle.ol_law_meaning.specs.Shows.{LeftmostReduces}
 use Rattle.ol_net.specs.declared.parts.Rule.TheVariants as rule
 use Rattle.ol_parse.specs.Grammar.{Named}
 use Rattle.ol_parse.specs.Numbered.{names_of, number}
@@ -27,8 +27,8 @@ use Rattle.ol_term.specs.declared.translations.Translation.{Translation}
 use Rattle.ol_translate.proofs.Whole.{translation_net}
 use Rattle.ol_translate.specs.Names.{HasNames}
 use Rattle.ol_translate.specs.Translation.{translation_of}
-use Rattle.ol_unstuck.proofs.Names.{count_is_none}
-use Rattle.ol_unstuck.proofs.TermRuns.{no_pair_is_stuck_in_order}
+use Rattle.ol_law_unstuck.proofs.Names.{count_is_none}
+use Rattle.ol_law_unstuck.proofs.TermRuns.{no_pair_is_stuck_in_order}
 use Rattle.ol_words.specs.declared.jobs.Job.{Job as Asked}
 use Rattle.ol_words.specs.declared.jobs.Job.TheVariants.{Run as run, Walk as walk, View as view}
 use Rattle.ol_words.specs.declared.jobs.Job.TheVariants.{Trace as trace, Check as check, Gen as gen}

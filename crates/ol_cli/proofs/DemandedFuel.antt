@@ -14,11 +14,11 @@ use Rattle.ol_readback.specs.Sources as sources
 use Rattle.ol_readback.specs.declared.answers.HeadVar.{HeadVar}
 use Rattle.ol_readback.specs.declared.answers.ReadNode.{ReadNode}
 use Rattle.ol_readback.specs.declared.answers.ReadNode.TheVariants as node
-use Rattle.ol_levels.proofs.DemandPlaces.{demand_places}
-use Rattle.ol_confluence.proofs.HeadForms.{ends}
-use Rattle.ol_confluence.proofs.LeftmostEnds.{leftmost_finds}
-use Rattle.ol_completeness.specs.Complete.{ReadsFirst}
-use Rattle.ol_completeness.proofs.Levelled.{head_normal_form_is_read}
+use Rattle.ol_law_levels.proofs.DemandPlaces.{demand_places}
+use Rattle.ol_law_confluence.proofs.HeadForms.{ends}
+use Rattle.ol_law_confluence.proofs.LeftmostEnds.{leftmost_finds}
+use Rattle.ol_law_completeness.specs.Complete.{ReadsFirst}
+use Rattle.ol_law_completeness.proofs.Levelled.{head_normal_form_is_read}
 use Rattle.ol_cli.specs.Run.{start_net_of_term}
 use Rattle.ol_cli.specs.Demand.{DemandEnds}
 use Rattle.ol_cli.specs.DemandFuel.{DemandHasFuel, HeadHasFuel}

@@ -11,22 +11,22 @@ use Rattle.ol_parse.specs.Numbered.{names_of, number}
 use Rattle.ol_translate.specs.Translation.{translation_of}
 use Rattle.ol_translate.specs.Names.{HasNames}
 use Rattle.ol_beta.specs.Leftmost.{IsNormal}
-use Rattle.ol_meaning.specs.Shows.{BetaReduces, LeftmostReduces}
+use Rattle.ol_law_meaning.specs.Shows.{BetaReduces, LeftmostReduces}
 use Rattle.ol_readback.specs.Whole.{Part, term, lost, cut, none, more, preorder}
 use Rattle.ol_readback.specs.Terms.{HasAllHeads, abstracted, variable_of, meaning, term_of}
 use Rattle.ol_readback.specs.declared.answers.HeadVar.{HeadVar}
 use Rattle.ol_readback.specs.declared.answers.HeadVar.TheVariants as var
 use Rattle.ol_readback.specs.declared.answers.ReadNode.{ReadNode}
-use Rattle.ol_completeness.specs.Complete.{HaveInversions}
-use Rattle.ol_completeness.proofs.Levelled.{normal_form_is_read}
-use Rattle.ol_confluence.proofs.LeftmostEnds.{leftmost_finds}
+use Rattle.ol_law_completeness.specs.Complete.{HaveInversions}
+use Rattle.ol_law_completeness.proofs.Levelled.{normal_form_is_read}
+use Rattle.ol_law_confluence.proofs.LeftmostEnds.{leftmost_finds}
 use Rattle.ol_words.specs.declared.jobs.Job.{Job as Asked}
 use Rattle.ol_words.specs.declared.jobs.Job.TheVariants.{Run as run, Walk as walk, View as view}
 use Rattle.ol_words.specs.declared.jobs.Job.TheVariants.{Trace as trace, Check as check, Gen as gen}
 use Rattle.ol_words.specs.declared.jobs.Job.TheVariants.{Demand as demand, Certify as certify}
 use Rattle.ol_words.specs.declared.jobs.Job.TheVariants as jobs
-use Rattle.ol_lines.specs.NormalForms.{IsNormalFormOf}
-use Rattle.ol_lines.proofs.Read.{read_line, line_is_normal_form}
+use Rattle.ol_law_lines.specs.NormalForms.{IsNormalFormOf}
+use Rattle.ol_law_lines.proofs.Read.{read_line, line_is_normal_form}
 use Rattle.ol_cli.specs.Demand.{DemandEnds}
 use Rattle.ol_cli.specs.Cases.{DemandRunsOut}
 use Rattle.ol_cli.specs.Sources.{DemandsTree, TellsTree, WritesTree}

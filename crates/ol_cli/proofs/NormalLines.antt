@@ -13,7 +13,7 @@ use Rattle.ol_words.specs.declared.jobs.Job.TheVariants.{Run as run, Walk as wal
 use Rattle.ol_words.specs.declared.jobs.Job.TheVariants.{Trace as trace, Check as check, Gen as gen}
 use Rattle.ol_words.specs.declared.jobs.Job.TheVariants.{Demand as demand, Certify as certify}
 use Rattle.ol_words.specs.declared.jobs.Job.TheVariants as jobs
-use Rattle.ol_lines.proofs.Read.{IsPrinted, one_line, line_is_normal_form, lost_has_no_normal_form}
+use Rattle.ol_law_lines.proofs.Read.{IsPrinted, one_line, line_is_normal_form, lost_has_no_normal_form}
 use Rattle.ol_cli.specs.Texts.{counts_text}
 use Rattle.ol_cli.specs.Sources.{PrintsTree, WalksTree, DemandsTree, TellsTree, WritesTree}
 use Rattle.ol_cli.specs.NormalForms.{PrintsTerm, FirstLine, LineSays, IsItsNormalForm, TellsOfNone}

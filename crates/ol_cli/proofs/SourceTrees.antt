@@ -9,11 +9,11 @@ use Rattle.ol_readback.specs.Heads.{live}
 use Rattle.ol_readback.specs.Whole.{IsWholeTree}
 use Rattle.ol_readback.specs.declared.answers.ReadNode.{ReadNode}
 use Rattle.ol_readback.proofs.Forests.{tree_is_whole}
-use Rattle.ol_meaning.specs.Meaning.{SaysOf}
-use Rattle.ol_meaning.proofs.Based.{places_say}
-use Rattle.ol_confluence.proofs.ComparedTrees.{comparison_tells, not_apart}
-use Rattle.ol_levels.proofs.Sources.{last_places}
-use Rattle.ol_confluence.proofs.PrintedTrees.{never_differs}
+use Rattle.ol_law_meaning.specs.Meaning.{SaysOf}
+use Rattle.ol_law_meaning.proofs.Based.{places_say}
+use Rattle.ol_law_confluence.proofs.ComparedTrees.{comparison_tells, not_apart}
+use Rattle.ol_law_levels.proofs.Sources.{last_places}
+use Rattle.ol_law_confluence.proofs.PrintedTrees.{never_differs}
 use Rattle.ol_beta.specs.Verdicts.{IsVerdict}
 use Rattle.ol_equal.specs.declared.answers.Compared.{Compared}
 use Rattle.ol_equal.specs.Comparing.{TreeWithNames, place_at, IsFirstApart, IsComparison}
@@ -24,8 +24,8 @@ use Rattle.ol_parse.proofs.Exact.{one_file}
 use Rattle.ol_words.specs.Texts.{Text}
 use Rattle.ol_words.specs.declared.jobs.Job.{Job as Asked}
 use Rattle.ol_words.specs.declared.jobs.Job.TheVariants as jobs
-use Rattle.ol_confluence.specs.Reductions.{Convertible}
-use Rattle.ol_confluence.specs.Compared.{by_bytes, TellsTerms, ArePrinted, IsHeadBesideLost}
+use Rattle.ol_law_confluence.specs.Reductions.{Convertible}
+use Rattle.ol_law_confluence.specs.Compared.{by_bytes, TellsTerms, ArePrinted, IsHeadBesideLost}
 use Rattle.ol_cli.specs.Texts.{line}
 use Rattle.ol_cli.specs.declared.status.Status.{Status}
 use Rattle.ol_cli.specs.declared.status.Status.TheVariants.{Done}

@@ -21,14 +21,14 @@ use Rattle.ol_readback.specs.Heads.{live}
 use Rattle.ol_readback.specs.Terms.{HasAllHeads, IsReadBack}
 use Rattle.ol_readback.proofs.Sources.{own_heads}
 use Rattle.ol_readback.proofs.Forests.{tree_is_whole, heads_are_whole}
-use Rattle.ol_completeness.proofs.CompleteRuns.{complete_is_enough}
-use Rattle.ol_completeness.proofs.Demanded.{demanded_is_enough}
-use Rattle.ol_completeness.specs.Least.{CanBeRead}
-use Rattle.ol_completeness.proofs.TheLeast.{demand_is_the_least, stopped_is_not_enough}
-use Rattle.ol_levels.proofs.AskedTrees.{asked_heads, asked_kept, last_tree_tells}
-use Rattle.ol_levels.proofs.DemandPlaces.{demand_tells as places_told}
-use Rattle.ol_meaning.proofs.Based.{places_say}
-use Rattle.ol_confluence.proofs.PrintedTrees.{says_always}
+use Rattle.ol_law_completeness.proofs.CompleteRuns.{complete_is_enough}
+use Rattle.ol_law_completeness.proofs.Demanded.{demanded_is_enough}
+use Rattle.ol_law_completeness.specs.Least.{CanBeRead}
+use Rattle.ol_law_completeness.proofs.TheLeast.{demand_is_the_least, stopped_is_not_enough}
+use Rattle.ol_law_levels.proofs.AskedTrees.{asked_heads, asked_kept, last_tree_tells}
+use Rattle.ol_law_levels.proofs.DemandPlaces.{demand_tells as places_told}
+use Rattle.ol_law_meaning.proofs.Based.{places_say}
+use Rattle.ol_law_confluence.proofs.PrintedTrees.{says_always}
 use Rattle.ol_words.specs.Texts.{Text}
 use Rattle.ol_words.specs.declared.jobs.Job.{Job as Asked}
 use Rattle.ol_words.specs.declared.jobs.Job.TheVariants.{Run as run, Walk as walk, Gen as gen}

@@ -15,12 +15,12 @@ use Rattle.ol_translate.specs.Names.{HasNames}
 use Rattle.ol_translate.specs.Translation.{translation_of}
 use Rattle.ol_translate.proofs.Whole.{translation_net}
 use Rattle.ol_readback.specs.declared.answers.ReadNode.{ReadNode}
-use Rattle.ol_levels.proofs.Runs.{start_levelled}
-use Rattle.ol_levels.proofs.Terms.{term_is_levelled}
-use Rattle.ol_completeness.specs.Complete.{HaveInversions, IsReadWithin}
-use Rattle.ol_completeness.proofs.Levelled.{stays_clear}
-use Rattle.ol_completeness.proofs.SameRows.{CostAlike, cost_alike}
-use Rattle.ol_completeness.proofs.Within.{read_within, read_all}
+use Rattle.ol_law_levels.proofs.Runs.{start_levelled}
+use Rattle.ol_law_levels.proofs.Terms.{term_is_levelled}
+use Rattle.ol_law_completeness.specs.Complete.{HaveInversions, IsReadWithin}
+use Rattle.ol_law_completeness.proofs.Levelled.{stays_clear}
+use Rattle.ol_law_completeness.proofs.SameRows.{CostAlike, cost_alike}
+use Rattle.ol_law_completeness.proofs.Within.{read_within, read_all}
 use Rattle.ol_cli.specs.Run.{start_net_of_term}
 use Rattle.ol_cli.specs.Demand.{DemandEnds}
 use Rattle.ol_cli.specs.Cases.{DemandRunsOut}

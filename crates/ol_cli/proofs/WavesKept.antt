@@ -1,7 +1,7 @@
 -- The waves of a journal from a net are those from the same net, however the lists of the two are ordered.
 use Rattle.std.proofs.Common.{ℕ, List, [], ◌∷◌, inl, inr}
-use Rattle.ol_edges.specs.Edges.{Edge}
-use Rattle.ol_edges.proofs.Composing.{contracted_map}
+use Rattle.ol_law_edges.specs.Edges.{Edge}
+use Rattle.ol_law_edges.proofs.Composing.{contracted_map}
 use Rattle.ol_net.specs.Nets.{NamedPort, slot, NamedNet, SameNet, net_under, IsPrincipalOf}
 use Rattle.ol_rules.specs.declared.journal.NodeName.{NodeName}
 use Rattle.ol_rules.specs.declared.journal.Entry.{Entry}

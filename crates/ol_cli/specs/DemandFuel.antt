@@ -9,9 +9,9 @@ use Rattle.ol_readback.specs.Terms.{term_of, abstracted, variable_of}
 use Rattle.ol_readback.specs.Whole.{Part, preorder}
 use Rattle.ol_readback.specs.declared.answers.HeadVar.{HeadVar}
 use Rattle.ol_readback.specs.declared.answers.ReadNode.TheVariants as node
-use Rattle.ol_meaning.specs.Shows.{BetaReduces, HeadReduces, applied}
-use Rattle.ol_confluence.specs.Reductions.{HasHeadNormalForm}
-use Rattle.ol_completeness.specs.Complete.{HaveInversions}
+use Rattle.ol_law_meaning.specs.Shows.{BetaReduces, HeadReduces, applied}
+use Rattle.ol_law_confluence.specs.Reductions.{HasHeadNormalForm}
+use Rattle.ol_law_completeness.specs.Complete.{HaveInversions}
 use Rattle.ol_demand.specs.Demands.{HasMoreSteps}
 use Rattle.ol_cli.specs.Run.{start_net_of_term}
 use Rattle.ol_cli.specs.Demand.{DemandEnds}

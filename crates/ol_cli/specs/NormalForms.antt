@@ -9,13 +9,13 @@ use Rattle.ol_term.specs.Trees.{Tree, var, free, lam, app}
 use Rattle.ol_parse.specs.Grammar.{Named}
 use Rattle.ol_parse.specs.Texts.{IsLine, IsText}
 use Rattle.ol_beta.specs.Leftmost.{IsNormal}
-use Rattle.ol_meaning.specs.Shows.{BetaReduces}
-use Rattle.ol_optimal.specs.Labels.{Labelled, erased}
-use Rattle.ol_families.specs.Families.{HaveOwnLetters}
-use Rattle.ol_levy.specs.Reductions.{NoneHasFewer, OneHasAsMany}
+use Rattle.ol_law_meaning.specs.Shows.{BetaReduces}
+use Rattle.ol_law_optimal.specs.Labels.{Labelled, erased}
+use Rattle.ol_law_families.specs.Families.{HaveOwnLetters}
+use Rattle.ol_law_levy.specs.Reductions.{NoneHasFewer, OneHasAsMany}
 use Rattle.ol_rules.specs.declared.journal.Counts.{Counts}
-use Rattle.ol_lines.specs.NormalForms.{by_names_of, IsNormalFormOf, HasNoNormalForm}
-use Rattle.ol_lines.specs.NormalForms.{AreConvertible}
+use Rattle.ol_law_lines.specs.NormalForms.{by_names_of, IsNormalFormOf, HasNoNormalForm}
+use Rattle.ol_law_lines.specs.NormalForms.{AreConvertible}
 use Rattle.ol_words.specs.Texts.{Text, texts_of}
 use Rattle.ol_words.specs.Lines.{is_dashed}
 use Rattle.ol_words.specs.declared.jobs.Job.{Job as Asked}

@@ -9,8 +9,8 @@ use Rattle.ol_beta.specs.declared.certifying.Verdict.TheVariants.{Differs}
 use Rattle.ol_equal.specs.declared.answers.Compared.{Compared}
 use Rattle.ol_equal.specs.Comparing.{TreeWithNames, place_at, IsFirstApart, IsComparison}
 use Rattle.ol_equal.specs.Texts.{compared_text}
-use Rattle.ol_confluence.specs.Reductions.{Convertible}
-use Rattle.ol_confluence.specs.Compared.{by_bytes, TellsTerms, IsHeadBesideLost}
+use Rattle.ol_law_confluence.specs.Reductions.{Convertible}
+use Rattle.ol_law_confluence.specs.Compared.{by_bytes, TellsTerms, IsHeadBesideLost}
 use Rattle.ol_words.specs.declared.jobs.Job.{Job as Asked}
 use Rattle.ol_words.specs.declared.jobs.Job.TheVariants.{Certify as certify, Equal as equal}
 use Rattle.ol_cli.specs.Texts.{line}

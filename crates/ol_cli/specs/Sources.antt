@@ -12,14 +12,14 @@ use Rattle.ol_rules.specs.Runs.{IsRun}
 use Rattle.ol_net.specs.Pairs.{IsComplete}
 use Rattle.ol_translate.specs.Translation.{translation_of}
 use Rattle.ol_readback.specs.Sources.{HasHeadsOf}
-use Rattle.ol_levels.specs.Asked.{HasAskedHeadsOf}
+use Rattle.ol_law_levels.specs.Asked.{HasAskedHeadsOf}
 use Rattle.ol_readback.specs.Terms.{HasAllHeads, IsReadBack}
 use Rattle.ol_readback.specs.declared.answers.ReadNode.{ReadNode}
-use Rattle.ol_completeness.specs.Complete.{HaveInversions}
-use Rattle.ol_completeness.specs.Least.{CanBeRead, CompleteRunsAreEnough}
-use Rattle.ol_completeness.specs.TheLeast.{IsTheLeast}
-use Rattle.ol_meaning.specs.Meaning.{SaysOf}
-use Rattle.ol_confluence.specs.Printed.{SaysAlways}
+use Rattle.ol_law_completeness.specs.Complete.{HaveInversions}
+use Rattle.ol_law_completeness.specs.Least.{CanBeRead, CompleteRunsAreEnough}
+use Rattle.ol_law_completeness.specs.TheLeast.{IsTheLeast}
+use Rattle.ol_law_meaning.specs.Meaning.{SaysOf}
+use Rattle.ol_law_confluence.specs.Printed.{SaysAlways}
 use Rattle.ol_words.specs.declared.jobs.Job.{Job as Asked}
 use Rattle.ol_words.specs.declared.jobs.Job.TheVariants.{Run as run, Walk as walk, Gen as gen}
 use Rattle.ol_words.specs.declared.jobs.Job.TheVariants.{Demand as demand}

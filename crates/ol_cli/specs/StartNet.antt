@@ -9,7 +9,7 @@ use Rattle.ol_context.specs.Paths.{HaveSamePaths}
 use Rattle.ol_translate.specs.Names.{HasNames}
 use Rattle.ol_translate.specs.Translation.{translation_of}
 use Rattle.ol_demand.specs.Answers.{start_of}
-use Rattle.ol_completeness.specs.Terms.{IsFit}
+use Rattle.ol_law_completeness.specs.Terms.{IsFit}
 use Rattle.ol_cli.specs.Run.{start_net_of_term}
 
 -- What the laws of nets ask of a net holds of it. It has the paths of the term's own net. And it is

@@ -63,14 +63,14 @@ pub fn sources_are_told()
 /// whatever heads are asked for. And where the term has a head normal form and one head is asked
 /// for, the number for the path to its head is enough, and what is written is this head, with `...`
 /// for each of its arguments. Each such number is one (law `inversions_are_one` of
-/// `ol_completeness`).
+/// `ol_law_completeness`).
 pub fn demand_has_fuel()
     ensures fuel { DemandHasFuel }
     ensures head { HeadHasFuel }
 {}
 
 /// The net with which the clauses of `ol` let a term's runs begin (`start_net_of_term`) is one of
-/// those of which the laws of `ol_completeness` speak. It has what they ask of a net, and the paths
+/// those of which the laws of `ol_law_completeness` speak. It has what they ask of a net, and the paths
 /// of the term's own net; and it is the start net of each graph that has the term's own net.
 pub fn start_net_is_fit()
     ensures { StartNetIsFit }

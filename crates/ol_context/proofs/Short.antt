@@ -2,13 +2,13 @@
 use Rattle.std.proofs.Common.{◌≡◌, ◌≢◌, ℕ, suc, ◌+◌, ◌*◌, ◌<◌, ◌≤◌, List, [], ◌∷◌, map, length, inl}
 use Rattle.std.proofs.Common.{inr, refl, sym, ap, ◌∙◌, subst, arith}
 use Rattle.std.proofs.lemmas.List.{length-map}
-use Rattle.ol_edges.specs.Edges.{IsIn}
+use Rattle.ol_law_edges.specs.Edges.{IsIn}
 use Rattle.ol_net.specs.declared.parts.Kind.{Kind}
 use Rattle.ol_net.specs.Nets.{NamedNet, NamedPort, free, slot, HasNode, Linked, IsNet}
 use Rattle.ol_context.specs.Contexts.{Context}
 use Rattle.ol_context.specs.Paths.{inward, outward, Path, ends, goes, crossings}
 use Rattle.ol_context.specs.Short.{HasNoFacing, live, IsOnce, WalkIsShort}
-use Rattle.ol_edges.proofs.Lists.{in_map}
+use Rattle.ol_law_edges.proofs.Lists.{in_map}
 
 -- one element taken out
 take_out : {A : Type 0} (x : A) (ys : List A) → IsIn x ys → List A

@@ -3,7 +3,7 @@ use Rattle.std.proofs.Common.{◌≡◌, ℕ, zero, suc, ◌+◌, ◌-◌, ◌*�
 use Rattle.std.proofs.Common.{map, length, inl, inr, refl, sym, ap, ◌∙◌, subst, arith, append_assoc}
 use Rattle.std.proofs.Common.{append-nil}
 use Rattle.std.proofs.lemmas.List.{map-append, length-map, length-append}
-use Rattle.ol_edges.specs.Edges.{IsIn}
+use Rattle.ol_law_edges.specs.Edges.{IsIn}
 use Rattle.ol_net.specs.declared.parts.Kind.{Kind}
 use Rattle.ol_net.specs.Nets.{NamedNet, NamedPort, free, slot, HasNode, Linked, IsNet, IsPort}
 use Rattle.ol_context.specs.Contexts.{Level, Context}
@@ -14,7 +14,7 @@ use Rattle.ol_context.specs.WalkAnswers.{IsExit, ExitsExactly}
 use Rattle.ol_context.specs.declared.answers.Walk.{Walk}
 use Rattle.ol_context.proofs.Short.{few, IsLive, Down, first, next, down_one, short}
 use Rattle.ol_context.proofs.Ways.{way_exits, way_passes}
-use Rattle.ol_edges.proofs.Lists.{in_map}
+use Rattle.ol_law_edges.proofs.Lists.{in_map}
 
 -- what is in a list with one more is in the list, or is that one
 pub in_last : {X : Type 0} (z x : X) (xs : List X) → IsIn z (xs ++ x ∷ []) → IsIn z xs ⊎ (z ≡ x)

@@ -1,8 +1,8 @@
 -- Chains of a net under other names.
 use Rattle.std.proofs.Common.{◌≡◌, ℕ, inl, inr, List, [], ◌∷◌, map, refl, sym, ap, ◌∙◌, subst, arith}
 use Rattle.std.proofs.lemmas.List.{length-map}
-use Rattle.ol_edges.specs.Edges.{IsIn}
-use Rattle.ol_edges.proofs.Lists.{in_map_of}
+use Rattle.ol_law_edges.specs.Edges.{IsIn}
+use Rattle.ol_law_edges.proofs.Lists.{in_map_of}
 use Rattle.ol_net.specs.declared.parts.Kind.{Kind}
 use Rattle.ol_net.specs.declared.parts.Rule.{Rule}
 use Rattle.ol_net.specs.Nets.{NamedNet, NamedPort, free, slot, HasNode, IsPrincipalOf, port_under, net_under}

@@ -1,6 +1,6 @@
 -- The laws of demand order.
 use Rattle.std.specs.Prelude.{◌≡◌, ℕ, ◌≤◌, List, length, false}
-use Rattle.ol_edges.specs.Edges.{IsIn}
+use Rattle.ol_law_edges.specs.Edges.{IsIn}
 use Rattle.ol_net.specs.Nets.{NamedNet, IsNet, SameNet}
 use Rattle.ol_net.specs.Pairs.{IsComplete}
 use Rattle.ol_context.specs.Paths.{HaveSamePaths}

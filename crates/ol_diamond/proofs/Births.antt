@@ -1,7 +1,7 @@
 -- Birth names: a test, parts, and that a step's names are new.
 use Rattle.std.proofs.Common.{◌≡◌, ◌≢◌, ℕ, ◌+◌, ◌<◌, Bool, true, false, ◌&&◌, ◌⊎◌, inl, inr, refl}
 use Rattle.std.proofs.Common.{sym, ap, ◌∙◌, subst, arith, nat_eq, eq-eqb, eqb-true}
-use Rattle.ol_edges.specs.Edges.{IsTest}
+use Rattle.ol_law_edges.specs.Edges.{IsTest}
 use Rattle.ol_net.specs.declared.parts.Kind.{Kind}
 use Rattle.ol_net.specs.Parts.{arity}
 use Rattle.ol_net.specs.Nets.{NamedNet, HasNode, IsNet, Faces, net_under}

@@ -3,8 +3,8 @@ use Rattle.std.proofs.Common.{◌≡◌, ℕ, ◌≤◌, min, max, nat_lt, ltb-t
 use Rattle.std.proofs.Common.{None, Bool, true, false, cond, ◌⊎◌, inl, inr, refl, sym, ap, subst}
 use Rattle.std.proofs.Common.{arith}
 use Rattle.std.proofs.lemmas.Bool.{ltb-false}
-use Rattle.ol_edges.specs.Edges.{IsTest, Joined, here, on, back}
-use Rattle.ol_edges.proofs.Joining.{joined_trans, joined_map}
+use Rattle.ol_law_edges.specs.Edges.{IsTest, Joined, here, on, back}
+use Rattle.ol_law_edges.proofs.Joining.{joined_trans, joined_map}
 use Rattle.ol_diamond.specs.Weights.{AtMost, WeightedEdgeOf}
 
 -- nothing, or a weight of n at most

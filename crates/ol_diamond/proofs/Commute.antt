@@ -1,8 +1,8 @@
 -- Two pairs apart: both orders leave one net.
 use Rattle.std.proofs.Common.{◌≡◌, ◌≢◌, ℕ, suc, ◌+◌, Bool, ◌⊎◌, ◌↔◌, inl, inr, refl, sym, ◌∙◌, subst, arith}
-use Rattle.ol_edges.specs.Edges.{IsTest, on, here, Contracted}
-use Rattle.ol_edges.proofs.Contraction.{is_or_is_not}
-use Rattle.ol_edges.proofs.Composing.{contracted_map}
+use Rattle.ol_law_edges.specs.Edges.{IsTest, on, here, Contracted}
+use Rattle.ol_law_edges.proofs.Contraction.{is_or_is_not}
+use Rattle.ol_law_edges.proofs.Composing.{contracted_map}
 use Rattle.ol_net.specs.declared.parts.Kind.{Kind}
 use Rattle.ol_net.specs.Parts.{arity}
 use Rattle.ol_net.specs.Nets.{NamedPort, slot, NamedNet, HasNode, Linked, IsNet, SameNet, Faces}

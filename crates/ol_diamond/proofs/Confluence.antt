@@ -3,8 +3,8 @@ use Rattle.std.proofs.Common.{◌≡◌, ◌≢◌, ℕ, ◌+◌, ◌<◌, List,
 use Rattle.std.proofs.Common.{true, false, cond, Some, ◌⊎◌, inl, inr, refl, sym, ap, ◌∙◌, subst}
 use Rattle.std.proofs.Common.{arith}
 use Rattle.std.proofs.lemmas.List.Sums.{sum_by-cons}
-use Rattle.ol_edges.specs.Edges.{IsIn, bit}
-use Rattle.ol_edges.proofs.Contraction.{is_or_is_not}
+use Rattle.ol_law_edges.specs.Edges.{IsIn, bit}
+use Rattle.ol_law_edges.proofs.Contraction.{is_or_is_not}
 use Rattle.ol_net.specs.declared.parts.Kind.{Kind}
 use Rattle.ol_net.specs.declared.parts.Rule.{Rule}
 use Rattle.ol_net.specs.declared.parts.Rule.TheVariants as rule

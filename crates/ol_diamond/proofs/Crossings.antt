@@ -3,10 +3,10 @@
 use Rattle.std.proofs.Common.{◌≡◌, ◌≢◌, ℕ, zero, suc, ◌+◌, ◌<◌, ◌≤◌, max, Bool, ◌⊎◌, ◌↔◌, inl, inr}
 use Rattle.std.proofs.Common.{refl, sym, ap, ◌∙◌, subst, arith}
 use Rattle.std.proofs.lemmas.Bool.{cases_lt}
-use Rattle.ol_edges.specs.Edges.{IsTest, Joined, here, on, back, Edge, Contracted}
-use Rattle.ol_edges.proofs.Contraction.{is_or_is_not}
-use Rattle.ol_edges.proofs.Joining.{joined_sym, joined_trans}
-use Rattle.ol_edges.proofs.Composing.{HasEdge, edge_of_apart, joined_keeps, contracted_map, contracted_swap}
+use Rattle.ol_law_edges.specs.Edges.{IsTest, Joined, here, on, back, Edge, Contracted}
+use Rattle.ol_law_edges.proofs.Contraction.{is_or_is_not}
+use Rattle.ol_law_edges.proofs.Joining.{joined_sym, joined_trans}
+use Rattle.ol_law_edges.proofs.Composing.{HasEdge, edge_of_apart, joined_keeps, contracted_map, contracted_swap}
 use Rattle.ol_net.specs.declared.parts.Kind.{Kind}
 use Rattle.ol_net.specs.Parts.{arity}
 use Rattle.ol_net.specs.Nets.{NamedPort, free, slot, NamedNet, Linked, IsPort, IsNet, IsPrincipalOf, IsSlotOf, Faces}

@@ -1,6 +1,6 @@
 -- The laws of edges with weights.
 use Rattle.std.proofs.Common.{ℕ, ◌≤◌, max, ◌↔◌, arith}
-use Rattle.ol_edges.specs.Edges.{IsIn, Joined, here, on, back, Contracted}
+use Rattle.ol_law_edges.specs.Edges.{IsIn, Joined, here, on, back, Contracted}
 use Rattle.ol_diamond.specs.Weights.{JoinedBy, at, along, against, AtMost, WeightedEdgeOf}
 use Rattle.ol_diamond.specs.Weights.{ContractedBy, HeaviestOnTheWay, HeaviestIsLeft}
 

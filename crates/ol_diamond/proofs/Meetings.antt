@@ -1,9 +1,9 @@
 -- Two nodes that meet: their slots of one number are joined, and each port to which one of these was linked is raised.
 use Rattle.std.proofs.Common.{◌≡◌, ◌≢◌, ℕ, zero, suc, ◌<◌, ◌≤◌, max, Bool, ◌⊎◌, ◌↔◌, inl, inr, refl}
 use Rattle.std.proofs.Common.{sym, ap, ◌∙◌, subst, arith}
-use Rattle.ol_edges.specs.Edges.{IsTest, Edge, Contracted}
-use Rattle.ol_edges.proofs.Contraction.{is_or_is_not}
-use Rattle.ol_edges.proofs.Composing.{HasEdge, contracted_map, contracted_twice}
+use Rattle.ol_law_edges.specs.Edges.{IsTest, Edge, Contracted}
+use Rattle.ol_law_edges.proofs.Contraction.{is_or_is_not}
+use Rattle.ol_law_edges.proofs.Composing.{HasEdge, contracted_map, contracted_twice}
 use Rattle.ol_net.specs.declared.parts.Kind.{Kind}
 use Rattle.ol_net.specs.Parts.{arity}
 use Rattle.ol_net.specs.Nets.{NamedPort, slot, NamedNet, Linked, IsPort, IsNet, IsPrincipalOf, IsSlotOf}

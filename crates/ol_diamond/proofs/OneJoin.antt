@@ -1,8 +1,8 @@
 -- Links, each vertex in one at most, and one join of two vertices a and b, which are taken out:
 -- what is left, and what it weighs.
 use Rattle.std.proofs.Common.{◌≡◌, ◌≢◌, ℕ, ◌≤◌, max, ◌⊎◌, ◌↔◌, inl, inr, refl, sym, subst, arith}
-use Rattle.ol_edges.specs.Edges.{Joined, here, on, back, Contracted}
-use Rattle.ol_edges.proofs.Composing.{joined_keeps, contracted_swap}
+use Rattle.ol_law_edges.specs.Edges.{Joined, here, on, back, Contracted}
+use Rattle.ol_law_edges.proofs.Composing.{joined_keeps, contracted_swap}
 
 -- each vertex has one link at most
 pub record AreLinks {V : Type 0} (L : V → V → Type 0) : Type 0 where

@@ -1,6 +1,6 @@
 -- Runs of any steps of which two commute: complete runs agree.
 use Rattle.std.proofs.Common.{◌≡◌, ℕ, ◌+◌, ◌≤◌, List, [], ◌∷◌, ◌++◌, Bool, ◌⊎◌, inl, inr, refl, sym, ap, ◌∙◌, arith}
-use Rattle.ol_edges.specs.Edges.{bit}
+use Rattle.ol_law_edges.specs.Edges.{bit}
 
 pub record Commuting {ℓ} {S : Type ℓ} {L : Type 0} (Good : S → Type 0) (Same : S → S → Type 0)
     (Alike : L → L → Type 0) (Step : S → L → S → Type 0) : Type ℓ where

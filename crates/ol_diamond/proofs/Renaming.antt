@@ -1,8 +1,8 @@
 -- A net and the same net under other names go on together, where no two of its nodes have one other name.
 use Rattle.std.proofs.Common.{◌≡◌, ◌≢◌, ℕ, suc, ◌+◌, ◌<◌, ◌⊎◌, inl, inr, refl, sym, ap, ◌∙◌, subst}
-use Rattle.ol_edges.specs.Edges.{Joined, here, on, back, Edge, Contracted}
-use Rattle.ol_edges.proofs.Joining.{joined_sym, joined_image, Follows, follow}
-use Rattle.ol_edges.proofs.Composing.{edge_of_apart, contracted_map}
+use Rattle.ol_law_edges.specs.Edges.{Joined, here, on, back, Edge, Contracted}
+use Rattle.ol_law_edges.proofs.Joining.{joined_sym, joined_image, Follows, follow}
+use Rattle.ol_law_edges.proofs.Composing.{edge_of_apart, contracted_map}
 use Rattle.ol_net.specs.declared.parts.Kind.{Kind}
 use Rattle.ol_net.specs.Parts.{arity}
 use Rattle.ol_net.specs.Nets.{NamedPort, free, slot, NamedNet, HasNode, Linked, IsPort, IsNet}

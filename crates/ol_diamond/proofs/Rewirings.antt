@@ -1,8 +1,8 @@
 -- Two rewirings in places apart: what is left of the edges after both, said without an order.
 use Rattle.std.proofs.Common.{◌≡◌, ◌≢◌, ◌⊎◌, ◌↔◌, inl, inr, sym}
-use Rattle.ol_edges.specs.Edges.{Joined, here, on, back, Edge, Contracted}
-use Rattle.ol_edges.proofs.Joining.{joined_sym, joined_map}
-use Rattle.ol_edges.proofs.Composing.{HasEdge, edge_of_apart, contracted_map, contracted_twice}
+use Rattle.ol_law_edges.specs.Edges.{Joined, here, on, back, Edge, Contracted}
+use Rattle.ol_law_edges.proofs.Joining.{joined_sym, joined_map}
+use Rattle.ol_law_edges.proofs.Composing.{HasEdge, edge_of_apart, contracted_map, contracted_twice}
 
 -- the edges left without those at P or P', and both places' joins
 abbrev pub Edge2 : {V : Type 0} → (V → V → Type 0) → (V → Type 0) → (V → Type 0) →

@@ -1,7 +1,7 @@
 -- Where either of two nodes may act, nothing is born: so both ways leave one net, whatever the births are named.
 use Rattle.std.proofs.Common.{◌≡◌, ℕ, true, Some, ◌⊎◌, inl, inr, refl, sym, ◌∙◌, arith}
-use Rattle.ol_edges.specs.Edges.{Edge}
-use Rattle.ol_edges.proofs.Composing.{contracted_map}
+use Rattle.ol_law_edges.specs.Edges.{Edge}
+use Rattle.ol_law_edges.proofs.Composing.{contracted_map}
 use Rattle.ol_net.specs.declared.parts.Kind.{Kind}
 use Rattle.ol_net.specs.declared.parts.Rule.{Rule}
 use Rattle.ol_net.specs.Parts.{arity}

@@ -1,7 +1,7 @@
 -- The waves of a journal, and runs along it whose nets have weights: each run has weights, and they tell its waves.
 use Rattle.std.proofs.Common.{◌≡◌, ℕ, suc, ◌≤◌, List, [], ◌∷◌, inl, inr, refl, subst, arith}
-use Rattle.ol_edges.specs.Edges.{Edge}
-use Rattle.ol_edges.proofs.Composing.{contracted_map}
+use Rattle.ol_law_edges.specs.Edges.{Edge}
+use Rattle.ol_law_edges.proofs.Composing.{contracted_map}
 use Rattle.ol_net.specs.Nets.{NamedPort, slot, NamedNet, Linked, IsNet, SameNet, IsPrincipalOf, net_under}
 use Rattle.ol_net.specs.Pairs.{IsActive}
 use Rattle.ol_rules.specs.declared.journal.NodeName.{NodeName}

@@ -1,11 +1,11 @@
 -- Each step of a net with weights has a wave, and leaves weights.
 use Rattle.std.proofs.Common.{◌≡◌, ℕ, suc, ◌+◌, ◌≤◌, max, List, [], ◌∷◌, ◌++◌, map, filter, Option}
 use Rattle.std.proofs.Common.{Some, None, Bool, ◌⊎◌, ◌↔◌, inl, inr, refl, sym, subst, arith}
-use Rattle.ol_edges.specs.Edges.{IsIn, IsTest, Joined, here, on, back, Edge, Contracted}
-use Rattle.ol_edges.proofs.Contraction.{is_or_is_not}
-use Rattle.ol_edges.proofs.Joining.{joined_map}
-use Rattle.ol_edges.proofs.Composing.{contracted_map}
-use Rattle.ol_edges.proofs.Lists.{in_left, in_right, in_cases, only, in_map, in_map_of}
+use Rattle.ol_law_edges.specs.Edges.{IsIn, IsTest, Joined, here, on, back, Edge, Contracted}
+use Rattle.ol_law_edges.proofs.Contraction.{is_or_is_not}
+use Rattle.ol_law_edges.proofs.Joining.{joined_map}
+use Rattle.ol_law_edges.proofs.Composing.{contracted_map}
+use Rattle.ol_law_edges.proofs.Lists.{in_left, in_right, in_cases, only, in_map, in_map_of}
 use Rattle.ol_net.specs.declared.parts.Kind.{Kind}
 use Rattle.ol_net.specs.Parts.{arity}
 use Rattle.ol_net.specs.Nets.{NamedPort, slot, NamedNet, Linked, IsPrincipalOf, IsSlotOf}

@@ -3,9 +3,9 @@ use Rattle.std.proofs.Common.{◌≡◌, ◌≢◌, ℕ, suc, ◌+◌, ◌≤◌
 use Rattle.std.proofs.Common.{false, cond, Some, ◌⊎◌, ◌↔◌, inl, inr, refl, sym, ap, ◌∙◌, subst}
 use Rattle.std.proofs.Common.{arith, map}
 use Rattle.std.proofs.lemmas.List.Sums.{sum_by-cons}
-use Rattle.ol_edges.specs.Edges.{Joined, here, on, back, Edge, Contracted, bit}
-use Rattle.ol_edges.proofs.Joining.{joined_map}
-use Rattle.ol_edges.proofs.Composing.{HasEdge, edge_of_apart, contracted_map, contracted_swap}
+use Rattle.ol_law_edges.specs.Edges.{Joined, here, on, back, Edge, Contracted, bit}
+use Rattle.ol_law_edges.proofs.Joining.{joined_map}
+use Rattle.ol_law_edges.proofs.Composing.{HasEdge, edge_of_apart, contracted_map, contracted_swap}
 use Rattle.ol_net.specs.declared.parts.Kind.{Kind}
 use Rattle.ol_net.specs.Rules.{rule_of}
 use Rattle.ol_net.specs.Nets.{NamedPort, slot, NamedNet, HasNode, Linked, SameNet, Faces, IsPrincipalOf, IsSlotOf}

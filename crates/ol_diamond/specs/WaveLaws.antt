@@ -1,6 +1,6 @@
 -- The laws of waves.
 use Rattle.std.specs.Prelude.{◌≡◌, ℕ, suc, Bool, List, count_by, map}
-use Rattle.ol_edges.specs.Edges.{IsIn, IsTest}
+use Rattle.ol_law_edges.specs.Edges.{IsIn, IsTest}
 use Rattle.ol_net.specs.declared.parts.Rule.{Rule}
 use Rattle.ol_net.specs.Nets.{NamedPort, slot, NamedNet, IsNet}
 use Rattle.ol_rules.specs.declared.journal.NodeName.{NodeName}

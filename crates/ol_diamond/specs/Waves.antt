@@ -1,6 +1,6 @@
 -- Waves: the round in which a pair would be rewritten if each round rewrote all pairs that are there.
 use Rattle.std.specs.Prelude.{◌≡◌, ℕ, suc, ◌≤◌, ◌↔◌, Bool, List, [], ◌∷◌, map}
-use Rattle.ol_edges.specs.Edges.{Edge, Contracted}
+use Rattle.ol_law_edges.specs.Edges.{Edge, Contracted}
 use Rattle.ol_net.specs.declared.parts.Kind.{Kind}
 use Rattle.ol_net.specs.declared.parts.Rule.{Rule}
 use Rattle.ol_net.specs.Nets.{NamedPort, slot, NamedNet, Linked, SameNet, net_under, IsPrincipalOf, IsSlotOf}

@@ -1,6 +1,6 @@
 -- Edges with weights: what joins, and by which greatest weight.
 use Rattle.std.specs.Prelude.{◌≢◌, ℕ, ◌≤◌, max, ◌↔◌, List}
-use Rattle.ol_edges.specs.Edges.{IsIn, Joined, Contracted}
+use Rattle.ol_law_edges.specs.Edges.{IsIn, Joined, Contracted}
 
 -- u and v are joined by edges, taken either way, the heaviest of which has this weight
 pub data JoinedBy {V : Type 0} (E : V → V → ℕ → Type 0) (u : V) : V → ℕ → Type 0 where

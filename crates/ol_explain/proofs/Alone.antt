@@ -1,8 +1,8 @@
 -- A pair that waits has one wave, whether others that wait are rewritten before it or not.
 use Rattle.std.proofs.Common.{◌≡◌, ℕ, suc, ◌+◌, ◌≤◌, List, [], ◌∷◌, ◌++◌, length, inl, inr, Some}
 use Rattle.std.proofs.Common.{refl, sym, ap, ◌∙◌, subst, arith}
-use Rattle.ol_edges.specs.Edges.{IsIn, Edge, on, here}
-use Rattle.ol_edges.proofs.Composing.{HasEdge, edge_of_apart, contracted_swap}
+use Rattle.ol_law_edges.specs.Edges.{IsIn, Edge, on, here}
+use Rattle.ol_law_edges.proofs.Composing.{HasEdge, edge_of_apart, contracted_swap}
 use Rattle.ol_net.specs.declared.parts.Kind.{Kind}
 use Rattle.ol_net.specs.Rules.{rule_of}
 use Rattle.ol_net.specs.Nets.{NamedPort, slot, NamedNet, Linked, IsNet, Faces, IsPrincipalOf, IsSlotOf}

@@ -4,7 +4,7 @@ use Rattle.std.proofs.Common.{true, ◌⊎◌, inl, inr, refl, sym, ap, ◌∙�
 use Rattle.std.proofs.Common.{append_assoc, length-drop, Some}
 use Rattle.std.proofs.lemmas.List.{drop_at, take_all}
 use Rattle.std.specs.Prelude.{slice_get}
-use Rattle.ol_edges.specs.Edges.{IsIn}
+use Rattle.ol_law_edges.specs.Edges.{IsIn}
 use Rattle.ol_net.specs.Graph.{Graph}
 use Rattle.ol_net.specs.Nets.{NamedNet, IsNet, SameNet}
 use Rattle.ol_net.specs.Numbered.{net_of}

@@ -1,6 +1,6 @@
 -- Active pairs that wait: each has a step, and is active still after the step of another.
 use Rattle.std.proofs.Common.{◌≡◌, ℕ, suc, List, [], ◌∷◌, ◌⊎◌, inl, inr, refl, sym, ◌∙◌, subst, true}
-use Rattle.ol_edges.specs.Edges.{IsIn}
+use Rattle.ol_law_edges.specs.Edges.{IsIn}
 use Rattle.ol_net.specs.declared.parts.Kind.{Kind}
 use Rattle.ol_net.specs.Nets.{NamedNet, slot, Linked, IsNet, SameNet, Faces}
 use Rattle.ol_net.specs.Pairs.{IsActive}

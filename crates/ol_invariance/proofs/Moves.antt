@@ -2,8 +2,8 @@
 use Rattle.std.proofs.Common.{◌≡◌, ◌≢◌, ℕ, zero, suc, ◌<◌, ◌⊎◌, ◌↔◌, inl, inr, refl, sym, ap, ◌∙◌, subst, arith}
 use Rattle.ol_context.proofs.Contexts.{injective}
 use Rattle.ol_context.specs.Contexts.{Context, up}
-use Rattle.ol_edges.proofs.Joining.{joined_trans, joined_sym, joined_image}
-use Rattle.ol_edges.specs.Edges.{Joined, here, on, back}
+use Rattle.ol_law_edges.proofs.Joining.{joined_trans, joined_sym, joined_image}
+use Rattle.ol_law_edges.specs.Edges.{Joined, here, on, back}
 use Rattle.ol_invariance.proofs.Rewire.{Rewire, rewired}
 use Rattle.ol_net.specs.Nets.{NamedPort, free, slot, NamedNet, HasNode, Linked, IsNet, Faces}
 use Rattle.ol_net.specs.Parts.{arity}

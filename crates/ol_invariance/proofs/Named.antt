@@ -2,9 +2,9 @@
 use Rattle.std.proofs.Common.{◌≡◌, ◌≢◌, ℕ, suc, ◌+◌, ◌<◌, Bool, ◌⊎◌, ◌↔◌, inl, inr, refl, sym, ap, ◌∙◌, subst}
 use Rattle.ol_context.specs.Contexts.{Context, up}
 use Rattle.ol_context.specs.Paths.{Path}
-use Rattle.ol_edges.proofs.Contraction.{is_or_is_not}
-use Rattle.ol_edges.proofs.Joining.{joined_trans, joined_sym, joined_image, Follows, follow}
-use Rattle.ol_edges.specs.Edges.{IsTest, Joined, here, on, back}
+use Rattle.ol_law_edges.proofs.Contraction.{is_or_is_not}
+use Rattle.ol_law_edges.proofs.Joining.{joined_trans, joined_sym, joined_image, Follows, follow}
+use Rattle.ol_law_edges.specs.Edges.{IsTest, Joined, here, on, back}
 use Rattle.ol_invariance.proofs.Moves.{State, Move, link, node, Suits, After, wire, other_node}
 use Rattle.ol_invariance.proofs.Moves.{f_node, g_node, same_joined}
 use Rattle.ol_invariance.proofs.Trails.{path_is_joined}

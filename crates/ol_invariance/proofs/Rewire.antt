@@ -1,7 +1,7 @@
 -- States that go, and what the others are joined by then.
 use Rattle.std.proofs.Common.{◌≡◌, ◌⊎◌, inl, inr, refl, sym, subst}
-use Rattle.ol_edges.proofs.Joining.{follow}
-use Rattle.ol_edges.specs.Edges.{Joined, here, on, back}
+use Rattle.ol_law_edges.proofs.Joining.{follow}
+use Rattle.ol_law_edges.specs.Edges.{Joined, here, on, back}
 
 -- Old states and their moves, new states and their moves. The old state u goes where Mid u c. From there one comes
 -- only to a state that goes with the same c, and to a state that stays and has Out c.

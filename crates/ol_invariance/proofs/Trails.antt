@@ -4,9 +4,9 @@ use Rattle.ol_context.proofs.Ways.{through_back, through_one, path_way, way_on}
 use Rattle.ol_context.specs.Contexts.{Context}
 use Rattle.ol_context.specs.Paths.{Crosses, inward, outward, Through, through, Path, ends, goes, crossings}
 use Rattle.ol_context.specs.Ways.{Way, start, on}
-use Rattle.ol_edges.proofs.Joining.{joined_trans}
-use Rattle.ol_edges.specs.Edges.{Joined, here}
-use Rattle.ol_edges.specs.Edges as edges
+use Rattle.ol_law_edges.proofs.Joining.{joined_trans}
+use Rattle.ol_law_edges.specs.Edges.{Joined, here}
+use Rattle.ol_law_edges.specs.Edges as edges
 use Rattle.ol_invariance.proofs.Moves.{State, Move, link, node}
 use Rattle.ol_net.specs.Nets.{NamedPort, free, slot, NamedNet, Linked, IsNet}
 use Rattle.ol_net.specs.declared.parts.Kind.{Kind}

@@ -1,7 +1,7 @@
 -- The laws that steps and runs keep paths (Gonthier, Abadi and Lévy, The Geometry of Optimal Lambda Reduction, 1992).
 use Rattle.std.specs.Prelude.{ℕ, Bool, List}
 use Rattle.ol_context.specs.Paths.{HaveSamePaths}
-use Rattle.ol_edges.specs.Edges.{IsTest}
+use Rattle.ol_law_edges.specs.Edges.{IsTest}
 use Rattle.ol_net.specs.Graph.{Graph}
 use Rattle.ol_net.specs.Nets.{NamedNet, IsNet}
 use Rattle.ol_net.specs.Numbered.{net_of}

@@ -3,9 +3,9 @@ use Rattle.std.proofs.Common.{◌≡◌, ◌≢◌, ℕ, ◌+◌, ◌≤◌, ◌
 use Rattle.std.proofs.Common.{ap, ◌∙◌, inl, inr, ◌⊎◌, ◌↔◌, arith, subst}
 use Rattle.std.proofs.lemmas.Bool.{cases_eq}
 use Rattle.std.proofs.lemmas.Bool.Decides.{nat_tests}
-use Rattle.ol_edges.specs.Edges.{Joined, here, on, IsIn, Contracted}
-use Rattle.ol_edges.proofs.Joining.{joined_trans, joined_sym}
-use Rattle.ol_edges.proofs.Composing.{joined_keeps, contracted_map, contracted_twice}
+use Rattle.ol_law_edges.specs.Edges.{Joined, here, on, IsIn, Contracted}
+use Rattle.ol_law_edges.proofs.Joining.{joined_trans, joined_sym}
+use Rattle.ol_law_edges.proofs.Composing.{joined_keeps, contracted_map, contracted_twice}
 use Rattle.ol_net.specs.Pairing.{IsPaired, other}
 use Rattle.ol_net.specs.Rewired.{joined, joined_all, Within, AllTwo}
 use Rattle.ol_net.proofs.Joining.{JoinStep, alone-joined, IsPaired-joined, JoinStep-joined, length-joined}

@@ -6,7 +6,7 @@ use Rattle.std.specs.Prelude.{◌↔◌}
 use Rattle.std.proofs.lemmas.Bool.{cases_lt, cases_order, cases_Bool, false≢true}
 use Rattle.std.proofs.lemmas.Bool.Decides.{nat_tests}
 use Rattle.std.proofs.lemmas.List.{get_or_default}
-use Rattle.ol_edges.specs.Edges.{IsIn}
+use Rattle.ol_law_edges.specs.Edges.{IsIn}
 use Rattle.ol_net.specs.declared.parts.Kind.{Kind}
 use Rattle.ol_net.specs.declared.parts.Kind.TheVariants as kind
 use Rattle.ol_net.specs.declared.parts.Rule.{Rule}

@@ -5,8 +5,8 @@ use Rattle.std.proofs.Common.{refl, sym, ap, ◌∙◌, inl, inr, ◌⊎◌, ◌
 use Rattle.std.specs.Prelude.{option_map, slice_get}
 use Rattle.std.proofs.lemmas.Bool.{cases_eq, cases_lt, cases_Bool}
 use Rattle.std.proofs.lemmas.Bool.Decides.{nat_tests}
-use Rattle.ol_edges.specs.Edges.{IsIn, Contracted, Edge}
-use Rattle.ol_edges.proofs.Composing.{IsImage, edge_image, contracted_image, image_same}
+use Rattle.ol_law_edges.specs.Edges.{IsIn, Contracted, Edge}
+use Rattle.ol_law_edges.proofs.Composing.{IsImage, edge_image, contracted_image, image_same}
 use Rattle.ol_net.specs.declared.parts.Kind.{Kind}
 use Rattle.ol_net.specs.declared.parts.Kind.TheVariants as kind
 use Rattle.ol_net.specs.declared.parts.NodeId.{NodeId}

@@ -4,8 +4,8 @@ use Rattle.std.proofs.Common.{false, List, length, Option, refl, sym, ap, ◌∙
 use Rattle.std.proofs.Common.{arith}
 use Rattle.std.proofs.lemmas.Bool.{cases_eq, cases_lt, cases_Bool}
 use Rattle.std.proofs.lemmas.Bool.Decides.{nat_tests}
-use Rattle.ol_edges.specs.Edges.{Contracted, Edge}
-use Rattle.ol_edges.proofs.Composing.{HasEdge, contracted_map}
+use Rattle.ol_law_edges.specs.Edges.{Contracted, Edge}
+use Rattle.ol_law_edges.proofs.Composing.{HasEdge, contracted_map}
 use Rattle.ol_net.specs.declared.parts.Kind.{Kind}
 use Rattle.ol_net.specs.declared.parts.JoinEnd.{JoinEnd}
 use Rattle.ol_net.specs.Pairing.{other}

@@ -1,6 +1,6 @@
 -- A net has one number of stuck pairs.
 use Rattle.std.proofs.Common.{◌≡◌, ℕ, suc, ◌≤◌, length, List, [], ◌∷◌, ◌⊎◌, inl, inr, refl, sym, ap, ◌∙◌, subst, arith}
-use Rattle.ol_edges.specs.Edges.{IsIn}
+use Rattle.ol_law_edges.specs.Edges.{IsIn}
 use Rattle.ol_net.specs.Nets.{NamedNet}
 use Rattle.ol_net.specs.Pairs.{HasPair, AreDifferent, HasStuck}
 

@@ -1,7 +1,7 @@
 -- Nets over any names: nodes with a kind and an index, free ports, and links, each of two ports
 -- (Lafont, Interaction Nets, 1990).
 use Rattle.std.specs.Prelude.{◌≡◌, ℕ, ◌<◌, ◌≤◌, List, map, ◌↔◌, ◌⊎◌}
-use Rattle.ol_edges.specs.Edges.{IsIn, Near}
+use Rattle.ol_law_edges.specs.Edges.{IsIn, Near}
 use Rattle.ol_net.specs.declared.parts.Kind.{Kind}
 use Rattle.ol_net.specs.Parts.{arity}
 

@@ -1,6 +1,6 @@
 -- Facing pairs, active where they have a rule and stuck where they have none.
 use Rattle.std.specs.Prelude.{◌≡◌, ℕ, List, [], ◌∷◌, length, None, Some, ◌⊎◌, ◌↔◌}
-use Rattle.ol_edges.specs.Edges.{IsIn}
+use Rattle.ol_law_edges.specs.Edges.{IsIn}
 use Rattle.ol_net.specs.declared.parts.Kind.{Kind}
 use Rattle.ol_net.specs.declared.parts.Rule.{Rule}
 use Rattle.ol_net.specs.Rules.{rule_of}

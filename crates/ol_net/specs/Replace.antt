@@ -1,6 +1,6 @@
 -- One replacement in a net: two nodes go, others come, and the joins decide what is linked.
 use Rattle.std.specs.Prelude.{◌≡◌, ◌≢◌, ℕ, ◌+◌, ◌≤◌, List, length, Option, Some, ◌⊎◌, ◌↔◌, slice_get, true}
-use Rattle.ol_edges.specs.Edges.{IsIn, Edge, Contracted}
+use Rattle.ol_law_edges.specs.Edges.{IsIn, Edge, Contracted}
 use Rattle.ol_net.specs.declared.parts.Kind.{Kind}
 use Rattle.ol_net.specs.declared.parts.NodeId.{NodeId}
 use Rattle.ol_net.specs.declared.parts.Port.TheVariants.{Of}

@@ -3,8 +3,8 @@ use Rattle.std.proofs.Common.{◌≡◌, ℕ, zero, suc, map, ◌+◌, ◌<◌, 
 use Rattle.std.proofs.Common.{Option, Some, None, MatchOption, inl, inr, refl, sym, ap, ◌∙◌, subst}
 use Rattle.std.proofs.Common.{arith}
 use Rattle.std.specs.List.{flat_map}
-use Rattle.ol_edges.specs.Edges.{IsIn}
-use Rattle.ol_edges.proofs.Lists.{in_left, in_right, in_cases}
+use Rattle.ol_law_edges.specs.Edges.{IsIn}
+use Rattle.ol_law_edges.proofs.Lists.{in_left, in_right, in_cases}
 use Rattle.ol_net.specs.declared.parts.NodeId.{NodeId}
 use Rattle.ol_net.specs.declared.parts.Port.TheVariants.{Of}
 use Rattle.ol_net.specs.Graph.{Graph}

@@ -4,8 +4,8 @@ use Rattle.std.proofs.Common.{length, ◌⊎◌, inl, inr, refl, sym, ap, ◌∙
 use Rattle.std.proofs.lemmas.Bool.{cases_lt}
 use Rattle.std.specs.Ordering.{nat_cmp}
 use Rattle.std.specs.BTreeSet.{BTreeSet, contains, Updates, IsLowerBound, btree_set_len}
-use Rattle.ol_edges.specs.Edges.{IsIn}
-use Rattle.ol_edges.proofs.Lists.{in_left, in_right, in_cases, only}
+use Rattle.ol_law_edges.specs.Edges.{IsIn}
+use Rattle.ol_law_edges.proofs.Lists.{in_left, in_right, in_cases, only}
 use Rattle.ol_net.specs.declared.parts.Kind.{Kind}
 use Rattle.ol_net.specs.declared.parts.Rule.{Rule}
 use Rattle.ol_net.specs.Graph.{Graph}

@@ -4,8 +4,8 @@ use Rattle.std.proofs.Common.{length-append, ◌⊎◌, inl, inr, refl, sym, ap,
 use Rattle.std.specs.Prelude.{replicate}
 use Rattle.std.proofs.lemmas.Bool.{cases_lt}
 use Rattle.std.proofs.lemmas.Bool.Decides.{nat_tests}
-use Rattle.ol_edges.specs.Edges.{IsIn, Edge, Contracted, on, here}
-use Rattle.ol_edges.proofs.Composing.{joined_keeps, contracted_map, contracted_swap}
+use Rattle.ol_law_edges.specs.Edges.{IsIn, Edge, Contracted, on, here}
+use Rattle.ol_law_edges.proofs.Composing.{joined_keeps, contracted_map, contracted_swap}
 use Rattle.ol_net.specs.declared.parts.Kind.{Kind}
 use Rattle.ol_net.specs.declared.parts.Rule.{Rule}
 use Rattle.ol_net.specs.Nets.{NamedPort, slot, NamedNet, HasNode, Linked, IsNet, SameNet, IsPrincipalOf, IsSlotOf}

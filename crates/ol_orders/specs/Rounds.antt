@@ -1,6 +1,6 @@
 -- Runs in rounds: a round rewrites, once each, the pairs that are active when it begins, and no others.
 use Rattle.std.specs.Prelude.{◌≡◌, ℕ, suc, ◌+◌, ◌≤◌, List, [], ◌∷◌, ◌++◌, length, replicate, ◌↔◌}
-use Rattle.ol_edges.specs.Edges.{IsIn}
+use Rattle.ol_law_edges.specs.Edges.{IsIn}
 use Rattle.ol_net.specs.Graph.{Graph}
 use Rattle.ol_net.specs.Nets.{NamedNet}
 use Rattle.ol_net.specs.Pairs.{IsActive, IsComplete}

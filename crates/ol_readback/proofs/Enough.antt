@@ -2,7 +2,7 @@
 use Rattle.std.proofs.Common.{◌≡◌, ℕ, zero, suc, ◌≤◌, ◌⊎◌, List, [], ◌∷◌, ◌++◌, map, length, inl}
 use Rattle.std.proofs.Common.{inr, refl, sym, ap, ◌∙◌, subst, arith}
 use Rattle.std.proofs.lemmas.List.{length-map}
-use Rattle.ol_edges.specs.Edges.{IsIn}
+use Rattle.ol_law_edges.specs.Edges.{IsIn}
 use Rattle.ol_net.specs.declared.parts.Kind.{Kind}
 use Rattle.ol_net.specs.Nets.{NamedNet, NamedPort, free, slot, HasNode, IsNet}
 use Rattle.ol_context.specs.Contexts.{Level, empty, Context, levels, cons, up}
@@ -13,7 +13,7 @@ use Rattle.ol_context.proofs.Short.{few, IsLive, Down, first, next, down_one}
 use Rattle.ol_readback.specs.Frames.{os, asked}
 use Rattle.ol_readback.specs.Sources.{FewAreEnough}
 use Rattle.ol_readback.proofs.Holes.{fill, Before, moved, stripped, before}
-use Rattle.ol_edges.proofs.Lists.{in_map}
+use Rattle.ol_law_edges.proofs.Lists.{in_map}
 
 -- what is asked, as a level that is filled
 pub asked_filled : (ls : List Level) → (b : Context) × ((n : ℕ) → asked ls n ≡ fill (length ls) (os n empty) b)

@@ -24,7 +24,7 @@ use Rattle.ol_wire.proofs.InWords.Places.{place_same}
 use Rattle.ol_reduce.specs.Left.{ranks_in, AreLeft}
 use Rattle.ol_reduce.specs.Following.{LeadsTo}
 use Rattle.ol_reduce.specs.Found.{name_of, port_of, kind_of, IsKnown, IsPartial}
-use Rattle.ol_edges.specs.Edges.{ends}
+use Rattle.ol_law_edges.specs.Edges.{ends}
 use Rattle.ol_rules.proofs.Born.{at_most_two}
 use Rattle.ol_reduce.proofs.Forward.{es}
 use Rattle.ol_reduce.proofs.Bounded.{led_ends, events_few}

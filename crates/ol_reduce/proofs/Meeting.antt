@@ -4,7 +4,7 @@ use Rattle.std.proofs.Common.{if◌then◌else◌, List, [], ◌∷◌, length, 
 use Rattle.std.proofs.Common.{get_or-set_other, slice_index, slice_set, ◌⊎◌, inl, inr, refl, sym}
 use Rattle.std.proofs.Common.{ap, ◌∙◌, subst, arith}
 use Rattle.std.proofs.lemmas.Bool.{cases_eq, cases_lt}
-use Rattle.ol_edges.specs.Edges.{IsIn, here, on}
+use Rattle.ol_law_edges.specs.Edges.{IsIn, here, on}
 use Rattle.ol_net.specs.declared.parts.Kind.{Kind}
 use Rattle.ol_net.specs.Nets.{NamedPort, free, slot, NamedNet, Linked}
 use Rattle.ol_net.specs.Pairing.{other}

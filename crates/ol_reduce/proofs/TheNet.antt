@@ -3,7 +3,7 @@ use Rattle.std.proofs.Common.{◌≡◌, ◌≢◌, ℕ, ◌<◌, Bool, true, fa
 use Rattle.std.proofs.Common.{List, [], ◌∷◌, length, Some, is_some, count_by, inl, inr, refl, sym}
 use Rattle.std.proofs.Common.{ap, ◌∙◌, subst, arith}
 use Rattle.std.proofs.lemmas.Bool.{cases_lt}
-use Rattle.ol_edges.specs.Edges.{IsIn}
+use Rattle.ol_law_edges.specs.Edges.{IsIn}
 use Rattle.ol_net.specs.declared.parts.Kind.{Kind}
 use Rattle.ol_net.specs.declared.parts.Port.{Port}
 use Rattle.ol_net.specs.Nets.{NamedPort, NamedNet, HasNode, Linked, IsPort, SameNet, net_under, port_under}
@@ -14,7 +14,7 @@ use Rattle.ol_net.specs.Pairing.{other}
 use Rattle.ol_net.proofs.Numbered.{has_node}
 use Rattle.ol_net.proofs.Linking.{length-all_live, count_by-all_live}
 use Rattle.ol_rules.specs.declared.journal.NodeName.{NodeName}
-use Rattle.ol_edges.proofs.Lists.{in_map, in_map_of}
+use Rattle.ol_law_edges.proofs.Lists.{in_map, in_map_of}
 use Rattle.ol_rules.proofs.Renaming.{node_to, node_from, link_to, link_from}
 use Rattle.ol_rules.proofs.Lists.{in_each_of}
 use Rattle.ol_wire.specs.declared.layout.Parts.{Parts}

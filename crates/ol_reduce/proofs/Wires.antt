@@ -1,7 +1,7 @@
 -- Wires by their numbers.
 use Rattle.std.proofs.Common.{◌≡◌, ℕ, ◌+◌, ◌-◌, ◌*◌, ◌/◌, ◌%◌, ◌<◌, ◌≤◌, ◌⊎◌, inl, inr, ◌∙◌, arith}
 use Rattle.std.proofs.lemmas.Bool.{cases_lt}
-use Rattle.ol_edges.proofs.Lists.{if_below, if_above}
+use Rattle.ol_law_edges.proofs.Lists.{if_below, if_above}
 use Rattle.ol_wire.specs.declared.layout.Parts.{Parts}
 use Rattle.ol_wire.specs.Layout.{WordPart, ticket, live_word, port, field, wire, between, left}
 use Rattle.ol_wire.specs.Layout.{right, entry, past, part_of_word, start_wire, start_cell, block}

@@ -1,6 +1,6 @@
 -- Private: chains of wires in the words of a closed table, as they are followed from an end that owns a word.
 use Rattle.std.specs.Prelude.{◌≡◌, ◌≢◌, ℕ, zero, suc, ◌+◌, ◌<◌, Bool, true, List, slice_index, ◌⊎◌}
-use Rattle.ol_edges.specs.Edges.{IsIn}
+use Rattle.ol_law_edges.specs.Edges.{IsIn}
 use Rattle.ol_net.specs.Nets.{NamedNet}
 use Rattle.ol_rules.specs.declared.journal.NodeName.{NodeName}
 use Rattle.ol_reduce.specs.declared.chains.Goal.{Goal}

@@ -2,8 +2,8 @@
 use Rattle.std.proofs.Common.{◌≡◌, ℕ, suc, ◌<◌, Bool, true, false, if◌then◌else◌, nat_eq, nat_lt}
 use Rattle.std.proofs.Common.{eqb-true, ltb-true, eq-eqb, Some, None, ◌⊎◌, inl, inr, refl, sym, ap}
 use Rattle.std.proofs.Common.{◌∙◌, subst, arith}
-use Rattle.ol_edges.specs.Edges.{Joined, here, on, back, Edge, Contracted}
-use Rattle.ol_edges.proofs.Joining.{joined_map}
+use Rattle.ol_law_edges.specs.Edges.{Joined, here, on, back, Edge, Contracted}
+use Rattle.ol_law_edges.proofs.Joining.{joined_map}
 use Rattle.ol_net.specs.declared.parts.Kind.{Kind}
 use Rattle.ol_net.specs.declared.parts.Kind.TheVariants as kind
 use Rattle.ol_net.specs.declared.parts.Rule.{Rule}

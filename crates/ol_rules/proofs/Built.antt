@@ -2,16 +2,16 @@
 use Rattle.std.proofs.Common.{◌≡◌, ◌≢◌, ℕ, zero, suc, ◌+◌, ◌<◌, ◌≤◌, List, [], ◌∷◌, ◌++◌, map}
 use Rattle.std.proofs.Common.{filter, Bool, true, false, not, ◌||◌, ◌⊎◌, ◌↔◌, inl, inr, refl, sym}
 use Rattle.std.proofs.Common.{ap, ◌∙◌, subst, arith}
-use Rattle.ol_edges.proofs.Contraction.{is_or_is_not, is_other, contracted, left_edges, one_edge, ends_loop}
-use Rattle.ol_edges.proofs.Joining.{joined_sym, joined_map}
-use Rattle.ol_edges.specs.Edges.{IsIn, Near, ends, bit, IsTest, Joined, here, on, back, EdgeOf, Ready, contract_all}
+use Rattle.ol_law_edges.proofs.Contraction.{is_or_is_not, is_other, contracted, left_edges, one_edge, ends_loop}
+use Rattle.ol_law_edges.proofs.Joining.{joined_sym, joined_map}
+use Rattle.ol_law_edges.specs.Edges.{IsIn, Near, ends, bit, IsTest, Joined, here, on, back, EdgeOf, Ready, contract_all}
 use Rattle.ol_net.specs.Nets.{NamedPort, free, slot, NamedNet, HasNode, Linked, IsPort, IsNet, Faces, IsPrincipalOf}
 use Rattle.ol_net.specs.Parts.{arity}
 use Rattle.ol_net.specs.declared.parts.Kind.{Kind}
 use Rattle.ol_rules.proofs.EndCounts.{in_filter, in_filter_of, ends_append, ends_filter}
 use Rattle.ol_rules.proofs.EndCounts.{ends_filter_le, ends_near, ends_map}
 use Rattle.ol_rules.proofs.Joins.{HasJoins}
-use Rattle.ol_edges.proofs.Lists.{in_left, in_right, in_cases, in_map, in_map_of}
+use Rattle.ol_law_edges.proofs.Lists.{in_left, in_right, in_cases, in_map, in_map_of}
 use Rattle.ol_rules.proofs.Lists.{in_each, in_each_of}
 use Rattle.ol_rules.proofs.Ports.{Lasts, LinkAfter, links_of, Real, name_one, lasts_real, first_edge}
 use Rattle.ol_rules.proofs.Tests.{port_test, vertex_test}

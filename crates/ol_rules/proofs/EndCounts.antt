@@ -2,7 +2,7 @@
 use Rattle.std.proofs.Common.{◌≡◌, ◌≢◌, ℕ, zero, suc, ◌+◌, ◌<◌, ◌≤◌, List, [], ◌∷◌, ◌++◌, map}
 use Rattle.std.proofs.Common.{filter, Bool, true, false, cond, ◌⊎◌, inl, inr, refl, sym, ap, ◌∙◌}
 use Rattle.std.proofs.Common.{subst, arith}
-use Rattle.ol_edges.specs.Edges.{IsIn, Near, ends, bit, IsTest}
+use Rattle.ol_law_edges.specs.Edges.{IsIn, Near, ends, bit, IsTest}
 use Rattle.ol_rules.specs.Listed.{each}
 
 pub in_filter : {X : Type 0} (keep : X → Bool) (x : X) (xs : List X) → IsIn x xs → keep x ≡ true →

@@ -1,7 +1,7 @@
 -- Which nodes face an active partner after a step and did not before.
 use Rattle.std.proofs.Common.{◌≡◌, ◌≢◌, ℕ, suc, zero, ◌+◌, ◌⊎◌, inl, inr, refl, sym, ap, subst, arith}
-use Rattle.ol_edges.specs.Edges.{Edge, Contracted}
-use Rattle.ol_edges.proofs.Composing.{joined_keeps}
+use Rattle.ol_law_edges.specs.Edges.{Edge, Contracted}
+use Rattle.ol_law_edges.proofs.Composing.{joined_keeps}
 use Rattle.ol_net.specs.declared.parts.Kind.{Kind}
 use Rattle.ol_net.specs.declared.parts.Rule.{Rule}
 use Rattle.ol_net.specs.Parts.{arity}

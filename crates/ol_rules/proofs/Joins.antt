@@ -1,13 +1,13 @@
 -- The lists of joins: what is in them, and that each end stands in them once.
 use Rattle.std.proofs.Common.{◌≡◌, ◌≢◌, ℕ, suc, ◌+◌, ◌<◌, List, [], ◌∷◌, ◌++◌, Bool, true, ◌⊎◌, inl}
 use Rattle.std.proofs.Common.{inr, refl, sym, ap, ◌∙◌, subst, arith}
-use Rattle.ol_edges.proofs.Contraction.{is_other}
-use Rattle.ol_edges.specs.Edges.{IsIn, ends, bit, IsTest}
+use Rattle.ol_law_edges.proofs.Contraction.{is_other}
+use Rattle.ol_law_edges.specs.Edges.{IsIn, ends, bit, IsTest}
 use Rattle.ol_net.specs.Nets.{slot, NamedNet}
 use Rattle.ol_net.specs.Parts.{arity}
 use Rattle.ol_net.specs.declared.parts.Kind.{Kind}
 use Rattle.ol_rules.proofs.EndCounts.{tally_none, tally_one, ends_append, ends_each}
-use Rattle.ol_edges.proofs.Lists.{in_left, in_right, in_cases}
+use Rattle.ol_law_edges.proofs.Lists.{in_left, in_right, in_cases}
 use Rattle.ol_rules.proofs.Lists.{in_each, in_each_of}
 use Rattle.ol_rules.proofs.Tests.{vertex_test}
 use Rattle.ol_rules.specs.Contracting.{Vertex, old, f_copy, g_copy, vertex_same, meeting_joins, crossing_joins}

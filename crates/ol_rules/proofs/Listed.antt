@@ -2,7 +2,7 @@
 use Rattle.std.proofs.Common.{◌≡◌, ℕ, suc, ◌+◌, ◌<◌, List, [], ◌∷◌, ◌++◌, Some, ◌⊎◌, inl, inr, refl}
 use Rattle.std.proofs.Common.{sym, ap, ◌∙◌, subst, ◌≢◌, append-nil}
 use Rattle.std.specs.Prelude.{slice_get}
-use Rattle.ol_edges.specs.Edges.{IsIn}
+use Rattle.ol_law_edges.specs.Edges.{IsIn}
 use Rattle.ol_net.specs.declared.parts.Kind.{Kind}
 use Rattle.ol_net.specs.declared.parts.JoinEnd.{JoinEnd}
 use Rattle.ol_net.specs.declared.parts.JoinEnd.TheVariants.{First, Second, Born}
@@ -13,7 +13,7 @@ use Rattle.ol_rules.specs.Rewriting.{Action, meeting, crossing, JoinOf, meet, at
 use Rattle.ol_rules.specs.Rewriting.{NodeOf, left, of_f, of_g}
 use Rattle.ol_rules.specs.Listed.{each}
 use Rattle.ol_rules.specs.BornLists.{copies, born_of, meeting_joins, crossing_joins, joins_of}
-use Rattle.ol_edges.proofs.Lists.{in_left, in_right, in_cases, only}
+use Rattle.ol_law_edges.proofs.Lists.{in_left, in_right, in_cases, only}
 use Rattle.ol_rules.proofs.Lists.{in_each, in_each_of, get_copy, get_behind, got}
 
 module _ (f g next : ℕ) (k l : Kind) where

@@ -28,7 +28,7 @@ use Rattle.ol_rules.proofs.NameOrder.{Names, names_apart, names_after, names_aft
 use Rattle.ol_rules.proofs.NameOrder.{names_first, not_before, not_before_itself}
 use Rattle.ol_rules.proofs.Renaming.{net_alike, active_to, active_from, step_under}
 use Rattle.ol_rules.proofs.FreshPairs.{linked_sym}
-use Rattle.ol_edges.proofs.Lists.{got_append}
+use Rattle.ol_law_edges.proofs.Lists.{got_append}
 use Rattle.ol_rules.proofs.LeadRuns.{Led, Stepped, led_on}
 
 -- a node's number was given out

@@ -1,7 +1,7 @@
 -- A step said by ports is a step said by vertices.
 use Rattle.std.proofs.Common.{◌≡◌, ◌≢◌, ℕ, suc, ◌+◌, ◌<◌, ◌⊎◌, ◌↔◌, inl, inr, refl, sym, ap, ◌∙◌, subst, arith}
-use Rattle.ol_edges.proofs.Joining.{joined_sym, joined_image, Follows, follow}
-use Rattle.ol_edges.specs.Edges.{Joined, here, on, back, Edge, Contracted}
+use Rattle.ol_law_edges.proofs.Joining.{joined_sym, joined_image, Follows, follow}
+use Rattle.ol_law_edges.specs.Edges.{Joined, here, on, back, Edge, Contracted}
 use Rattle.ol_net.specs.Nets.{NamedPort, free, slot, NamedNet, HasNode, Linked, IsPort, IsNet}
 use Rattle.ol_net.specs.Nets.{Faces, IsPrincipalOf, IsSlotOf}
 use Rattle.ol_net.specs.Parts.{arity}

@@ -1,8 +1,8 @@
 -- A net whose links are listed more than once is the same as one where each stands once.
 use Rattle.std.proofs.Common.{◌≡◌, ◌≢◌, ℕ, ◌<◌, ◌≤◌, List, [], ◌∷◌, Bool, true, false, ◌⊎◌, inl}
 use Rattle.std.proofs.Common.{inr, refl, sym, ap, ◌∙◌, subst, arith}
-use Rattle.ol_edges.proofs.Contraction.{is_or_is_not, is_other, ends_in}
-use Rattle.ol_edges.specs.Edges.{Near, ends, bit, IsTest}
+use Rattle.ol_law_edges.proofs.Contraction.{is_or_is_not, is_other, ends_in}
+use Rattle.ol_law_edges.specs.Edges.{Near, ends, bit, IsTest}
 use Rattle.ol_net.specs.Nets.{NamedPort, free, slot, NamedNet, IsPort, IsNet, SameNet}
 use Rattle.ol_rules.proofs.EndCounts.{ends_near}
 use Rattle.ol_rules.proofs.Tests.{port_test}

@@ -1,7 +1,7 @@
 -- Steps as a relation between nets, however their lists are ordered and whether or not a link stands in them twice.
 use Rattle.std.proofs.Common.{◌≡◌, ℕ, Bool, true, false, cond, if◌then◌else◌, Some, inl, inr, refl, sym, ◌∙◌, subst}
-use Rattle.ol_edges.proofs.Joining.{joined_map}
-use Rattle.ol_edges.specs.Edges.{IsTest, Joined, here, on, Edge, Contracted}
+use Rattle.ol_law_edges.proofs.Joining.{joined_map}
+use Rattle.ol_law_edges.specs.Edges.{IsTest, Joined, here, on, Edge, Contracted}
 use Rattle.ol_net.specs.Nets.{NamedPort, slot, NamedNet, Linked, IsNet, SameNet, Faces, IsPrincipalOf, IsSlotOf}
 use Rattle.ol_net.specs.Parts.{arity}
 use Rattle.ol_net.specs.Rules.{rule_of}

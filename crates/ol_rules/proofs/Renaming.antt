@@ -1,8 +1,8 @@
 -- A step of a net is a step of the same net under other names.
 use Rattle.std.proofs.Common.{◌≡◌, ℕ, suc, ◌+◌, List, [], ◌∷◌, map, inl, inr, refl, sym, ap, ◌∙◌, subst}
-use Rattle.ol_edges.specs.Edges.{IsIn, Edge, Contracted}
-use Rattle.ol_edges.proofs.Lists.{in_map, in_map_of}
-use Rattle.ol_edges.proofs.Composing.{IsImage, contracted_image}
+use Rattle.ol_law_edges.specs.Edges.{IsIn, Edge, Contracted}
+use Rattle.ol_law_edges.proofs.Lists.{in_map, in_map_of}
+use Rattle.ol_law_edges.proofs.Composing.{IsImage, contracted_image}
 use Rattle.ol_net.specs.declared.parts.Kind.{Kind}
 use Rattle.ol_net.specs.declared.parts.Rule.{Rule}
 use Rattle.ol_net.specs.Parts.{arity}

@@ -1,7 +1,7 @@
 -- One step by the table: its net is there, is counted, and is what the relation says.
 use Rattle.std.proofs.Common.{◌≡◌, ◌≢◌, ℕ, suc, ◌+◌, ◌<◌, List, [], ◌∷◌, ◌++◌, Bool, true, false}
 use Rattle.std.proofs.Common.{cond, if◌then◌else◌, Some, ◌⊎◌, inl, inr, refl, sym, subst}
-use Rattle.ol_edges.specs.Edges.{IsIn, IsTest, Ready}
+use Rattle.ol_law_edges.specs.Edges.{IsIn, IsTest, Ready}
 use Rattle.ol_net.specs.Nets.{slot, NamedNet, Linked, Faces}
 use Rattle.ol_net.specs.Parts.{arity}
 use Rattle.ol_net.specs.Rules.{rule_of}
@@ -9,7 +9,7 @@ use Rattle.ol_net.specs.declared.parts.Kind.{Kind}
 use Rattle.ol_net.specs.declared.parts.Rule.{Rule}
 use Rattle.ol_rules.proofs.Built.{net_of, HasBorn, ready, built_rewrites, built_counted}
 use Rattle.ol_rules.proofs.Joins.{meets, crosses}
-use Rattle.ol_edges.proofs.Lists.{in_left, in_right, in_cases}
+use Rattle.ol_law_edges.proofs.Lists.{in_left, in_right, in_cases}
 use Rattle.ol_rules.proofs.Lists.{in_each, in_each_of}
 use Rattle.ol_rules.specs.Contracting.{Vertex, old, f_copy, g_copy, vertex_same, links_left}
 use Rattle.ol_rules.specs.Contracting.{meeting_joins, crossing_joins, gone, born_nodes, rewritten}

@@ -1,8 +1,8 @@
 -- A replacement by the lists of a step is that step.
 use Rattle.std.proofs.Common.{◌≡◌, ◌≢◌, ℕ, ◌+◌, Bool, true, false, if◌then◌else◌, Some, ◌⊎◌, inl}
 use Rattle.std.proofs.Common.{inr, refl, ap, ◌∙◌, arith, length, length-append}
-use Rattle.ol_edges.specs.Edges.{Joined, here, on, Edge, Contracted}
-use Rattle.ol_edges.proofs.Joining.{joined_map}
+use Rattle.ol_law_edges.specs.Edges.{Joined, here, on, Edge, Contracted}
+use Rattle.ol_law_edges.proofs.Joining.{joined_map}
 use Rattle.ol_net.specs.declared.parts.Kind.{Kind}
 use Rattle.ol_net.specs.declared.parts.NodeId.{NodeId}
 use Rattle.ol_net.specs.declared.parts.Rule.{Rule}

@@ -1,7 +1,7 @@
 -- Tests on names, ports and vertices.
 use Rattle.std.proofs.Common.{◌≡◌, Bool, true, refl, ap, ◌∙◌, nat_eq, eq-eqb, eqb-true}
 use Rattle.std.proofs.lemmas.Bool.{and_parts, and_from}
-use Rattle.ol_edges.specs.Edges.{IsTest}
+use Rattle.ol_law_edges.specs.Edges.{IsTest}
 use Rattle.ol_net.specs.Nets.{NamedPort, free, slot}
 use Rattle.ol_rules.specs.Contracting.{Vertex, old, f_copy, g_copy, vertex_same, port_same}
 

@@ -1,12 +1,12 @@
 -- Pairs of a net under other names: they face under both, and as many are stuck.
 use Rattle.std.proofs.Common.{◌≡◌, ℕ, suc, length, List, [], ◌∷◌, map, inl, inr, refl, sym, ap, ◌∙◌, subst}
-use Rattle.ol_edges.specs.Edges.{IsIn}
+use Rattle.ol_law_edges.specs.Edges.{IsIn}
 use Rattle.ol_net.specs.declared.parts.Kind.{Kind}
 use Rattle.ol_net.specs.Nets.{NamedPort, free, slot, NamedNet, HasNode, Linked, IsPort, IsNet}
 use Rattle.ol_net.specs.Nets.{SameNet, Faces, port_under, net_under}
 use Rattle.ol_net.specs.Pairs.{IsStuck, HasPair, AreDifferent, HasStuck, IsComplete}
 use Rattle.ol_rules.proofs.Relation.{same_sym}
-use Rattle.ol_edges.proofs.Lists.{in_map, in_map_of}
+use Rattle.ol_law_edges.proofs.Lists.{in_map, in_map_of}
 use Rattle.ol_rules.proofs.Renaming.{node_to, node_from, link_to, link_from}
 
 -- the same net, under the same names

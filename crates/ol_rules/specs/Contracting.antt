@@ -2,7 +2,7 @@
 -- left once slots are taken out.
 use Rattle.std.specs.Prelude.{◌≡◌, ℕ, zero, suc, ◌+◌, List, [], ◌∷◌, ◌++◌, map, filter, Bool, false}
 use Rattle.std.specs.Prelude.{cond, not, ◌||◌, ◌&&◌, nat_eq, ◌↔◌}
-use Rattle.ol_edges.specs.Edges.{Near, Ready, ends, contract_all}
+use Rattle.ol_law_edges.specs.Edges.{Near, Ready, ends, contract_all}
 use Rattle.ol_net.specs.Nets.{NamedPort, free, slot, NamedNet, HasNode, Linked, IsPort}
 use Rattle.ol_net.specs.Parts.{arity}
 use Rattle.ol_net.specs.declared.parts.Kind.{Kind}

@@ -1,6 +1,6 @@
 -- The laws of a step, and of the one-thread run.
 use Rattle.std.specs.Prelude.{◌≡◌, ◌≢◌, ℕ, Bool, true, List}
-use Rattle.ol_edges.specs.Edges.{IsTest}
+use Rattle.ol_law_edges.specs.Edges.{IsTest}
 use Rattle.ol_net.specs.declared.parts.Kind.{Kind}
 use Rattle.ol_net.specs.declared.parts.Rule.{Rule}
 use Rattle.ol_net.specs.Nets.{NamedNet, HasNode, IsNet, SameNet}

@@ -1,6 +1,6 @@
 -- One step as a relation between nets over any names, said by what edges join.
 use Rattle.std.specs.Prelude.{◌≡◌, ◌≢◌, ℕ, suc, ◌+◌, ◌-◌, ◌<◌, Bool, true, false, if◌then◌else◌, ◌↔◌}
-use Rattle.ol_edges.specs.Edges.{Edge, Contracted}
+use Rattle.ol_law_edges.specs.Edges.{Edge, Contracted}
 use Rattle.ol_net.specs.declared.parts.Kind.{Kind}
 use Rattle.ol_net.specs.declared.parts.Rule.{Rule}
 use Rattle.ol_net.specs.declared.parts.Rule.TheVariants as rule

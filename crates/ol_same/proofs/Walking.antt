@@ -4,8 +4,8 @@ use Rattle.std.proofs.Common.{ap, ◌∙◌, subst, List, [], ◌∷◌, ◌++�
 use Rattle.std.proofs.lemmas.Bool.{cases_lt}
 use Rattle.std.proofs.lemmas.Bool.Decides.{nat_tests}
 use Rattle.std.proofs.lemmas.List.{append-nil, get_or_append_left, length-append}
-use Rattle.ol_edges.specs.Edges.{IsIn}
-use Rattle.ol_edges.proofs.Lists.{in_left, in_right, in_cases}
+use Rattle.ol_law_edges.specs.Edges.{IsIn}
+use Rattle.ol_law_edges.proofs.Lists.{in_left, in_right, in_cases}
 use Rattle.ol_net.specs.declared.parts.Port.{Port}
 use Rattle.ol_net.specs.declared.parts.Port.TheVariants.{Free, Of}
 use Rattle.ol_net.specs.Graph.{Graph, kind_at, partner_of}

@@ -1,7 +1,7 @@
 -- Private: words of private contracts alone: which nodes of two nets have met.
 use Rattle.std.specs.Prelude.{◌≡◌, ℕ, Bool, true, false, List, length, Option, None, Some, is_some}
 use Rattle.std.specs.Prelude.{slice_index_or, count_by, ◌↔◌, ◌+◌, ◌*◌, ◌<◌}
-use Rattle.ol_edges.specs.Edges.{IsIn}
+use Rattle.ol_law_edges.specs.Edges.{IsIn}
 use Rattle.ol_net.specs.declared.parts.Kind.{Kind}
 use Rattle.ol_net.specs.declared.parts.Port.{Port}
 use Rattle.ol_net.specs.Graph.{Graph}

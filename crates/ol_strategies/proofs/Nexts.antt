@@ -7,7 +7,7 @@ use Rattle.ol_term.specs.Trees.{Tree, var, free, lam, app}
 use Rattle.ol_beta.specs.Beta.{applied, contracted}
 use Rattle.ol_beta.specs.Leftmost.{is_abstraction, under, leftmost, IsNormal}
 use Rattle.ol_beta.proofs.Redexes.{no_under, no_leftmost, leftmost_first}
-use Rattle.ol_meaning.specs.Shows.{IsHeadAddress}
+use Rattle.ol_law_meaning.specs.Shows.{IsHeadAddress}
 use Rattle.ol_strategies.specs.Redexes.{head_redex, weak_head_redex, root_if, applicative_redex, is_value, value_redex}
 use Rattle.ol_strategies.specs.Searches.{spine_redex, is_ready, strict_redex}
 use Rattle.ol_strategies.specs.Laws.{NextIsRedex, HeadIsLeftmost, WeakHeadIsHead, HeadIsAtHeadAddress}

@@ -2,7 +2,7 @@
 use Rattle.std.specs.Prelude.{◌≡◌, true, ◌⊎◌, List}
 use Rattle.ol_term.specs.Trees.{Tree, free, app}
 use Rattle.ol_beta.specs.Leftmost.{is_abstraction, IsNormal}
-use Rattle.ol_meaning.specs.Shows.{applied, IsVariable, IsHeadNormal}
+use Rattle.ol_law_meaning.specs.Shows.{applied, IsVariable, IsHeadNormal}
 use Rattle.ol_strategies.specs.Redexes.{is_value}
 use Rattle.ol_strategies.specs.declared.orders.Order as orders
 use Rattle.ol_strategies.specs.declared.orders.Order.TheVariants as order

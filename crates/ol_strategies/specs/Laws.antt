@@ -3,7 +3,7 @@ use Rattle.std.specs.Prelude.{◌≡◌, ℕ, suc, [], ◌∷◌, ◌++◌, List
 use Rattle.ol_term.specs.Trees.{Tree, app, is_below}
 use Rattle.ol_beta.specs.Beta.{contracted}
 use Rattle.ol_beta.specs.Leftmost.{is_abstraction, leftmost, IsBefore}
-use Rattle.ol_meaning.specs.Shows.{IsHeadAddress}
+use Rattle.ol_law_meaning.specs.Shows.{IsHeadAddress}
 use Rattle.ol_strategies.specs.Redexes.{next, head_redex, weak_head_redex, applicative_redex, is_value, value_redex}
 use Rattle.ol_strategies.specs.Reductions.{IsStep, Leads}
 use Rattle.ol_strategies.specs.Ends.{IsEnd, IsStuck, HasFreeHead}

@@ -1,6 +1,6 @@
 -- That edges between ends stand for a net.
 use Rattle.std.specs.Prelude.{◌≡◌, ℕ, suc, ◌+◌, ◌<◌, Bool, true, nat_eq, List, ◌⊎◌, ◌↔◌}
-use Rattle.ol_edges.specs.Edges.{EdgeOf, ends, Contracted}
+use Rattle.ol_law_edges.specs.Edges.{EdgeOf, ends, Contracted}
 use Rattle.ol_net.specs.declared.parts.Kind.{Kind}
 use Rattle.ol_net.specs.Parts.{arity}
 use Rattle.ol_net.specs.Nets.{NamedPort, free, slot, NamedNet, HasNode, Linked}

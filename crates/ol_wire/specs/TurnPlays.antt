@@ -1,6 +1,6 @@
 -- Private: what two more steps of a turn tell: the look at a field, and the step that puts a claimed pair back.
 use Rattle.std.specs.Prelude.{◌≡◌, ℕ}
-use Rattle.ol_edges.specs.Edges.{IsIn}
+use Rattle.ol_law_edges.specs.Edges.{IsIn}
 use Rattle.ol_wire.specs.declared.plan.Plan.{Plan}
 use Rattle.ol_wire.specs.Rule.{KnowsPlan}
 use Rattle.ol_wire.specs.Moments.{MomentHolding}

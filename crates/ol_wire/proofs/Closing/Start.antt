@@ -7,7 +7,7 @@ use Rattle.std.specs.Prelude.{slice_get}
 use Rattle.std.proofs.lemmas.Bool.{cases_eq, cases_lt}
 use Rattle.std.proofs.lemmas.List.Sums.{count_by-le-length, sum_by-cons}
 use Rattle.std.proofs.lemmas.Option.{slice_get_within}
-use Rattle.ol_edges.specs.Edges.{IsIn}
+use Rattle.ol_law_edges.specs.Edges.{IsIn}
 use Rattle.ol_net.specs.declared.parts.Kind.{Kind}
 use Rattle.ol_net.specs.Numbered.{nodes_from, net_of}
 use Rattle.ol_net.specs.Nets.{HasNode}
@@ -28,7 +28,7 @@ use Rattle.ol_wire.specs.ClosedRule.{IsClosed}
 use Rattle.ol_wire.proofs.Closing.Entry.{births_of, births_read}
 use Rattle.ol_wire.proofs.Closing.Table.{k, tickets, event_told, entry_told, entry_at, no_entry}
 use Rattle.ol_wire.proofs.Closing.Nodes.{IsLive, Fits, IsMadeFrom, IsLeft, live_after}
-use Rattle.ol_edges.proofs.Lists.{get_there}
+use Rattle.ol_law_edges.proofs.Lists.{get_there}
 
 some_count : (a : Kind × ℕ) (nodes : List (Option (Kind × ℕ))) →
     count_by is_some (Some a ∷ nodes) ≡ 1 + count_by is_some nodes

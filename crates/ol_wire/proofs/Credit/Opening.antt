@@ -12,7 +12,7 @@ use Rattle.ol_wire.specs.Weights.{sum_below}
 use Rattle.ol_wire.specs.Credit.{active_at, active_cells}
 use Rattle.ol_wire.proofs.Credit.Sums.{sum_same, active_empty}
 use Rattle.ol_wire.proofs.Credit.Words.{cells_off}
-use Rattle.ol_edges.proofs.Lists.{if_below, if_above}
+use Rattle.ol_law_edges.proofs.Lists.{if_below, if_above}
 
 sum_beyond : (m n : ℕ) (f : ℕ → ℕ) → m ≤ n → ((c : ℕ) → m ≤ c → f c ≡ 0) → sum_below n f ≡ sum_below m f
 sum_beyond zero zero f le none = refl

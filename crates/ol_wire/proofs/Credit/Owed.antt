@@ -5,7 +5,7 @@ use Rattle.std.proofs.Common.{length, get_or, refl, sym, ap, ◌∙◌, arith, i
 use Rattle.std.proofs.lemmas.Bool.{cases_eq}
 use mathlib.Core.Option.{some}
 use lib.ListN.{get_elem?}
-use Rattle.ol_edges.specs.Edges.{IsIn}
+use Rattle.ol_law_edges.specs.Edges.{IsIn}
 use Rattle.ol_net.specs.declared.parts.Rule.{Rule}
 use Rattle.ol_net.specs.Nets.{slot}
 use Rattle.ol_net.specs.Pairs.{IsComplete, HasActive}

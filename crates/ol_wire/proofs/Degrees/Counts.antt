@@ -3,7 +3,7 @@
 -- the copies and of their wires come.
 -- Used in After, Born and Nodes.
 use Rattle.std.proofs.Common.{◌≡◌, ℕ, ◌+◌, ◌*◌, ◌<◌, nat_eq, if◌then◌else◌, true, false, inl, inr, sym, ap, ◌∙◌, arith}
-use Rattle.ol_edges.specs.Edges.{ends}
+use Rattle.ol_law_edges.specs.Edges.{ends}
 use Rattle.ol_net.specs.declared.parts.Kind.{Kind}
 use Rattle.ol_net.specs.declared.parts.Rule.{Rule}
 use Rattle.ol_net.specs.Parts.{arity}

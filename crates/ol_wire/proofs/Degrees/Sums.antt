@@ -3,7 +3,7 @@
 use Rattle.std.proofs.Common.{◌≡◌, ◌≢◌, ℕ, zero, suc, ◌+◌, ◌*◌, ◌<◌, nat_eq, eq-eqb, ne_eqb, List}
 use Rattle.std.proofs.Common.{inl, inr, refl, sym, ap, ◌∙◌, arith}
 use Rattle.std.proofs.lemmas.Bool.{cases_eq}
-use Rattle.ol_edges.specs.Edges.{bit}
+use Rattle.ol_law_edges.specs.Edges.{bit}
 use Rattle.ol_rules.specs.Listed.{each}
 use Rattle.ol_wire.specs.Weights.{pairs}
 use Rattle.ol_wire.proofs.InWords.Alike.{pairs_append}

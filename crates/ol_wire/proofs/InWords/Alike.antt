@@ -3,7 +3,7 @@
 use Rattle.std.proofs.Common.{◌≡◌, ℕ, ◌+◌, ◌<◌, Bool, true, false, ◌&&◌, nat_eq, eq-eqb, eqb-true}
 use Rattle.std.proofs.Common.{List, [], ◌∷◌, ◌++◌, ◌⊎◌, inl, inr, refl, sym, ap, ◌∙◌, arith}
 use Rattle.std.proofs.lemmas.Bool.{cases_eq}
-use Rattle.ol_edges.specs.Edges.{IsIn, Near, Joined, here, on, back, EdgeOf, ends, bit}
+use Rattle.ol_law_edges.specs.Edges.{IsIn, Near, Joined, here, on, back, EdgeOf, ends, bit}
 use Rattle.ol_wire.specs.Weights.{total, pairs}
 use Rattle.ol_wire.specs.EvenWeights.{Even}
 

@@ -4,7 +4,7 @@ use Rattle.std.proofs.Common.{◌≡◌, ◌≢◌, ℕ, suc, ◌+◌, ◌<◌, 
 use Rattle.std.proofs.Common.{nat_eq, eq-eqb, ne_eqb, List, [], ◌∷◌, length, get_or, ◌⊎◌, inl, inr}
 use Rattle.std.proofs.Common.{refl, sym, ap, ◌∙◌, subst, arith}
 use Rattle.std.proofs.lemmas.Bool.{cases_eq}
-use Rattle.ol_edges.specs.Edges.{IsIn, here, on, ends, bit}
+use Rattle.ol_law_edges.specs.Edges.{IsIn, here, on, ends, bit}
 use Rattle.ol_net.specs.declared.parts.Kind.{Kind}
 use Rattle.ol_net.specs.Nets.{NamedPort, slot, NamedNet, HasNode, Linked}
 use Rattle.ol_net.specs.Parts.{arity}
@@ -24,7 +24,7 @@ use Rattle.ol_wire.proofs.InWords.References.{node_sort, wire_sort, slot_sort, s
 use Rattle.ol_wire.proofs.InWords.Places.{part_field, is_left, place_before, place_same}
 use Rattle.ol_wire.proofs.InWords.EdgeList.{edge_there, edge_found, pending_there, pending_found, live_there}
 use Rattle.ol_wire.proofs.InWords.Held.{Holds, owner}
-use Rattle.ol_edges.proofs.Lists.{in_left, in_cases}
+use Rattle.ol_law_edges.proofs.Lists.{in_left, in_cases}
 use Rattle.ol_rules.proofs.EndCounts.{ends_append}
 use Rattle.ol_rules.proofs.Born.{at_most_two}
 

@@ -3,7 +3,7 @@
 use Rattle.std.proofs.Common.{◌≡◌, ◌≢◌, ℕ, suc, ◌<◌, ◌≤◌, nat_eq, List, [], ◌∷◌, get_or, Some, None}
 use Rattle.std.proofs.Common.{◌⊎◌, inl, inr, refl, sym, ap, ◌∙◌, subst, arith}
 use Rattle.std.proofs.lemmas.Bool.{cases_eq}
-use Rattle.ol_edges.specs.Edges.{IsIn, EdgeOf, Joined, here, on, back, ends, Contracted}
+use Rattle.ol_law_edges.specs.Edges.{IsIn, EdgeOf, Joined, here, on, back, ends, Contracted}
 use Rattle.ol_net.specs.declared.parts.Kind.{Kind}
 use Rattle.ol_net.specs.declared.parts.Rule.{Rule}
 use Rattle.ol_net.specs.Nets.{NamedPort, slot, HasNode}
@@ -23,7 +23,7 @@ use Rattle.ol_wire.proofs.InWords.References.{node_sort, wire_sort, slot_sort, w
 use Rattle.ol_wire.proofs.InWords.EdgeList.{edge_found, pending_found}
 use Rattle.ol_wire.proofs.InWords.Claimed.{node_of, ends_first, ends_second, ends_twice, same_bit}
 use Rattle.ol_wire.proofs.InWords.Claimed.{EdgeAt, at_wire, at_field, at_cell, edge_at}
-use Rattle.ol_edges.proofs.Lists.{in_cases}
+use Rattle.ol_law_edges.proofs.Lists.{in_cases}
 
 -- an end that has edges to two others stands at two edges
 two_edges : (v u w : ℕ) (es : List (ℕ × ℕ)) → u ≢ w → IsIn (v, u) es → IsIn (v, w) es → 2 ≤ ends nat_eq v es

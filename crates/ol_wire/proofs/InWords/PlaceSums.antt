@@ -4,7 +4,7 @@ use Rattle.std.proofs.Common.{◌≡◌, ◌≢◌, ℕ, zero, suc, ◌+◌, ◌
 use Rattle.std.proofs.Common.{eq-eqb, ne_eqb, List, [], ◌∷◌, inl, inr, refl, sym, ap, ◌∙◌, subst}
 use Rattle.std.proofs.Common.{arith}
 use Rattle.std.proofs.lemmas.Bool.{cases_eq}
-use Rattle.ol_edges.specs.Edges.{IsIn}
+use Rattle.ol_law_edges.specs.Edges.{IsIn}
 use Rattle.ol_rules.specs.Listed.{each}
 use Rattle.ol_wire.specs.Weights.{total, pairs}
 use Rattle.ol_wire.proofs.InWords.Alike.{pairs_append}

@@ -15,7 +15,7 @@ use Rattle.ol_wire.specs.Layout.{start_node, start_wire, start_cell, block, tabl
 use Rattle.ol_wire.specs.Layout.{born_wire, born_cell, left_word, cells_of, IsPlaced}
 use Rattle.ol_wire.specs.Events.{name_at, name_in_part}
 use Rattle.ol_wire.specs.Plays.{cell_at}
-use Rattle.ol_edges.proofs.Lists.{if_below, if_above}
+use Rattle.ol_law_edges.proofs.Lists.{if_below, if_above}
 
 same : {A : Type 0} (m n : ℕ) (x y : A) → m ≡ n → (if m == n then x else y) ≡ x
 same m n x y e = ap (λ b. if b then x else y) (eq-eqb m n e)

@@ -10,7 +10,7 @@ use Rattle.std.proofs.lemmas.Bool.Decides.{nat_tests}
 use mathlib.Core.Bool.{false≢true}
 use mathlib.Core.Option.{some}
 use lib.ListN.{get_elem?}
-use Rattle.ol_edges.specs.Edges.{IsIn, ends, bit}
+use Rattle.ol_law_edges.specs.Edges.{IsIn, ends, bit}
 use Rattle.ol_net.specs.Nets.{NamedPort}
 use Rattle.ol_rules.specs.declared.journal.NodeName.{NodeName}
 use Rattle.ol_wire.specs.declared.layout.Parts.{Parts}

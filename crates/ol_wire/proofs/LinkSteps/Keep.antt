@@ -9,7 +9,7 @@ use Rattle.std.proofs.lemmas.Bool.{cases_eq, cases_lt}
 use mathlib.Core.Option.{some}
 use lib.ListN.{get_elem?}
 use Rattle.core.specs.Prelude.{slice_get}
-use Rattle.ol_edges.specs.Edges.{IsIn, bit}
+use Rattle.ol_law_edges.specs.Edges.{IsIn, bit}
 use Rattle.ol_rules.specs.declared.journal.NodeName.TheVariants.{Init, Born}
 use Rattle.ol_net.specs.Pairs.{HasActive}
 use Rattle.ol_wire.specs.declared.layout.Parts.{Parts}

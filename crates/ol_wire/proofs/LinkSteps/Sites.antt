@@ -6,7 +6,7 @@ use Rattle.std.proofs.Common.{slice_index, sym, refl, ap, ◌∙◌, subst, inl,
 use Rattle.std.proofs.lemmas.Bool.{cases_eq, and_parts}
 use mathlib.Core.Bool.{false≢true}
 use Rattle.core.specs.Prelude.{slice_get}
-use Rattle.ol_edges.specs.Edges.{IsIn, ends}
+use Rattle.ol_law_edges.specs.Edges.{IsIn, ends}
 use Rattle.ol_net.specs.Nets.{NamedPort, NamedNet}
 use Rattle.ol_rules.specs.declared.journal.NodeName.{NodeName}
 use Rattle.ol_wire.specs.declared.layout.Parts.{Parts}
@@ -31,7 +31,7 @@ use Rattle.ol_wire.proofs.InWords.Claimed.{IsNodeAt, node_of, is_placed, ends_fi
 use Rattle.ol_wire.proofs.InWords.EdgeList.{word_edge, pending_there}
 use Rattle.ol_wire.proofs.InWords.Edges.{edge_as}
 use Rattle.std.proofs.lemmas.Option.{slice_get_within}
-use Rattle.ol_edges.proofs.Lists.{in_right}
+use Rattle.ol_law_edges.proofs.Lists.{in_right}
 
 -- the part of a wire or of a free port
 abbrev pub IsLinked : WordPart → Type 0

@@ -1,7 +1,7 @@
 -- After a ticket the edges join what the net links.
 -- Used in Ticket.Keeps.
 use Rattle.std.proofs.Common.{ℕ, Bool, List, ◌↔◌, subst}
-use Rattle.ol_edges.specs.Edges.{EdgeOf, Contracted}
+use Rattle.ol_law_edges.specs.Edges.{EdgeOf, Contracted}
 use Rattle.ol_net.specs.declared.parts.Kind.{Kind}
 use Rattle.ol_net.specs.declared.parts.Rule.{Rule}
 use Rattle.ol_net.specs.Nets.{NamedNet, NamedPort, Linked}

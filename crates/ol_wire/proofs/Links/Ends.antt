@@ -4,10 +4,10 @@ use Rattle.std.proofs.Common.{◌≡◌, ◌≢◌, ℕ, zero, suc, ◌+◌, ◌
 use Rattle.std.proofs.Common.{nat_eq, ◌⊎◌, inl, inr, List, refl, sym, ap, ◌∙◌, subst}
 use Rattle.std.proofs.Common.{arith}
 use Rattle.std.proofs.lemmas.Bool.{cases_eq}
-use Rattle.ol_edges.specs.Edges.{Joined, EdgeOf, ends}
-use Rattle.ol_edges.proofs.Contraction.{ends_in}
-use Rattle.ol_edges.proofs.Composing.{first_edge}
-use Rattle.ol_edges.proofs.Joining.{joined_sym}
+use Rattle.ol_law_edges.specs.Edges.{Joined, EdgeOf, ends}
+use Rattle.ol_law_edges.proofs.Contraction.{ends_in}
+use Rattle.ol_law_edges.proofs.Composing.{first_edge}
+use Rattle.ol_law_edges.proofs.Joining.{joined_sym}
 use Rattle.ol_net.specs.declared.parts.Kind.{Kind}
 use Rattle.ol_net.specs.declared.parts.Rule.{Rule}
 use Rattle.ol_net.specs.Parts.{arity}

@@ -1,7 +1,7 @@
 -- The joins of a ticket, by ends; what they connect with the edges before is what they connect with the links.
 -- Used in After and Moved.
 use Rattle.std.proofs.Common.{◌≡◌, ℕ, suc, ◌+◌, ◌<◌, Bool, true, false, if◌then◌else◌, ◌⊎◌, inl, inr, List, refl, arith}
-use Rattle.ol_edges.specs.Edges.{Joined, EdgeOf, Edge}
+use Rattle.ol_law_edges.specs.Edges.{Joined, EdgeOf, Edge}
 use Rattle.ol_net.specs.declared.parts.Kind.{Kind}
 use Rattle.ol_net.specs.declared.parts.Rule.{Rule}
 use Rattle.ol_net.specs.Parts.{arity}

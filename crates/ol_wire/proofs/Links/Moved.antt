@@ -4,9 +4,9 @@ use Rattle.std.proofs.Common.{◌≡◌, ◌≢◌, ℕ, zero, suc, ◌+◌, ◌
 use Rattle.std.proofs.Common.{nat_eq, eq-eqb, ne_eqb, ◌⊎◌, ◌↔◌, inl, inr, List, [], ◌∷◌, ◌++◌, refl}
 use Rattle.std.proofs.Common.{sym, ap, ◌∙◌, subst, arith}
 use Rattle.std.proofs.lemmas.Bool.{cases_eq}
-use Rattle.ol_edges.specs.Edges.{Near, Joined, here, on, back, EdgeOf, ends, bit}
-use Rattle.ol_edges.proofs.Contraction.{ends_in}
-use Rattle.ol_edges.proofs.Joining.{joined_sym, joined_trans, joined_image}
+use Rattle.ol_law_edges.specs.Edges.{Near, Joined, here, on, back, EdgeOf, ends, bit}
+use Rattle.ol_law_edges.proofs.Contraction.{ends_in}
+use Rattle.ol_law_edges.proofs.Joining.{joined_sym, joined_trans, joined_image}
 use Rattle.ol_net.specs.declared.parts.Kind.{Kind}
 use Rattle.ol_net.specs.declared.parts.Rule.{Rule}
 use Rattle.ol_net.specs.Parts.{arity}
@@ -14,7 +14,7 @@ use Rattle.ol_net.specs.Nets.{NamedNet, NamedPort, slot, IsSlotOf}
 use Rattle.ol_rules.specs.declared.journal.NodeName.{NodeName}
 use Rattle.ol_rules.specs.declared.journal.NodeName.TheVariants.{Born}
 use Rattle.ol_rules.specs.Rewriting.{index_after}
-use Rattle.ol_edges.proofs.Lists.{in_left, in_right, in_cases, only}
+use Rattle.ol_law_edges.proofs.Lists.{in_left, in_right, in_cases, only}
 use Rattle.ol_rules.proofs.Lists.{in_each, in_each_of}
 use Rattle.ol_rules.proofs.EndCounts.{ends_append}
 use Rattle.ol_rules.proofs.Tests.{nat_test}

@@ -4,16 +4,16 @@ use Rattle.std.proofs.Common.{◌≡◌, ◌≢◌, ℕ, ◌+◌, ◌-◌, ◌<�
 use Rattle.std.proofs.Common.{nat_lt, eq-eqb, ne_eqb, ◌⊎◌, inl, inr, List, [], ◌∷◌, refl, sym, ap}
 use Rattle.std.proofs.Common.{◌∙◌, subst, arith}
 use Rattle.std.proofs.lemmas.Bool.{cases_eq, cases_lt}
-use Rattle.ol_edges.specs.Edges.{IsIn}
+use Rattle.ol_law_edges.specs.Edges.{IsIn}
 use Rattle.ol_net.specs.declared.parts.Kind.{Kind}
 use Rattle.ol_net.specs.declared.parts.Rule.{Rule}
 use Rattle.ol_net.specs.Parts.{arity}
 use Rattle.ol_rules.specs.declared.journal.NodeName.TheVariants.{Born}
 use Rattle.ol_rules.specs.Rewriting.{is_meeting, index_after}
 use Rattle.ol_rules.specs.Listed.{each}
-use Rattle.ol_edges.proofs.Lists.{in_left, in_right, in_cases, only}
+use Rattle.ol_law_edges.proofs.Lists.{in_left, in_right, in_cases, only}
 use Rattle.ol_rules.proofs.Lists.{in_each, in_each_of}
-use Rattle.ol_edges.proofs.Lists.{in_map, in_map_of}
+use Rattle.ol_law_edges.proofs.Lists.{in_map, in_map_of}
 use Rattle.ol_wire.specs.declared.layout.Parts.{Parts}
 use Rattle.ol_wire.specs.declared.view.Link.{Link}
 use Rattle.ol_wire.specs.References.{node_ref, wire_ref, slot_ref, kind_in, index_in}
@@ -25,7 +25,7 @@ use Rattle.ol_wire.specs.Edges.{edge_to, links_in}
 use Rattle.ol_wire.proofs.InWords.References.{kind_of_ref, index_of_ref}
 use Rattle.ol_wire.proofs.Ticket.Event.{born_edges, new_edges}
 use Rattle.ol_rules.proofs.Born.{at_most_two}
-use Rattle.ol_edges.proofs.Lists.{if_below, if_above}
+use Rattle.ol_law_edges.proofs.Lists.{if_below, if_above}
 
 -- an edge of a list, by its ends
 abbrev pub Has : ℕ → ℕ → List (ℕ × ℕ) → Type 0

@@ -1,8 +1,8 @@
 -- What links and joins connect, followed by the ends of ports.
 -- Used in Joins.
 use Rattle.std.proofs.Common.{◌≡◌, ◌⊎◌, inl, inr, subst}
-use Rattle.ol_edges.specs.Edges.{Joined, here, on, back, Edge}
-use Rattle.ol_edges.proofs.Joining.{joined_sym, joined_map, Follows, follow}
+use Rattle.ol_law_edges.specs.Edges.{Joined, here, on, back, Edge}
+use Rattle.ol_law_edges.proofs.Joining.{joined_sym, joined_map, Follows, follow}
 
 -- Ports stand at ends. Links L of ports are what the edges E join; the joins J are the edges K.
 module _ {V W : Type 0} (At : V → W → Type 0) (L : V → V → Type 0) (P : V → Type 0)

@@ -2,9 +2,9 @@
 -- Used in Stands.
 use Rattle.std.proofs.Common.{◌≡◌, ◌≢◌, ℕ, zero, suc, ◌+◌, ◌<◌, nat_eq, List, refl, sym, ap, ◌∙◌, arith, inl, inr}
 use Rattle.std.proofs.lemmas.Bool.{cases_eq}
-use Rattle.ol_edges.specs.Edges.{IsIn, ends}
+use Rattle.ol_law_edges.specs.Edges.{IsIn, ends}
 use Rattle.ol_rules.specs.Listed.{each}
-use Rattle.ol_edges.proofs.Lists.{in_left, in_right, in_cases}
+use Rattle.ol_law_edges.proofs.Lists.{in_left, in_right, in_cases}
 use Rattle.ol_rules.proofs.EndCounts.{ends_append}
 
 module _ (row : ℕ → List (ℕ × ℕ)) where

@@ -13,8 +13,8 @@ use Rattle.ol_rules.specs.Listed.{each}
 use Rattle.ol_wire.specs.Starts.{wire_with, pair_with, facing_pairs, aux_links, wire_at, pair_at}
 use Rattle.ol_wire.specs.Laid.{wires_before}
 use Rattle.std.proofs.lemmas.Option.{none-some, same_Some}
-use Rattle.ol_edges.proofs.Lists.{got_append}
-use Rattle.ol_edges.proofs.Lists.{get_there}
+use Rattle.ol_law_edges.proofs.Lists.{got_append}
+use Rattle.ol_law_edges.proofs.Lists.{get_there}
 
 get_left : {X : Type 0} (xs ys : List X) (i : ℕ) (x : X) → slice_get xs i ≡ Some x → slice_get (xs ++ ys) i ≡ Some x
 get_left [] ys i x e = absurd (none-some x e)

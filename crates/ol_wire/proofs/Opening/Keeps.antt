@@ -7,7 +7,7 @@ use Rattle.std.proofs.lemmas.List.{append-nil}
 use mathlib.Core.Option as option
 use lib.ListN.{get_elem?}
 use Rattle.atomic_table.specs.Table.{opening}
-use Rattle.ol_edges.specs.Edges.{IsIn}
+use Rattle.ol_law_edges.specs.Edges.{IsIn}
 use Rattle.ol_net.specs.Graph.{Graph, IsTabled}
 use Rattle.ol_net.specs.Indexes.{HasIndexes, top_index_of}
 use Rattle.ol_net.specs.Nets.{NamedNet, net_under, IsNet}

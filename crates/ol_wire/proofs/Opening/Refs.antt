@@ -30,7 +30,7 @@ use Rattle.ol_wire.proofs.Opening.Ends.{Live, live_of}
 use Rattle.ol_wire.proofs.Opening.Sites.{Given, Where, where_at, first, second, port, field, wire, left, right, later}
 use Rattle.ol_wire.proofs.Opening.Sites as sites
 use Rattle.ol_wire.proofs.Opening.Stands.{num_small}
-use Rattle.ol_edges.proofs.Lists.{get_there}
+use Rattle.ol_law_edges.proofs.Lists.{get_there}
 
 -- a reference is whole as it is made
 pub node_whole : (k : Kind) (i place : ℕ) → i < 16777216 → IsWholeRef (node_ref k i place)

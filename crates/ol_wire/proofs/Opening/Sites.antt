@@ -30,7 +30,7 @@ use Rattle.ol_wire.proofs.Opening.Each.{pair_get, pair_of, cell_number}
 use Rattle.ol_wire.proofs.Opening.Ends.{end_of, live_of}
 use Rattle.std.proofs.lemmas.Option.{slice_get_within}
 use Rattle.ol_wire.proofs.InWords.Edges.{edge_none}
-use Rattle.ol_edges.proofs.Lists.{get_there}
+use Rattle.ol_law_edges.proofs.Lists.{get_there}
 
 -- a net, its parts, and words that it is laid out in
 pub record Given (net : Graph) (z : Parts) (words : List ℕ) (N : NamedNet NodeName) (reached : ℕ → Bool) : Type 0 where

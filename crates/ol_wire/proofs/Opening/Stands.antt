@@ -5,7 +5,7 @@ use Rattle.std.proofs.Common.{Bool, List, [], ◌∷◌, length, slice_index, So
 use Rattle.std.proofs.Common.{subst, arith, inl, inr, ◌⊎◌, eq-eqb, ne_eqb, if◌then◌else◌}
 use Rattle.std.specs.Prelude.{◌↔◌}
 use Rattle.std.proofs.lemmas.Bool.{cases_eq, cases_lt}
-use Rattle.ol_edges.specs.Edges.{IsIn, EdgeOf, Joined, here, on, back, ends, Contracted}
+use Rattle.ol_law_edges.specs.Edges.{IsIn, EdgeOf, Joined, here, on, back, ends, Contracted}
 use Rattle.ol_net.specs.declared.parts.NodeId.{NodeId}
 use Rattle.ol_net.specs.declared.parts.Port.{Port}
 use Rattle.ol_net.specs.declared.parts.Port.TheVariants.{Free, Of}

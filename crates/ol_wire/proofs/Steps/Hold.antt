@@ -5,7 +5,7 @@ use Rattle.std.proofs.Common.{lt-ltb, eq-eqb, ne_eqb, if◌then◌else◌, Some,
 use Rattle.std.proofs.Common.{get_or, sym, refl, ap, ◌∙◌, subst, inl, inr, arith}
 use Rattle.std.proofs.lemmas.Bool.{cases_eq, cases_lt}
 use Rattle.std.proofs.lemmas.Bool.Decides.{nat_tests}
-use Rattle.ol_edges.specs.Edges.{IsIn}
+use Rattle.ol_law_edges.specs.Edges.{IsIn}
 use Rattle.ol_net.specs.Parts.{arity}
 use Rattle.ol_rules.specs.Listed.{each}
 use Rattle.ol_rules.specs.Rewriting.{is_meeting}
@@ -23,7 +23,7 @@ use Rattle.ol_wire.specs.Plays.{event_in, cell_at, swept_on}
 use Rattle.ol_wire.specs.StepPlays.{IsNodeOf, IsRefOf, IsLookedUp, known_at, ticketed, late, rest, cell_in_hand, owing}
 use Rattle.ol_wire.specs.Rewrites.{event_for}
 use Rattle.ol_wire.specs.InHand.{in_hand, IsInHand, IsOfPair, IsSure, AreFields, AreRefs, fields_known, Rewrote}
-use Rattle.ol_edges.proofs.Lists.{in_left, in_right}
+use Rattle.ol_law_edges.proofs.Lists.{in_left, in_right}
 use Rattle.ol_rules.proofs.Born.{at_most_two}
 use Rattle.ol_wire.proofs.Ticket.Event.{event_sides}
 

@@ -9,7 +9,7 @@ use lib.ListN.{get_elem?}
 use Rattle.core.specs.Prelude.{slice_get}
 use Rattle.atomic_table.specs.Table.{Joins}
 use Rattle.atomic_table.proofs.Lists.{set_else}
-use Rattle.ol_edges.specs.Edges.{IsIn}
+use Rattle.ol_law_edges.specs.Edges.{IsIn}
 use Rattle.ol_rules.specs.declared.journal.Entry.{Entry}
 use Rattle.ol_net.specs.Pairs.{HasActive}
 use Rattle.ol_wire.specs.declared.plan.Plan.{Plan}

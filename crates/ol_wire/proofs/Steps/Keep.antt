@@ -6,7 +6,7 @@ use Rattle.std.proofs.Common.{length, get_or, set, sym, refl, ap, ◌∙◌, sub
 use Rattle.std.proofs.Common.{length-set}
 use mathlib.Core.Option.{some}
 use lib.ListN.{get_elem?}
-use Rattle.ol_edges.specs.Edges.{IsIn}
+use Rattle.ol_law_edges.specs.Edges.{IsIn}
 use Rattle.core.specs.Prelude.{slice_get}
 use Rattle.ol_rules.specs.declared.journal.NodeName.{NodeName}
 use Rattle.ol_net.specs.Pairs.{HasActive}

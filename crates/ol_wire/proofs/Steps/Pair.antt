@@ -5,7 +5,7 @@ use Rattle.std.proofs.Common.{◌≡◌, ◌≢◌, ℕ, zero, suc, ◌+◌, ◌
 use Rattle.std.proofs.Common.{sym, refl, ap, ◌∙◌, subst, inl, inr, arith}
 use Rattle.std.proofs.lemmas.Bool.{cases_eq, and_parts}
 use mathlib.Core.Bool.{false≢true}
-use Rattle.ol_edges.specs.Edges.{IsIn}
+use Rattle.ol_law_edges.specs.Edges.{IsIn}
 use Rattle.ol_net.specs.declared.parts.Kind.{Kind}
 use Rattle.ol_net.specs.declared.parts.Rule.{Rule}
 use Rattle.ol_net.specs.Nets.{NamedPort, slot, HasNode, Linked}
@@ -33,7 +33,7 @@ use Rattle.ol_wire.proofs.InWords.Claimed.{IsNodeAt, IsCellPair, cell_pair, node
 use Rattle.ol_wire.proofs.InWords.Claimed.{ends_second, field_full, field_within, right_written}
 use Rattle.ol_wire.proofs.InWords.Claimed.{own_edge}
 use Rattle.ol_wire.proofs.InWords.EdgeList.{edge_there, live_there}
-use Rattle.ol_edges.proofs.Lists.{in_left}
+use Rattle.ol_law_edges.proofs.Lists.{in_left}
 use Rattle.ol_rules.proofs.Born.{at_most_two}
 use Rattle.ol_wire.proofs.Ticket.Event.{event_sides}
 

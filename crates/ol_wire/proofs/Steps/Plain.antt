@@ -6,7 +6,7 @@ use Rattle.std.proofs.Common.{arith, length-set, get_or-set_other, get_or-set_sa
 use Rattle.std.proofs.lemmas.List.{set-get_or}
 use mathlib.Core.Option.{some}
 use lib.ListN.{get_elem?}
-use Rattle.ol_edges.specs.Edges.{IsIn}
+use Rattle.ol_law_edges.specs.Edges.{IsIn}
 use Rattle.ol_net.specs.Pairs.{HasActive}
 use Rattle.ol_wire.specs.declared.layout.Parts.{Parts}
 use Rattle.ol_wire.specs.declared.plan.Plan.{Plan}

@@ -9,7 +9,7 @@ use Rattle.std.proofs.lemmas.List.{set-get_or}
 use mathlib.Core.Option.{some, some-injective}
 use lib.ListN.{get_elem?}
 use Rattle.atomic_table.proofs.Lists.{set_here, set_else, at_longer}
-use Rattle.ol_edges.specs.Edges.{IsIn}
+use Rattle.ol_law_edges.specs.Edges.{IsIn}
 use Rattle.ol_net.specs.declared.parts.Rule.{Rule}
 use Rattle.ol_wire.specs.declared.layout.Parts.{Parts}
 use Rattle.ol_wire.specs.declared.plan.Plan.{Plan}

@@ -32,7 +32,7 @@ use Rattle.ol_wire.proofs.InWords.EdgeList.{word_edge, live_there, live_found, l
 use Rattle.ol_wire.proofs.InWords.PlaceSums.{sum_to, sum_agree, sum_within, pairs_each}
 use Rattle.ol_wire.proofs.Ticket.NetBut.{net_but, first_gone, second_gone, others_stay}
 use Rattle.ol_wire.proofs.InWords.Edges.{edges_weigh, edge_as, emptied}
-use Rattle.ol_edges.proofs.Lists.{if_above}
+use Rattle.ol_law_edges.proofs.Lists.{if_above}
 
 -- the event of a pair
 abbrev pub pair_event : Parts → Rule → NodeName → NodeName → Kind → Kind → ℕ → ℕ → Event

@@ -22,7 +22,7 @@ use Rattle.ol_rules.specs.Laws.{IsFresh}
 use Rattle.ol_rules.specs.Rewriting.{crossing, action_of, NodeOf, left, of_f, of_g, Rewrites, IsStep}
 use Rattle.ol_rules.specs.Runs.{IsEntryStep, IsRun}
 use Rattle.ol_rules.proofs.Born.{at_most_two}
-use Rattle.ol_edges.proofs.Lists.{got_append}
+use Rattle.ol_law_edges.proofs.Lists.{got_append}
 use Rattle.ol_rules.proofs.OneRun.{name_same, name_test}
 use Rattle.ol_rules.proofs.Relation.{next, net_kept}
 use Rattle.ol_rules.proofs.RunsOn.{run_on}

@@ -4,7 +4,7 @@ use Rattle.std.proofs.Common.{◌≡◌, ℕ, ◌<◌, ◌≤◌, Bool, true, fa
 use Rattle.std.proofs.Common.{eq-eqb, ltb-true, lt-ltb, if◌then◌else◌, List, [], ◌∷◌, ◌++◌, length}
 use Rattle.std.proofs.Common.{Option, Some, None, ◌⊎◌, inl, inr, refl, sym, ap, ◌∙◌, slice_get}
 use Rattle.std.proofs.Common.{arith}
-use Rattle.ol_edges.specs.Edges.{bit}
+use Rattle.ol_law_edges.specs.Edges.{bit}
 use Rattle.ol_net.specs.Parts.{arity}
 use Rattle.ol_rules.specs.Rewriting.{is_meeting}
 use Rattle.ol_wire.specs.declared.layout.Parts.{Parts}

@@ -6,7 +6,7 @@ use Rattle.std.proofs.Common.{◌∙◌, subst, arith}
 use Rattle.std.proofs.lemmas.Bool.{cases_lt}
 use mathlib.Core.Option.{some}
 use lib.ListN.{get_elem?}
-use Rattle.ol_edges.specs.Edges.{IsIn, bit}
+use Rattle.ol_law_edges.specs.Edges.{IsIn, bit}
 use Rattle.ol_net.specs.declared.parts.Kind.{Kind}
 use Rattle.ol_net.specs.Nets.{NamedNet, HasNode, Faces}
 use Rattle.ol_rules.specs.declared.journal.NodeName.{NodeName}
@@ -37,7 +37,7 @@ use Rattle.ol_wire.proofs.Ticket.Drawn.{entries_length}
 use Rattle.ol_wire.proofs.Ticket.Words as words
 use Rattle.ol_wire.proofs.Ticket.Cells as cells
 use Rattle.ol_wire.proofs.Ticket.Fields as fields
-use Rattle.ol_edges.proofs.Lists.{in_right}
+use Rattle.ol_law_edges.proofs.Lists.{in_right}
 
 -- a wire that was made stays made
 crosses_still : (log : List Event) (e : Event) (t q p : ℕ) →

@@ -1,6 +1,6 @@
 //! The single steps of a seat: each changes one word at most, and tells what it found.
 ghost use Rattle.std.specs.Prelude.{◌≡◌, ◌≢◌, ℕ, suc, ◌+◌, ◌<◌, ◌≤◌, [], ◌∷◌, MatchOption, IfSome};
-ghost use Rattle.ol_edges.specs.Edges.{IsIn};
+ghost use Rattle.ol_law_edges.specs.Edges.{IsIn};
 ghost use Rattle.ol_net.specs.Parts.{arity};
 ghost use Rattle.ol_wire.specs.References.{kind_in, place_in};
 ghost use Rattle.ol_wire.specs.Layout.{table_size, left_word, cells_of};

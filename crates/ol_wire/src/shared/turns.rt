@@ -1,6 +1,6 @@
 //! A turn: a claim, and what becomes of the pair that it finds.
 ghost use Rattle.std.specs.Prelude.{◌≡◌, ◌≢◌, ℕ, ◌+◌, ◌*◌, ◌<◌, ◌≤◌, [], ◌∷◌, ◌++◌, true, false, None, Some, MatchOption, IfSome, IfNone, IfOk, IfErr, ◌↔◌};
-ghost use Rattle.ol_edges.specs.Edges.{IsIn};
+ghost use Rattle.ol_law_edges.specs.Edges.{IsIn};
 ghost use Rattle.ol_net.specs.Parts.{arity};
 ghost use Rattle.ol_wire.specs.References.{kind_in, place_in};
 ghost use Rattle.ol_wire.specs.Events.{rule_between};

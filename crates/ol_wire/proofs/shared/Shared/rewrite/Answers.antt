@@ -22,7 +22,7 @@ use Rattle.ol_wire.proofs.Ticket.Refs.{joins_few}
 use Rattle.ol_wire.proofs.Steps.Hold.{of_pair, node_in_hand, seen, still_in_hand}
 use Rattle.ol_wire.proofs.Steps.Hold.{owing_in_hand, owed_after, late_told, looked_up, looked_twice}
 use Rattle.ol_wire.proofs.Steps.Hold.{rewritten, due_of_ticket}
-use Rattle.ol_edges.proofs.Lists.{in_right}
+use Rattle.ol_law_edges.proofs.Lists.{in_right}
 use Rattle.ol_wire.proofs.shared.Shared.rewrite.Goals as goal
 
 never : (b : Begun) → ◌≡◌ {A = Option Begun} (Some b) None → ⊥
