@@ -1,4 +1,4 @@
--- The limits of what is read, made ready and printed, and of a job's workers and fuel; and the numbers of `run` without options.
+-- The limits of what is read, made ready and printed, and of a job's numbers; and the numbers of `run` without options.
 -- They stand here as numerals, so that a constant of src/lib.rt that differs is refused.
 use Rattle.std.specs.Prelude.{ℕ}
 
@@ -19,12 +19,26 @@ most_depth = 1000
 abbrev pub most_nodes : ℕ
 most_nodes = 200000
 
--- how many workers rewrite, and how many interactions they make
+-- how many constructors a term has that steps are made from
+abbrev pub most_size : ℕ
+most_size = 100000
+
+-- how many workers rewrite, how many interactions they make, and how many subterms are asked for their heads
 abbrev pub most_workers : ℕ
 most_workers = 64
 
 abbrev pub most_fuel : ℕ
 most_fuel = 8000000
+
+abbrev pub most_heads : ℕ
+most_heads = 100000
+
+-- how many edges a walk crosses, and how many beta steps are shown
+abbrev pub most_edges : ℕ
+most_edges = 10000000
+
+abbrev pub most_steps : ℕ
+most_steps = 10000
 
 -- the workers of `run` without options, its fuel, and how many subterms it asks
 abbrev pub plain_workers : ℕ

@@ -20,7 +20,7 @@ pub const MOST_NET_BYTES: u32 = 33_554_432;
 /// The greatest depth of a term.
 pub const MOST_DEPTH: u32 = 1_000;
 
-/// The most constructors of a term that leftmost steps are made from.
+/// The most constructors of a term that beta steps are made from.
 pub const MOST_SIZE: u32 = 100_000;
 
 /// The greatest number of nodes of a term's net, and of a net that is printed.
@@ -34,6 +34,12 @@ pub const MOST_HEADS: u32 = 100_000;
 
 /// How many interactions a run may be asked for, and how many entries a journal may have.
 pub const MOST_FUEL: u32 = 8_000_000;
+
+/// How many edges a walk may cross.
+pub const MOST_EDGES: u32 = 10_000_000;
+
+/// How many beta steps may be asked for.
+pub const MOST_STEPS: u32 = 10_000;
 
 /// How many workers `run` has without options.
 pub const PLAIN_WORKERS: u32 = 4;

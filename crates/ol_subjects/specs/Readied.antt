@@ -9,13 +9,14 @@ use Rattle.ol_subjects.specs.declared.subjects.TermRead.TheVariants as term
 use Rattle.ol_subjects.specs.declared.subjects.NetRead.{NetRead}
 use Rattle.ol_subjects.specs.declared.subjects.NetRead.TheVariants as net
 use Rattle.ol_subjects.specs.Subjects.{IsTerm, IsNetOfTerm, IsSubject, RefusesTerm, Refuses}
+use Rattle.ol_limits.specs.Limits.{most_nodes}
 
 -- the bytes have this term, and this is its net
 pub record IsReady (translation : Translation) (bytes : List ℕ) (t : Tree) (names : List (List ℕ))
     (g : Graph) : Type 0 where
   pub term : IsTerm translation bytes t names
   pub ready : IsNetOfTerm translation t names g
-  pub few : length g.nodes ≤ 200000
+  pub few : length g.nodes ≤ most_nodes
   pub counted : term_size t < 2 ^ 64
 
 abbrev pub IsTermRead : Translation → List ℕ → TermRead → Type 0
@@ -24,5 +25,5 @@ IsTermRead translation bytes (term.Term net file) =
 IsTermRead translation bytes (term.Refused text) = RefusesTerm translation bytes text.items
 
 abbrev pub IsSubjectRead : Subject → List ℕ → NetRead → Type 0
-IsSubjectRead subject bytes (net.Net g) = IsSubject subject bytes g × (length g.nodes ≤ 200000)
+IsSubjectRead subject bytes (net.Net g) = IsSubject subject bytes g × (length g.nodes ≤ most_nodes)
 IsSubjectRead subject bytes (net.Refused text) = Refuses subject bytes text.items

@@ -16,6 +16,7 @@ use Rattle.ol_netfile.specs.declared.faults.NetFault.{NetFault}
 use Rattle.ol_netfile.specs.declared.faults.NetFault.TheVariants.{NoMemory}
 use Rattle.ol_subjects.specs.declared.subjects.Subject.{Subject}
 use Rattle.ol_subjects.specs.declared.subjects.Subject.TheVariants.{Term, Net}
+use Rattle.ol_limits.specs.Limits.{most_net_bytes, most_nodes, most_term_bytes}
 
 -- The bytes are a text of this term with these free names. It is at most 1,000 deep, and its net has
 -- at most 200,000 nodes.
@@ -23,7 +24,7 @@ pub record IsTerm (translation : Translation) (bytes : List ℕ) (t : Tree) (nam
     : Type 0 where
   pub file : IsFileOf bytes t names
   pub shallow : depth t ≤ 1000
-  pub small : size_of_translation translation t ≤ 200000
+  pub small : size_of_translation translation t ≤ most_nodes
 
 -- The net is that of the term, with the numbers of its translation.
 pub record IsNetOfTerm (translation : Translation) (t : Tree) (names : List (List ℕ)) (net : Graph)
@@ -48,7 +49,7 @@ pub data RefusesTerm (translation : Translation) (bytes : List ℕ) (text : List
   deep : (d : ℕ) → IsTooDeep bytes d → text ≡ codes "limit depth 1000\n" →
       RefusesTerm translation bytes text
   large : (t : Tree) (names : List (List ℕ)) → IsFileOf bytes t names → depth t ≤ 1000 →
-      200000 < size_of_translation translation t → text ≡ codes "limit nodes 200000\n" →
+      most_nodes < size_of_translation translation t → text ≡ codes "limit nodes 200000\n" →
       RefusesTerm translation bytes text
 
 -- The line by which a file with a net is refused: that of its fault.
@@ -64,5 +65,5 @@ Refuses Net bytes text = RefusesNet bytes text
 
 -- The most bytes of a file.
 abbrev pub most_bytes : Subject → ℕ
-most_bytes (Term translation) = 1048576
-most_bytes Net = 33554432
+most_bytes (Term translation) = most_term_bytes
+most_bytes Net = most_net_bytes

@@ -4,6 +4,7 @@ ghost use Rattle.std.specs.Prelude.{◌≡◌, ◌≤◌, ◌++◌, length, code
 ghost use Rattle.std.specs.Fmt.{decimal};
 ghost use Rattle.ol_subjects.specs.Subjects.{most_bytes, Refuses};
 ghost use Rattle.ol_subjects.specs.Readied.{IsTermRead, IsSubjectRead};
+ghost use Rattle.ol_limits.specs.Limits.{most_net_bytes, most_term_bytes};
 
 use crate::texts::{put, put_number};
 use ol_memory::NoMemory;
@@ -78,7 +79,7 @@ pub fn read_term(
     bytes: &[u8],
     translation: Translation,
 ) -> Result<TermRead, NoMemory>
-    requires short { length bytes.now ≤ 1048576 }
+    requires short { length bytes.now ≤ most_term_bytes }
     ensures { IfOk result (IsTermRead translation bytes.now) }
 {
     match parse(alloc, bytes) {
@@ -108,7 +109,7 @@ pub fn read_term(
 
 // The net of a net file, or the line by which `ol` refuses it.
 fn read_text(alloc: Global, bytes: &[u8]) -> Result<NetRead, NoMemory>
-    requires short { length bytes.now ≤ 33554432 }
+    requires short { length bytes.now ≤ most_net_bytes }
     ensures { IfOk result (IsSubjectRead Subject.Net bytes.now) }
 {
     match read_net(alloc, bytes) {
@@ -127,7 +128,7 @@ fn read_net_of_term(
     bytes: &[u8],
     translation: Translation,
 ) -> Result<NetRead, NoMemory>
-    requires short { length bytes.now ≤ 1048576 }
+    requires short { length bytes.now ≤ most_term_bytes }
     ensures { IfOk result (IsSubjectRead (Subject.Term translation) bytes.now) }
 {
     match read_term(alloc, bytes, translation)? {

@@ -7,6 +7,7 @@ ghost use Rattle.ol_net.specs.Numbered.{net_of, all_live};
 ghost use Rattle.ol_net.specs.Indexes.{top_index_of};
 ghost use Rattle.ol_translate.specs.Translation.{nodes_of, translation_of};
 ghost use Rattle.ol_translate.specs.Sizes.{size_of_translation};
+ghost use Rattle.ol_limits.specs.Limits.{most_nodes};
 
 use crate::faults::TransFault;
 use crate::parts::Parts;
@@ -55,7 +56,7 @@ pub fn translate(
     ensures few_names { IfOk result (λ net. length file.now.names ≤ length net.nodes) }
     ensures indexes { IfOk result (λ net. top_index_of net.nodes ≤ 1000000) }
     ensures too_many { result ≢ Err TransFault.NoMemory → ((result ≡ Err TransFault.TooMany)
-        ↔ (200000 < size_of_translation translation (tree_of file.now.term))) }
+        ↔ (most_nodes < size_of_translation translation (tree_of file.now.term))) }
 {
     let parts = Parts::whole(alloc, &file.term, translation)?;
     match Net::build(alloc, file.names.len() + 1, parts.nodes, parts.links) {

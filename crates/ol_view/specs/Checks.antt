@@ -16,6 +16,7 @@ use Rattle.ol_view.specs.declared.answers.Check.TheVariants.{Complete, Run, BadT
 use Rattle.ol_view.specs.declared.forms.Form.{Form}
 use Rattle.ol_view.specs.declared.forms.Form.TheVariants.{One, Two}
 use Rattle.ol_view.specs.Forms.{header_of, text_of, BeginsWithEntry}
+use Rattle.ol_limits.specs.Limits.{most_fuel}
 
 -- the net whose nodes are named by their numbers
 abbrev pub start_net_of_graph : Graph → NamedNet NodeName
@@ -33,7 +34,7 @@ pub record BeginsWithRun (form : Form) (net : NamedNet NodeName) (text : List �
     (journal : List Entry) (waves : List ℕ) (last : NamedNet NodeName) (rest : List ℕ)
     : Type 0 where
   pub begins : text ≡ text_of form journal waves ++ rest
-  pub few : length journal ≤ 8000000
+  pub few : length journal ≤ most_fuel
   pub run : IsRunTold form net journal waves last
 
 -- there is no line of the grammar here
@@ -58,9 +59,9 @@ IsFoundBehind form net journal waves last rest Complete = (rest ≡ []) × IsCom
 IsFoundBehind form net journal waves last rest (Run k) =
     (k ≡ length journal) × (rest ≡ []) × HasActive last
 IsFoundBehind form net journal waves last rest (BadText line) = (line ≡ length journal + 2)
-    × (rest ≢ []) × ((length journal ≡ 8000000) ⊎ HasNoLine form rest)
+    × (rest ≢ []) × ((length journal ≡ most_fuel) ⊎ HasNoLine form rest)
 IsFoundBehind form net journal waves last rest (NotARun line) = (line ≡ length journal + 2)
-    × (length journal < 8000000) × (entry : Entry) × (wave : ℕ) × (more : List ℕ)
+    × (length journal < most_fuel) × (entry : Entry) × (wave : ℕ) × (more : List ℕ)
     × BeginsWithEntry form rest entry wave more × IsOtherwise form net journal waves last entry wave
 
 -- what is found of the text: no first line of either form, or what is found behind a run that it begins with
@@ -80,6 +81,6 @@ OnlyIsFound net text check = (found : Check) → (check ≡ found) ↔ IsFound n
 abbrev pub IsReadAgain : NamedNet NodeName → List ℕ → Check → Type 0
 IsReadAgain net text found =
     (form : Form) (journal : List Entry) (waves : List ℕ) (last : NamedNet NodeName) →
-    length journal ≤ 8000000 → IsRunTold form net journal waves last →
+    length journal ≤ most_fuel → IsRunTold form net journal waves last →
     text ≡ text_of form journal waves →
     (IsComplete last → found ≡ Complete) × ((IsComplete last → ⊥) → found ≡ Run (length journal))

@@ -8,6 +8,7 @@ use Rattle.ol_words.specs.Asked.{check_verb, gen_verb, demand_verb, certify_verb
 use Rattle.ol_words.specs.Asked.{equal_verb, asks}
 use Rattle.ol_words.specs.Lines.{Line, Known, line_of}
 use Rattle.ol_words.specs.Numbers.{Limits, from_to, setting}
+use Rattle.ol_limits.specs.Limits.{most_edges, most_fuel, most_heads, most_steps, most_workers, plain_fuel, plain_heads, plain_workers}
 
 -- ---- the settings
 
@@ -32,12 +33,12 @@ flag option = record { option = option; is_flag = true; limits = from_to 0 1 0 }
 -- the table of settings
 abbrev pub setting_row : Setting → SettingRow
 setting_row translation = number (codes "translation") 1 2 2
-setting_row workers = number (codes "workers") 1 64 4
-setting_row fuel = number (codes "fuel") 0 8000000 200000
-setting_row heads = number (codes "heads") 1 100000 4096
-setting_row edges = number (codes "edges") 1 10000000 100000
-setting_row after = number (codes "after") 0 8000000 0
-setting_row steps = number (codes "steps") 0 10000 1000
+setting_row workers = number (codes "workers") 1 most_workers plain_workers
+setting_row fuel = number (codes "fuel") 0 most_fuel plain_fuel
+setting_row heads = number (codes "heads") 1 most_heads plain_heads
+setting_row edges = number (codes "edges") 1 most_edges 100000
+setting_row after = number (codes "after") 0 most_fuel 0
+setting_row steps = number (codes "steps") 0 most_steps 1000
 setting_row runs = flag (codes "run")
 setting_row from_term = flag (codes "from-term")
 

@@ -6,7 +6,7 @@ ghost use Rattle.ol_words.specs.Numbers.{number_within, is_number};
 ghost use Rattle.ol_words.specs.Views.{limits_of};
 ghost use Rattle.ol_words.specs.Found.{setting_by};
 
-use ol_limits::{MOST_FUEL, MOST_HEADS, MOST_WORKERS, PLAIN_FUEL, PLAIN_HEADS, PLAIN_WORKERS};
+use ol_limits::{MOST_EDGES, MOST_FUEL, MOST_HEADS, MOST_STEPS, MOST_WORKERS, PLAIN_FUEL, PLAIN_HEADS, PLAIN_WORKERS};
 
 /// What a setting may be, and what it is where it isn't given.
 #[derive(Clone, Copy)]
@@ -36,7 +36,7 @@ pub(crate) const HEADS: Limits = Limits {
 
 pub(crate) const EDGES: Limits = Limits {
     least: 1,
-    most: 10_000_000,
+    most: MOST_EDGES,
     default: 100_000,
 };
 
@@ -48,7 +48,7 @@ pub(crate) const AFTER: Limits = Limits {
 
 pub(crate) const STEPS: Limits = Limits {
     least: 0,
-    most: 10_000,
+    most: MOST_STEPS,
     default: 1_000,
 };
 
