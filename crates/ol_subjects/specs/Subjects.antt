@@ -16,14 +16,14 @@ use Rattle.ol_netfile.specs.declared.faults.NetFault.{NetFault}
 use Rattle.ol_netfile.specs.declared.faults.NetFault.TheVariants.{NoMemory}
 use Rattle.ol_subjects.specs.declared.subjects.Subject.{Subject}
 use Rattle.ol_subjects.specs.declared.subjects.Subject.TheVariants.{Term, Net}
-use Rattle.ol_limits.specs.Limits.{most_net_bytes, most_nodes, most_term_bytes}
+use Rattle.ol_limits.specs.Limits.{most_depth, most_net_bytes, most_nodes, most_term_bytes}
 
 -- The bytes are a text of this term with these free names. It is at most 1,000 deep, and its net has
 -- at most 200,000 nodes.
 pub record IsTerm (translation : Translation) (bytes : List ℕ) (t : Tree) (names : List (List ℕ))
     : Type 0 where
   pub file : IsFileOf bytes t names
-  pub shallow : depth t ≤ 1000
+  pub shallow : depth t ≤ most_depth
   pub small : size_of_translation translation t ≤ most_nodes
 
 -- The net is that of the term, with the numbers of its translation.
@@ -48,7 +48,7 @@ pub data RefusesTerm (translation : Translation) (bytes : List ℕ) (text : List
       RefusesTerm translation bytes text
   deep : (d : ℕ) → IsTooDeep bytes d → text ≡ codes "limit depth 1000\n" →
       RefusesTerm translation bytes text
-  large : (t : Tree) (names : List (List ℕ)) → IsFileOf bytes t names → depth t ≤ 1000 →
+  large : (t : Tree) (names : List (List ℕ)) → IsFileOf bytes t names → depth t ≤ most_depth →
       most_nodes < size_of_translation translation t → text ≡ codes "limit nodes 200000\n" →
       RefusesTerm translation bytes text
 

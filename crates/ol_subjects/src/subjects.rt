@@ -7,6 +7,7 @@ ghost use Rattle.ol_subjects.specs.Readied.{IsTermRead, IsSubjectRead};
 ghost use Rattle.ol_limits.specs.Limits.{most_net_bytes, most_term_bytes};
 
 use crate::texts::{put, put_number};
+use ol_limits::{MOST_NET_BYTES, MOST_TERM_BYTES};
 use ol_memory::NoMemory;
 use ol_net::Net;
 use ol_netfile::{NetFault, fault_text, read_net};
@@ -29,8 +30,8 @@ pub fn most_bytes(subject: Subject) -> usize
     ensures { result ≡ most_bytes subject }
 {
     match subject {
-        Subject::Term(_) => 1_048_576,
-        Subject::Net => 33_554_432,
+        Subject::Term(_) => MOST_TERM_BYTES as usize,
+        Subject::Net => MOST_NET_BYTES as usize,
     }
 }
 
