@@ -14,6 +14,7 @@ use Rattle.ol_orders.specs.Orders.{IsJournal}
 use Rattle.ol_explain.specs.Afters.{IsAfter}
 use Rattle.ol_explain.specs.Explained.{IsExplained}
 use Rattle.ol_same.specs.Same.{IsSame}
+use Rattle.ol_limits.specs.Limits.{most_fuel, most_journal_bytes, most_net_bytes, most_term_bytes}
 
 -- the name of the file, the first one where there are two
 abbrev pub name_of : Asked → List ℕ
@@ -41,32 +42,32 @@ second_of _ = []
 
 -- the most bytes of the file
 abbrev pub most_of : Asked → ℕ
-most_of (asked.Where byte name) = 402653184
-most_of (asked.Steps most name) = 1048576
+most_of (asked.Where byte name) = most_journal_bytes
+most_of (asked.Steps most name) = most_term_bytes
 most_of (asked.Counts subject bounds name) = most_bytes subject
 most_of (asked.Journal subject order fuel heads name) = most_bytes subject
 most_of (asked.After subject lines name journal) = most_bytes subject
 most_of (asked.Explain subject name journal) = most_bytes subject
-most_of (asked.Same name other) = 33554432
+most_of (asked.Same name other) = most_net_bytes
 
 -- the most bytes of the second file
 abbrev pub second_most : Asked → ℕ
-second_most (asked.Same name other) = 33554432
-second_most _ = 402653184
+second_most (asked.Same name other) = most_net_bytes
+second_most _ = most_journal_bytes
 
 -- the line by which a file of more bytes is refused
 abbrev pub limit_line : ℕ → List ℕ
 limit_line most =
-    if most == 402653184 then codes "limit journal 402653184\n"
-    else (if most == 33554432 then codes "limit net 33554432\n" else codes "limit bytes 1048576\n")
+    if most == most_journal_bytes then codes "limit journal 402653184\n"
+    else (if most == most_net_bytes then codes "limit net 33554432\n" else codes "limit bytes 1048576\n")
 
 -- the numbers are within their bounds
 abbrev pub IsWithinBounds : Asked → Type 0
 IsWithinBounds (asked.Where byte name) = Unit {0}
 IsWithinBounds (asked.Steps most name) = Unit {0}
-IsWithinBounds (asked.Counts subject bounds name) = (bounds.fuel ≤ 8000000) × (1 ≤ bounds.heads)
-IsWithinBounds (asked.Journal subject order fuel heads name) = (fuel ≤ 8000000) × (1 ≤ heads)
-IsWithinBounds (asked.After subject lines name journal) = (1 ≤ lines) × (lines ≤ 8000001)
+IsWithinBounds (asked.Counts subject bounds name) = (bounds.fuel ≤ most_fuel) × (1 ≤ bounds.heads)
+IsWithinBounds (asked.Journal subject order fuel heads name) = (fuel ≤ most_fuel) × (1 ≤ heads)
+IsWithinBounds (asked.After subject lines name journal) = (1 ≤ lines) × (lines ≤ most_fuel + 1)
 IsWithinBounds (asked.Explain subject name journal) = Unit {0}
 IsWithinBounds (asked.Same name other) = Unit {0}
 

@@ -10,6 +10,7 @@ ghost use Rattle.ol_bench.specs.Writing.{Told, WritesAnswer, change_of};
 use crate::placing::whereabouts;
 use ol_explain::{after, explained};
 use ol_io::{ReadAll, Sink, Source, Written, read_all, write_all};
+use ol_limits::{MOST_JOURNAL_BYTES, MOST_NET_BYTES, MOST_TERM_BYTES};
 use ol_memory::NoMemory;
 use ol_orders::{Bounds, Order, counted, journal, steps};
 use ol_same::same;
@@ -153,13 +154,13 @@ fn most_of(asked: &Asked) -> usize
     ensures { result ≡ most_of asked.now }
 {
     match asked {
-        Asked::Where { .. } => 402_653_184,
-        Asked::Steps { .. } => 1_048_576,
+        Asked::Where { .. } => MOST_JOURNAL_BYTES as usize,
+        Asked::Steps { .. } => MOST_TERM_BYTES as usize,
         Asked::Counts { subject, .. } => most_bytes(*subject),
         Asked::Journal { subject, .. } => most_bytes(*subject),
         Asked::After { subject, .. } => most_bytes(*subject),
         Asked::Explain { subject, .. } => most_bytes(*subject),
-        Asked::Same { .. } => 33_554_432,
+        Asked::Same { .. } => MOST_NET_BYTES as usize,
     }
 }
 
@@ -168,8 +169,8 @@ fn second_most(asked: &Asked) -> usize
     ensures { result ≡ second_most asked.now }
 {
     match asked {
-        Asked::Same { .. } => 33_554_432,
-        _ => 402_653_184,
+        Asked::Same { .. } => MOST_NET_BYTES as usize,
+        _ => MOST_JOURNAL_BYTES as usize,
     }
 }
 
@@ -177,10 +178,12 @@ fn second_most(asked: &Asked) -> usize
 fn limit_line(most: usize) -> &'static str
     ensures { result.now ≡ limit_line most }
 {
-    match most {
-        402_653_184 => "limit journal 402653184\n",
-        33_554_432 => "limit net 33554432\n",
-        _ => "limit bytes 1048576\n",
+    if most == MOST_JOURNAL_BYTES as usize {
+        "limit journal 402653184\n"
+    } else if most == MOST_NET_BYTES as usize {
+        "limit net 33554432\n"
+    } else {
+        "limit bytes 1048576\n"
     }
 }
 

@@ -5,7 +5,7 @@ ghost use Rattle.ol_bench.specs.Commands.{IsWithinBounds};
 
 use clap::{Arg, ArgAction, ArgMatches, Command, Error};
 use ol_bench::Asked;
-use ol_limits::{MOST_FUEL, MOST_HEADS, MOST_JOURNAL_BYTES, PLAIN_FUEL, PLAIN_HEADS};
+use ol_limits::{MOST_FUEL, MOST_HEADS, MOST_JOURNAL_BYTES, MOST_STEPS, PLAIN_FUEL, PLAIN_HEADS};
 use ol_orders::{Bounds, Order};
 use ol_subjects::Subject;
 use ol_term::Translation;
@@ -92,7 +92,7 @@ fn after<'a>(alloc: Global) -> Result<Command<'a>, AllocError> {
     let lines = Arg::new(alloc, "lines")
         .required(true)
         .action(ArgAction::Set)
-        .value_parser(clap::value_parser!(u32).range(1..=8_000_001))
+        .value_parser(clap::value_parser!(u32).range(1..=MOST_FUEL as i64 + 1))
         .help("how many lines of the journal, the first of which tells its form");
     Command::new(alloc, "after")
         .about("The net after the first lines of a journal, under the journal's names")
@@ -122,7 +122,13 @@ fn steps<'a>(alloc: Global) -> Result<Command<'a>, AllocError> {
             "leftmost",
             "the leftmost redex comes first, as it does by itself",
         ))?
-        .arg(number(alloc, "most", 0, 10_000, "the most steps, by itself 100"))?
+        .arg(number(
+            alloc,
+            "most",
+            0,
+            MOST_STEPS as i64,
+            "the most steps, by itself 100",
+        ))?
         .arg(file(alloc, OF_TERM))
 }
 
@@ -133,7 +139,7 @@ fn counts<'a>(alloc: Global) -> Result<Command<'a>, AllocError> {
             alloc,
             "most",
             0,
-            10_000,
+            MOST_STEPS as i64,
             "the most leftmost steps, by itself 1000",
         ))?
         .arg(file(alloc, OF_TERM_OR_NET))
@@ -237,7 +243,7 @@ fn order_of(found: &ArgMatches) -> Order {
 fn steps_asked(alloc: Global, found: &ArgMatches) -> Result<Asked, Error>
     ensures { IfOk result IsWithinBounds }
 {
-    let most = number_of(found, "most", 0, 10_000, 100);
+    let most = number_of(found, "most", 0, MOST_STEPS, 100);
     let name = name_of(alloc, found)?;
     Ok(Asked::Steps { most, name })
 }
@@ -248,7 +254,7 @@ fn counts_asked(alloc: Global, found: &ArgMatches) -> Result<Asked, Error>
     let bounds = Bounds {
         fuel: number_of(found, "fuel", 0, MOST_FUEL, PLAIN_FUEL),
         heads: number_of(found, "heads", 1, MOST_HEADS, PLAIN_HEADS),
-        steps: number_of(found, "most", 0, 10_000, 1_000),
+        steps: number_of(found, "most", 0, MOST_STEPS, 1_000),
     };
     let subject = subject_of(found);
     let name = name_of(alloc, found)?;
@@ -279,7 +285,7 @@ fn journal_asked(alloc: Global, found: &ArgMatches) -> Result<Asked, Error>
 fn after_asked(alloc: Global, found: &ArgMatches) -> Result<Asked, Error>
     ensures { IfOk result IsWithinBounds }
 {
-    let lines = number_of(found, "lines", 1, 8_000_001, 1);
+    let lines = number_of(found, "lines", 1, MOST_FUEL + 1, 1);
     let subject = subject_of(found);
     let name = name_of(alloc, found)?;
     let journal = word_of(alloc, found, "journal")?;

@@ -12,6 +12,7 @@ use Rattle.ol_view.specs.TraceTexts.{name_text, MayBeWritten}
 use Rattle.ol_view.specs.Forms.{header_of, line_of}
 use Rattle.ol_view.specs.LineReading.{is_digit}
 use Rattle.ol_view.specs.Checks.{start_net_of_graph, BeginsWithRun}
+use Rattle.ol_limits.specs.Limits.{most_fuel}
 
 -- ---- where a line breaks off
 
@@ -113,12 +114,12 @@ pub data IsBadLine (g : Graph) (journal : List ℕ) (line : ℕ) : List ℕ → 
   header : {before bytes : List ℕ} → line ≡ 1 → BreaksOff None journal before →
       AreWanted None before bytes → IsBadLine g journal line (bytes_at (length before) bytes)
   breaks : {form : Form} {at : ℕ} {rest before bytes : List ℕ} →
-      IsReached g journal line form at rest → line < 8000002 →
+      IsReached g journal line form at rest → line < most_fuel + 2 →
       BreaksOff (Some form) rest before → AreWanted (Some form) before bytes →
       IsBadLine g journal line (bytes_at (at + length before) bytes)
   unordered : {form : Form} {at : ℕ} {rest before : List ℕ} {first second : NodeName} →
-      IsReached g journal line form at rest → line < 8000002 →
+      IsReached g journal line form at rest → line < most_fuel + 2 →
       IsWhole form rest before first second → comes_before first second ≡ false →
       IsBadLine g journal line (greater_at (at + length before) first)
   full : {form : Form} {at : ℕ} {rest : List ℕ} → IsReached g journal line form at rest →
-      line ≡ 8000002 → rest ≢ [] → IsBadLine g journal line (end_at at)
+      line ≡ most_fuel + 2 → rest ≢ [] → IsBadLine g journal line (end_at at)

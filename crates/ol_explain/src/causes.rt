@@ -8,6 +8,7 @@ ghost use Rattle.ol_replay.specs.Replays.{net_here};
 ghost use Rattle.ol_explain.specs.Explained.{IsGone, Names, NoneNames, never_text, cause_words};
 ghost use Rattle.ol_explain.specs.Reasons.{IsReplayed, IsLive, IsNodeNamed};
 ghost use Rattle.ol_explain.specs.Reasons.{IsCauseAway, IsCauseIdle, IsCauseOther, IsCauseOff};
+ghost use Rattle.ol_limits.specs.Limits.{most_fuel};
 
 use crate::naming::{put, put_long, put_number};
 use ol_diamond::Rewritten;
@@ -91,7 +92,7 @@ fn live(replay: &Replay, name: NodeName) -> Option<NodeId>
 
 // Why there is no node of this name.
 fn away(replay: &Replay, name: NodeName) -> Cause
-    requires few { length replay.now.run.journal ≤ 8000000 }
+    requires few { length replay.now.run.journal ≤ most_fuel }
     requires gone { IsGone (net_here replay.now) name }
     ensures { IsCauseAway replay.now name result }
 {
@@ -145,7 +146,7 @@ fn other(line: Line, of: Rewritten) -> Cause
 
 /// Why a line isn't the next one of a run, of whose pair this was made.
 pub fn cause_of(replay: &Replay, line: Line, made: Option<Rewritten>) -> Cause
-    requires few { length replay.now.run.journal ≤ 8000000 }
+    requires few { length replay.now.run.journal ≤ most_fuel }
     requires replay { IsReplayed replay.now }
     requires wrong { IfSome made (λ of. TellsOf line.told of.rule of.wave → ⊥) }
     ensures { IsCauseOff replay.now line made result }

@@ -9,6 +9,7 @@ ghost use Rattle.ol_explain.specs.Reasons.{IsReplayed, IsOffBy};
 ghost use Rattle.ol_replay.specs.Replays.{IsReplay};
 ghost use Rattle.ol_explain.specs.Explained.{IsExplained, IsExplainedOf};
 ghost use Rattle.ol_subjects.specs.Subjects.{most_bytes};
+ghost use Rattle.ol_limits.specs.Limits.{most_fuel, most_nodes};
 
 use crate::causes::{cause_of, put_cause};
 use crate::following::{Stop, follow};
@@ -16,6 +17,7 @@ use crate::left::run_and_left;
 use crate::naming::{put, put_number};
 use crate::wanting::{bad_header, bad_line, past_the_end};
 use ol_diamond::Rewritten;
+use ol_limits::MOST_FUEL;
 use ol_memory::NoMemory;
 use ol_net::Net;
 use ol_replay::Replay;
@@ -55,7 +57,7 @@ fn off(
     line: Line,
     made: Option<Rewritten>,
 ) -> Result<Answer, NoMemory>
-    requires few { length replay.now.run.journal < 8000000 }
+    requires few { length replay.now.run.journal < most_fuel }
     requires replay { IsReplayed replay.now }
     requires wrong { IfSome made (λ of. TellsOf line.told of.rule of.wave → ⊥) }
     ensures text { IfOk result (λ a. IsOffBy replay.now line made a.text.items) }
@@ -75,7 +77,7 @@ fn off(
 
 // The answer where all lines are good.
 fn ended(alloc: Global, net: &Net, journal: &[u8], replay: &mut Replay) -> Result<Answer, NoMemory>
-    requires few { length net.now.nodes ≤ 200000 }
+    requires few { length net.now.nodes ≤ most_nodes }
     requires told { IsToldBy net.now journal.now replay.old }
     requires replay { IsReplay net.now replay.old }
     ensures { IfOk result (λ a. IsExplainedOf net.now journal.now a.text.items a.end) }
@@ -96,10 +98,10 @@ fn ended(alloc: Global, net: &Net, journal: &[u8], replay: &mut Replay) -> Resul
 }
 
 fn of_net(alloc: Global, net: &Net, journal: &[u8]) -> Result<Answer, NoMemory>
-    requires few { length net.now.nodes ≤ 200000 }
+    requires few { length net.now.nodes ≤ most_nodes }
     ensures { IfOk result (λ a. IsExplainedOf net.now journal.now a.text.items a.end) }
 {
-    let mut followed = follow(alloc, net, journal, 8_000_000)?;
+    let mut followed = follow(alloc, net, journal, MOST_FUEL)?;
     match followed.stop {
         Stop::NoHeader => {
             let answer = bad_header(alloc, journal)?;

@@ -6,6 +6,7 @@ ghost use Rattle.ol_view.specs.EachForm.{header};
 ghost use Rattle.ol_view.specs.Forms.{header_of};
 ghost use Rattle.ol_replay.specs.Replays.{IsReplay};
 ghost use Rattle.ol_explain.specs.Followed.{Stops};
+ghost use Rattle.ol_limits.specs.Limits.{most_fuel, most_nodes};
 
 use ol_diamond::{Rewritten, Weighing};
 use ol_memory::NoMemory;
@@ -56,8 +57,8 @@ fn form_of(text: &[u8]) -> Option<Form>
 /// The run of the first entries of a journal, at most so many: up to the first line that isn't
 /// good. The journal may be of either form. `NoMemory`: no memory was found.
 pub fn follow(alloc: Global, net: &Net, text: &[u8], most: u32) -> Result<Followed, NoMemory>
-    requires small { length net.now.nodes ≤ 200000 }
-    requires most { most ≤ 8000000 }
+    requires small { length net.now.nodes ≤ most_nodes }
+    requires most { most ≤ most_fuel }
     ensures replay { IfOk result (λ f. IsReplay net.now f.replay) }
     ensures stops { IfOk result (λ f. Stops net.now text.now most f.replay f.at f.stop) }
 {

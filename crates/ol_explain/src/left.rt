@@ -9,6 +9,7 @@ ghost use Rattle.ol_explain.specs.Reasons.{IsReplayed};
 ghost use Rattle.ol_explain.specs.Left.{more_text};
 ghost use Rattle.ol_subjects.specs.declared.answers.End.{End};
 ghost use Rattle.ol_explain.specs.Found.{IsPairOf, AreFound, IsLeftText};
+ghost use Rattle.ol_limits.specs.Limits.{most_fuel, most_nodes};
 
 use crate::naming::{put, put_number};
 use ol_diamond::{WaveList, waves};
@@ -162,8 +163,8 @@ fn put_left(
     net: &Net,
     replay: &mut Replay,
 ) -> Result<(), NoMemory>
-    requires few { length net.now.nodes ≤ 200000 }
-    requires entries { length replay.old.run.journal ≤ 8000000 }
+    requires few { length net.now.nodes ≤ most_nodes }
+    requires entries { length replay.old.run.journal ≤ most_fuel }
     requires replay { IsReplay net.now replay.old }
     ensures { OnOk result ((left : List ℕ) × IsLeftText net.now replay.old left
         × (string_bytes text.new ≡ string_bytes text.old ++ left)) }
@@ -188,8 +189,8 @@ pub fn run_and_left(
     entries: u32,
     replay: &mut Replay,
 ) -> Result<Answer, NoMemory>
-    requires few { length net.now.nodes ≤ 200000 }
-    requires entries { length replay.old.run.journal ≤ 8000000 }
+    requires few { length net.now.nodes ≤ most_nodes }
+    requires entries { length replay.old.run.journal ≤ most_fuel }
     requires replay { IsReplay net.now replay.old }
     ensures text { IfOk result (λ a. (left : List ℕ) × IsLeftText net.now replay.old left
         × (a.text.items ≡ line_with (codes "run ") entries ++ left)) }

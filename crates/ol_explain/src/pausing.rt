@@ -5,6 +5,7 @@ ghost use Rattle.ol_view.specs.Laws.{IsTable};
 ghost use Rattle.ol_explain.specs.Afters.{IsAfter, IsAfterOf, line_with, shown_text};
 ghost use Rattle.ol_replay.specs.Replays.{names_of};
 ghost use Rattle.ol_subjects.specs.Subjects.{most_bytes};
+ghost use Rattle.ol_limits.specs.Limits.{most_fuel, most_nodes};
 
 use crate::following::{Stop, follow};
 use crate::naming::named_net;
@@ -47,8 +48,8 @@ fn shown(alloc: Global, replay: &Replay) -> Result<Answer, NoMemory>
 
 // The net after so many lines.
 fn of_net(alloc: Global, net: &Net, journal: &[u8], lines: u32) -> Result<Answer, NoMemory>
-    requires few { length net.now.nodes ≤ 200000 }
-    requires lines { (1 ≤ lines) × (lines ≤ 8000001) }
+    requires few { length net.now.nodes ≤ most_nodes }
+    requires lines { (1 ≤ lines) × (lines ≤ most_fuel + 1) }
     ensures { IfOk result (λ a. IsAfterOf net.now journal.now lines a.text.items a.end) }
 {
     let followed = follow(alloc, net, journal, lines - 1)?;
@@ -99,7 +100,7 @@ pub fn after(
     lines: u32,
 ) -> Result<Answer, NoMemory>
     requires short { length bytes.now ≤ most_bytes subject }
-    requires lines { (1 ≤ lines) × (lines ≤ 8000001) }
+    requires lines { (1 ≤ lines) × (lines ≤ most_fuel + 1) }
     ensures { IfOk result (λ a.
         IsAfter bytes.now journal.now lines a.text.items subject a.end) }
 {

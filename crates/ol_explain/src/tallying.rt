@@ -4,8 +4,10 @@
 ghost use Rattle.std.specs.Prelude.{◌≤◌, length, IfOk};
 ghost use Rattle.ol_subjects.specs.Subjects.{most_bytes};
 ghost use Rattle.ol_explain.specs.Tallies.{IsChecked, IsTally, IsTallied};
+ghost use Rattle.ol_limits.specs.Limits.{most_nodes};
 
 use crate::following::{Stop, follow};
+use ol_limits::MOST_FUEL;
 use ol_memory::NoMemory;
 use ol_net::Net;
 use ol_rules::{Counts, counts};
@@ -32,10 +34,10 @@ pub struct Tally {
 
 // How often each rule stands in the journal, where it has no bad line.
 fn count_rules(alloc: Global, net: &Net, journal: &[u8]) -> Result<Option<Counts>, NoMemory>
-    requires few { length net.now.nodes ≤ 200000 }
+    requires few { length net.now.nodes ≤ most_nodes }
     ensures { IfOk result (IsTally net.now journal.now) }
 {
-    let followed = follow(alloc, net, journal, 8_000_000)?;
+    let followed = follow(alloc, net, journal, MOST_FUEL)?;
     match followed.stop {
         Stop::Good => {
             if followed.at < journal.len() {

@@ -17,8 +17,10 @@ ghost use Rattle.ol_explain.specs.declared.wanting.Field.TheVariants as field;
 ghost use Rattle.ol_explain.specs.Afters.{line_with};
 ghost use Rattle.ol_explain.specs.Fields.{IsField, Begins, GoesOn, IsEnd, IsCut, AreAt, IsFault, IsBrokenBy, IsBadBy};
 ghost use Rattle.ol_explain.specs.Wanted.{AreThose, IsLine, byte_words, choice_words, is_told, choices, end_at, greater_at, bytes_at, wanted_at};
+ghost use Rattle.ol_limits.specs.Limits.{most_fuel};
 
 use crate::naming::{put as put_words, put_long};
+use ol_limits::MOST_FUEL;
 use ol_memory::NoMemory;
 use ol_net::Rule;
 use ol_rules::NodeName;
@@ -491,10 +493,10 @@ pub fn bad_line(
 /// memory was found.
 pub fn past_the_end(alloc: Global, at: usize) -> Result<Answer, NoMemory>
     ensures text { IfOk result (λ a. a.text.items
-        ≡ line_with (codes "bad text at line ") 8000002 ++ end_at at ++ codes "\n") }
+        ≡ line_with (codes "bad text at line ") (most_fuel + 2) ++ end_at at ++ codes "\n") }
     ensures end { IfOk result (λ a. a.end ≡ End.No) }
 {
-    let mut text = begun(alloc, 8_000_002, at)?;
+    let mut text = begun(alloc, MOST_FUEL + 2, at)?;
     put(&mut text, b" the end, after 8000000 entries")?;
     put(&mut text, b"\n")?;
     let end = End::No;

@@ -13,6 +13,7 @@ ghost use Rattle.ol_same.specs.Same.{IsFirstAlone, IsComparison, IsSame};
 ghost use Rattle.ol_same.specs.Meetings.{met_by, Answers, TellPairs, AreTables, EachMet, Finds};
 ghost use Rattle.ol_same.specs.Walked.{HasWalked, SearchedFrom, SearchedAt};
 ghost use Rattle.ol_subjects.specs.Subjects.{IsSubject};
+ghost use Rattle.ol_limits.specs.Limits.{most_net_bytes};
 
 use ol_memory::NoMemory;
 use ol_net::{Kind, Net, NodeId, Port};
@@ -492,8 +493,8 @@ fn compare(alloc: Global, a: &Net, b: &Net) -> Result<Answer, NoMemory>
 ///
 /// `NoMemory`: no memory was found.
 pub fn same(alloc: Global, first: &[u8], second: &[u8]) -> Result<Answer, NoMemory>
-    requires short_first { length first.now ≤ 33554432 }
-    requires short_second { length second.now ≤ 33554432 }
+    requires short_first { length first.now ≤ most_net_bytes }
+    requires short_second { length second.now ≤ most_net_bytes }
     ensures { IfOk result (λ x. IsSame first.now second.now x.text.items x.end) }
 {
     let a = match read_subject(alloc, first, Subject::Net)? {
