@@ -7,15 +7,12 @@ use Rattle.ol_subjects.specs.declared.subjects.Subject.{Subject}
 use Rattle.ol_subjects.specs.declared.subjects.Subject.TheVariants.{Term}
 use Rattle.ol_explain.specs.declared.tallying.Finding.{Finding}
 use Rattle.ol_subjects.specs.Subjects.{most_bytes}
+use Rattle.ol_limits.specs.Limits.{most_journal_bytes}
 use Rattle.ol_explain.specs.Tallies.{IsChecked, IsTallied}
 use Rattle.ol_explain.specs.Explained.{IsExplained}
 use Rattle.ol_check_c.specs.declared.answers.Verdict.{Verdict}
 use Rattle.ol_check_c.specs.declared.answers.RuleCounts.{RuleCounts}
 use Rattle.ol_check_c.specs.Verdicts.{verdict_of, too_long, no_memory, no_translation, no_counts, counts_told}
-
--- the most bytes of a journal
-abbrev pub most_journal_bytes : ℕ
-most_journal_bytes = 402653184
 
 -- a file with a term, by the number of the translation; 0 stands for 2
 abbrev pub subject_of : ℕ → Option Subject

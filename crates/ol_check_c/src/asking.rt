@@ -6,12 +6,10 @@ ghost use Rattle.ol_check_c.specs.Asked.{subject_of, AreTooLong, AreShort, IsVer
 
 use crate::answers::{RuleCounts, Verdict, counts_told, no_counts, verdict_of, verdict_with};
 use ol_explain::{checked, explained, tallied};
+use ol_limits::MOST_JOURNAL_BYTES;
 use ol_subjects::{Subject, most_bytes};
 use ol_term::Translation;
 use std::alloc::Global;
-
-// The most bytes of a journal.
-const MOST_JOURNAL_BYTES: usize = 402_653_184;
 
 /// What stands in a file with a term, by the number of the translation, or `None` where no
 /// translation has this number. 0 stands for 2.
@@ -58,8 +56,8 @@ fn limit(subject: Subject, bytes: &[u8], journal: &[u8]) -> Option<Verdict>
     if most < bytes.len() {
         return Some(too_long(most));
     }
-    if MOST_JOURNAL_BYTES < journal.len() {
-        return Some(too_long(MOST_JOURNAL_BYTES));
+    if (MOST_JOURNAL_BYTES as usize) < journal.len() {
+        return Some(too_long(MOST_JOURNAL_BYTES as usize));
     }
     None
 }

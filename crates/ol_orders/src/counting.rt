@@ -5,6 +5,7 @@ ghost use Rattle.ol_term.specs.Trees.{tree_of, is_below, term_size};
 ghost use Rattle.ol_subjects.specs.Subjects.{most_bytes, IsTerm, IsNetOfTerm};
 ghost use Rattle.ol_orders.specs.Tables.{at_right, cell_digits, end_of, in_row, net_row, row_name, row_text, table_text, IsRunColumn, IsDemandColumn, IsLeftmostCount, IsCounted};
 ghost use Rattle.ol_orders.specs.Counted.{IsOfNet, IsOfTerm};
+ghost use Rattle.ol_limits.specs.Limits.{most_fuel, most_net_bytes, most_nodes, most_term_bytes};
 
 use crate::stepping::is_within;
 use ol_beta::{BetaFault, beta, redex};
@@ -69,8 +70,8 @@ const SPACES: &[u8; 12] = b"            ";
 
 // The run of one thread.
 fn run_column(alloc: Global, net: &Net, fuel: u32) -> Result<Option<Column>, NoMemory>
-    requires few { length net.now.nodes ≤ 200000 }
-    requires fuel { fuel ≤ 8000000 }
+    requires few { length net.now.nodes ≤ most_nodes }
+    requires fuel { fuel ≤ most_fuel }
     ensures { IfOk result (IsRunColumn net.now fuel) }
 {
     let mut last = net.copy()?;
@@ -92,8 +93,8 @@ fn demand_column(
     heads: u32,
     fuel: u32,
 ) -> Result<Option<Column>, NoMemory>
-    requires few { length net.now.nodes ≤ 200000 }
-    requires fuel { fuel ≤ 8000000 }
+    requires few { length net.now.nodes ≤ most_nodes }
+    requires fuel { fuel ≤ most_fuel }
     requires heads { 1 ≤ heads }
     ensures { IfOk result (IsDemandColumn net.now heads fuel) }
 {
@@ -316,8 +317,8 @@ fn end_of(ended: bool) -> End
 
 // The answer for a net alone.
 fn of_net(alloc: Global, net: &Net, bounds: Bounds) -> Result<Answer, NoMemory>
-    requires few { length net.now.nodes ≤ 200000 }
-    requires fuel { bounds.fuel ≤ 8000000 }
+    requires few { length net.now.nodes ≤ most_nodes }
+    requires fuel { bounds.fuel ≤ most_fuel }
     requires heads { 1 ≤ bounds.heads }
     ensures { IfOk result (λ a. IsOfNet net.now bounds a.text.items a.end) }
 {
@@ -330,9 +331,9 @@ fn of_net(alloc: Global, net: &Net, bounds: Bounds) -> Result<Answer, NoMemory>
 
 // The answer for a term and its net.
 fn of_term(alloc: Global, net: &Net, file: TermFile, bounds: Bounds) -> Result<Answer, NoMemory>
-    requires few { length net.now.nodes ≤ 200000 }
+    requires few { length net.now.nodes ≤ most_nodes }
     requires counted { term_size (tree_of file.term) < 2 ^ 64 }
-    requires fuel { bounds.fuel ≤ 8000000 }
+    requires fuel { bounds.fuel ≤ most_fuel }
     requires heads { 1 ≤ bounds.heads }
     ensures { IfOk result (λ a.
         IsOfTerm (tree_of file.term) net.now bounds a.text.items a.end) }
@@ -352,8 +353,8 @@ fn of_term_file(
     translation: Translation,
     bounds: Bounds,
 ) -> Result<Answer, NoMemory>
-    requires short { length bytes.now ≤ 1048576 }
-    requires fuel { bounds.fuel ≤ 8000000 }
+    requires short { length bytes.now ≤ most_term_bytes }
+    requires fuel { bounds.fuel ≤ most_fuel }
     requires heads { 1 ≤ bounds.heads }
     ensures { IfOk result (λ a.
         IsCounted bytes.now bounds a.text.items (Subject.Term translation) a.end) }
@@ -372,8 +373,8 @@ fn of_term_file(
 
 // The answer to a file with a net.
 fn of_net_file(alloc: Global, bytes: &[u8], bounds: Bounds) -> Result<Answer, NoMemory>
-    requires short { length bytes.now ≤ 33554432 }
-    requires fuel { bounds.fuel ≤ 8000000 }
+    requires short { length bytes.now ≤ most_net_bytes }
+    requires fuel { bounds.fuel ≤ most_fuel }
     requires heads { 1 ≤ bounds.heads }
     ensures { IfOk result (λ a. IsCounted bytes.now bounds a.text.items Subject.Net a.end) }
 {
@@ -409,7 +410,7 @@ pub fn counted(
     bounds: Bounds,
 ) -> Result<Answer, NoMemory>
     requires short { length bytes.now ≤ most_bytes subject }
-    requires fuel { bounds.fuel ≤ 8000000 }
+    requires fuel { bounds.fuel ≤ most_fuel }
     requires heads { 1 ≤ bounds.heads }
     ensures { IfOk result (λ a. IsCounted bytes.now bounds a.text.items subject a.end) }
 {

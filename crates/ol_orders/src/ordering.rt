@@ -9,6 +9,7 @@ ghost use Rattle.ol_view.specs.declared.forms.Form.TheVariants.{Two};
 ghost use Rattle.ol_view.specs.Forms.{header_of};
 ghost use Rattle.ol_subjects.specs.Subjects.{most_bytes};
 ghost use Rattle.ol_orders.specs.Orders.{Traces, IsJournalOf, IsJournal};
+ghost use Rattle.ol_limits.specs.Limits.{most_fuel, most_nodes};
 
 use crate::playing::play;
 use ol_demand::{Demanded, demand};
@@ -43,8 +44,8 @@ fn traced(alloc: Global, net: &Net, journal: &Journal) -> Result<Vec<u8>, NoMemo
 
 // The run of one thread.
 fn least(alloc: Global, net: &Net, fuel: u32) -> Result<Answer, NoMemory>
-    requires few { length net.now.nodes ≤ 200000 }
-    requires fuel { fuel ≤ 8000000 }
+    requires few { length net.now.nodes ≤ most_nodes }
+    requires fuel { fuel ≤ most_fuel }
     ensures { IfOk result (λ a.
         (heads : ℕ) → IsJournalOf net.now fuel heads a.text.items Order.Least a.end) }
 {
@@ -65,8 +66,8 @@ fn least(alloc: Global, net: &Net, fuel: u32) -> Result<Answer, NoMemory>
 
 // The run in rounds.
 fn in_rounds(alloc: Global, net: &Net, fuel: u32) -> Result<Answer, NoMemory>
-    requires few { length net.now.nodes ≤ 200000 }
-    requires fuel { fuel ≤ 8000000 }
+    requires few { length net.now.nodes ≤ most_nodes }
+    requires fuel { fuel ≤ most_fuel }
     ensures { IfOk result (λ a.
         (heads : ℕ) → IsJournalOf net.now fuel heads a.text.items Order.Rounds a.end) }
 {
@@ -97,8 +98,8 @@ fn no_entry(alloc: Global) -> Result<Answer, NoMemory>
 
 // The run that reads the net on demand.
 fn on_demand(alloc: Global, net: &Net, fuel: u32, heads: u32) -> Result<Answer, NoMemory>
-    requires few { length net.now.nodes ≤ 200000 }
-    requires fuel { fuel ≤ 8000000 }
+    requires few { length net.now.nodes ≤ most_nodes }
+    requires fuel { fuel ≤ most_fuel }
     requires heads { 1 ≤ heads }
     ensures { IfOk result (λ a. IsJournalOf net.now fuel heads a.text.items Order.Demand a.end) }
 {
@@ -124,8 +125,8 @@ fn on_demand(alloc: Global, net: &Net, fuel: u32, heads: u32) -> Result<Answer, 
 
 // The journal of a net.
 fn of_net(alloc: Global, net: &Net, order: Order, fuel: u32, heads: u32) -> Result<Answer, NoMemory>
-    requires few { length net.now.nodes ≤ 200000 }
-    requires fuel { fuel ≤ 8000000 }
+    requires few { length net.now.nodes ≤ most_nodes }
+    requires fuel { fuel ≤ most_fuel }
     requires heads { 1 ≤ heads }
     ensures { IfOk result (λ a. IsJournalOf net.now fuel heads a.text.items order a.end) }
 {
@@ -165,7 +166,7 @@ pub fn journal(
     heads: u32,
 ) -> Result<Answer, NoMemory>
     requires short { length bytes.now ≤ most_bytes subject }
-    requires fuel { fuel ≤ 8000000 }
+    requires fuel { fuel ≤ most_fuel }
     requires heads { 1 ≤ heads }
     ensures { IfOk result (λ a. IsJournal bytes.now order fuel heads a.text.items subject a.end) }
 {

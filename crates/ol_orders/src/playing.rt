@@ -10,6 +10,7 @@ ghost use Rattle.ol_rules.specs.Runs.{IsRun};
 ghost use Rattle.ol_view.specs.Checks.{start_net_of_graph};
 ghost use Rattle.ol_replay.specs.Replays.{ReplaysPair};
 ghost use Rattle.ol_orders.specs.Played.{IsPair, ArePairs, StillWait, NewWait, Plays, IsCut, IsPlayed};
+ghost use Rattle.ol_limits.specs.Limits.{most_fuel, most_nodes};
 
 use ol_memory::NoMemory;
 use ol_net::{Facing, Net, NodeId, Port};
@@ -96,7 +97,7 @@ fn play_round(
     requires pairs { ArePairs replay.old.net pairs.now }
     requires few { length replay.old.net.nodes + 4 * fuel
         ≤ 2000000000 + 4 * length replay.old.run.journal }
-    requires fuel { fuel ≤ 8000000 }
+    requires fuel { fuel ≤ most_fuel }
     requires within { length replay.old.run.journal ≤ fuel }
     ensures all { IfOk result (λ all. all ≡ true → Plays replay.old pairs.now [] replay.new) }
     ensures waits { IfOk result (λ all. all ≡ true → AllWait replay.new.net waiting.new) }
@@ -118,8 +119,8 @@ fn play_round(
 /// is. A round looks only at nodes that were born in the one before or beside its pairs; the first
 /// one looks at all. `NoMemory`: no memory was found.
 pub fn play(alloc: Global, net: &Net, fuel: u32) -> Result<Ran, NoMemory>
-    requires few { length net.now.nodes ≤ 200000 }
-    requires fuel { fuel ≤ 8000000 }
+    requires few { length net.now.nodes ≤ most_nodes }
+    requires fuel { fuel ≤ most_fuel }
     ensures played { IfOk result (λ ran. IsPlayed net.now fuel ran.journal ran.ended) }
     ensures within { IfOk result (λ ran. length ran.journal ≤ fuel) }
     ensures run { IfOk result (λ ran. (M : NamedNet NodeName)

@@ -8,18 +8,15 @@ ghost use Rattle.ol_subjects.specs.Subjects.{IsTerm};
 ghost use Rattle.ol_orders.specs.Steps.{address_line, last_line, past_line, term_line, Tells, IsStepsOf};
 ghost use Rattle.std.specs.List.{flat_map};
 ghost use Rattle.std.specs.Fmt.{decimal};
+ghost use Rattle.ol_limits.specs.Limits.{most_term_bytes};
 
 use ol_beta::{Address, BetaFault, beta, redex};
+use ol_limits::{MOST_DEPTH, MOST_SIZE};
 use ol_memory::NoMemory;
 use ol_net::Net;
 use ol_subjects::{Answer, End, TermRead, put, put_number, read_term};
 use ol_term::{Names, Term, TermFile, Translation, depth, print_term, size};
 use std::alloc::Global;
-
-// The bounds of terms that are contracted.
-const MOST_SIZE: u64 = 100_000;
-
-const MOST_DEPTH: u64 = 1_000;
 
 /// Whether a term is one that steps are made from: it has at most 100,000 constructors, at most
 /// 1,000 of them one within another.
@@ -27,7 +24,7 @@ pub fn is_within(term: &Term) -> bool
     requires few { term_size (tree_of term.now) < 2 ^ 64 }
     ensures { IsTrue result ↔ IsWithin (tree_of term.now) }
 {
-    size(term) <= MOST_SIZE && depth(term) <= MOST_DEPTH
+    size(term) <= MOST_SIZE as u64 && depth(term) <= MOST_DEPTH as u64
 }
 
 // A term's line.
@@ -173,7 +170,7 @@ fn of_file(alloc: Global, file: TermFile, most: u32) -> Result<Answer, NoMemory>
 ///
 /// `NoMemory`: no memory was found.
 pub fn steps(alloc: Global, bytes: &[u8], most: u32) -> Result<Answer, NoMemory>
-    requires short { length bytes.now ≤ 1048576 }
+    requires short { length bytes.now ≤ most_term_bytes }
     ensures { IfOk result (λ a. IsStepsOf bytes.now most a.text.items a.end) }
 {
     match read_term(alloc, bytes, Translation::Two)? {
