@@ -65,8 +65,8 @@ limit_line most =
 abbrev pub IsWithinBounds : Asked → Type 0
 IsWithinBounds (asked.Where byte name) = Unit {0}
 IsWithinBounds (asked.Steps most name) = Unit {0}
-IsWithinBounds (asked.Counts subject bounds name) = (bounds.fuel ≤ most_fuel) × (1 ≤ bounds.heads)
-IsWithinBounds (asked.Journal subject order fuel heads name) = (fuel ≤ most_fuel) × (1 ≤ heads)
+IsWithinBounds (asked.Counts subject bounds name) = Unit {0}
+IsWithinBounds (asked.Journal subject order fuel heads name) = Unit {0}
 IsWithinBounds (asked.After subject lines name journal) = (1 ≤ lines) × (lines ≤ most_fuel + 1)
 IsWithinBounds (asked.Explain subject name journal) = Unit {0}
 IsWithinBounds (asked.Same name other) = Unit {0}
@@ -78,7 +78,7 @@ IsAnswer (asked.Steps most name) bytes more text e = IsStepsOf bytes most text e
 IsAnswer (asked.Counts subject bounds name) bytes more text e =
     IsCounted bytes bounds text subject e
 IsAnswer (asked.Journal subject order fuel heads name) bytes more text e =
-    IsJournal bytes order fuel heads text subject e
+    IsJournal bytes order fuel.most heads.most text subject e
 IsAnswer (asked.After subject lines name journal) bytes more text e =
     IsAfter bytes more lines text subject e
 IsAnswer (asked.Explain subject name journal) bytes more text e =

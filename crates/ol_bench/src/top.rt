@@ -10,7 +10,7 @@ ghost use Rattle.ol_bench.specs.Writing.{Told, WritesAnswer, change_of};
 use crate::placing::whereabouts;
 use ol_explain::{after, explained};
 use ol_io::{ReadAll, Sink, Source, Written, read_all, write_all};
-use ol_limits::{MOST_JOURNAL_BYTES, MOST_NET_BYTES, MOST_TERM_BYTES};
+use ol_limits::{Fuel, Heads, MOST_JOURNAL_BYTES, MOST_NET_BYTES, MOST_TERM_BYTES};
 use ol_memory::NoMemory;
 use ol_orders::{Bounds, Order, counted, journal, steps};
 use ol_same::same;
@@ -22,7 +22,7 @@ use std::alloc::Global;
 ///
 /// `name` is that of the file with the term or the net, and the only one where there is no second
 /// name. Where two files are read, it is read first.
-#[derive(Debug, Drop)]
+#[derive(Drop)]
 pub enum Asked {
     /// Where a byte of a file stands, any file. `byte` is its place, counted from 0: any number,
     /// also one past the end.
@@ -35,20 +35,20 @@ pub enum Asked {
         most: u32,
         name: String,
     },
-    /// Interactions and beta steps of three ways to reduce, each within its bound: `fuel` is at
-    /// most 8,000,000, `heads` at least 1, and `steps` any number.
+    /// Interactions and beta steps of three ways to reduce, each within its bound; of leftmost
+    /// steps any number.
     Counts {
         subject: Subject,
         bounds: Bounds,
         name: String,
     },
-    /// The journal of a run in this order: of at most `fuel` interactions, which are at most
-    /// 8,000,000, and on demand of at most `heads` subterms, at least 1.
+    /// The journal of a run in this order: of at most `fuel` interactions, and on demand of at
+    /// most `heads` subterms.
     Journal {
         subject: Subject,
         order: Order,
-        fuel: u32,
-        heads: u32,
+        fuel: Fuel,
+        heads: Heads,
         name: String,
     },
     /// The net after the first `lines` lines of a journal, from 1, its first line, which tells its

@@ -5,7 +5,9 @@ ghost use Rattle.ol_bench.specs.Commands.{IsWithinBounds};
 
 use clap::{Arg, ArgAction, ArgMatches, Command, Error};
 use ol_bench::Asked;
-use ol_limits::{MOST_FUEL, MOST_HEADS, MOST_JOURNAL_BYTES, MOST_STEPS, PLAIN_FUEL, PLAIN_HEADS};
+use ol_limits::{
+    Fuel, Heads, MOST_FUEL, MOST_HEADS, MOST_JOURNAL_BYTES, MOST_STEPS, PLAIN_FUEL, PLAIN_HEADS,
+};
 use ol_orders::{Bounds, Order};
 use ol_subjects::Subject;
 use ol_term::Translation;
@@ -210,6 +212,14 @@ fn number_of(found: &ArgMatches, id: &str, least: u32, most: u32, default: u32) 
     }
 }
 
+fn fuel_of(found: &ArgMatches) -> Fuel {
+    Fuel::of(number_of(found, "fuel", 0, MOST_FUEL, PLAIN_FUEL))
+}
+
+fn heads_of(found: &ArgMatches) -> Heads {
+    Heads::of(number_of(found, "heads", 1, MOST_HEADS, PLAIN_HEADS))
+}
+
 fn subject_of(found: &ArgMatches) -> Subject {
     if found.get_flag("net") {
         return Subject::Net;
@@ -252,8 +262,8 @@ fn counts_asked(alloc: Global, found: &ArgMatches) -> Result<Asked, Error>
     ensures { IfOk result IsWithinBounds }
 {
     let bounds = Bounds {
-        fuel: number_of(found, "fuel", 0, MOST_FUEL, PLAIN_FUEL),
-        heads: number_of(found, "heads", 1, MOST_HEADS, PLAIN_HEADS),
+        fuel: fuel_of(found),
+        heads: heads_of(found),
         steps: number_of(found, "most", 0, MOST_STEPS, 1_000),
     };
     let subject = subject_of(found);
@@ -268,8 +278,8 @@ fn counts_asked(alloc: Global, found: &ArgMatches) -> Result<Asked, Error>
 fn journal_asked(alloc: Global, found: &ArgMatches) -> Result<Asked, Error>
     ensures { IfOk result IsWithinBounds }
 {
-    let fuel = number_of(found, "fuel", 0, MOST_FUEL, PLAIN_FUEL);
-    let heads = number_of(found, "heads", 1, MOST_HEADS, PLAIN_HEADS);
+    let fuel = fuel_of(found);
+    let heads = heads_of(found);
     let subject = subject_of(found);
     let order = order_of(found);
     let name = name_of(alloc, found)?;

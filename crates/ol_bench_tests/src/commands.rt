@@ -1,9 +1,11 @@
 //! Rows of each command over the fakes.
 ghost use Rattle.std.specs.Prelude.{◌≤◌, IfOk};
 ghost use Rattle.ol_bench.specs.Commands.{IsWithinBounds};
+ghost use Rattle.ol_limits.specs.Limits.{most_fuel};
 
 use ol_bench::{Asked, Status, bench};
 use ol_io::{MemFile, MemSink, MemSource};
+use ol_limits::{Fuel, Heads};
 use ol_orders::{Bounds, Order};
 use ol_subjects::Subject;
 use ol_term::Translation;
@@ -87,12 +89,12 @@ stuck                      0           -           -
 ";
 
 fn counts(subject: Subject, fuel: u32, name: String) -> Asked
-    requires { fuel ≤ 8000000 }
+    requires { fuel ≤ most_fuel }
     ensures { IsWithinBounds result }
 {
     let bounds = Bounds {
-        fuel,
-        heads: 10,
+        fuel: Fuel::of(fuel),
+        heads: Heads::of(10),
         steps: 2,
     };
     Asked::Counts {
@@ -103,14 +105,14 @@ fn counts(subject: Subject, fuel: u32, name: String) -> Asked
 }
 
 fn journal(subject: Subject, order: Order, fuel: u32, name: String) -> Asked
-    requires { fuel ≤ 8000000 }
+    requires { fuel ≤ most_fuel }
     ensures { IsWithinBounds result }
 {
     Asked::Journal {
         subject,
         order,
-        fuel,
-        heads: 10,
+        fuel: Fuel::of(fuel),
+        heads: Heads::of(10),
         name,
     }
 }

@@ -130,11 +130,11 @@ pub data IsCounted (bytes : List ℕ) (bounds : Bounds) (text : List ℕ) : Subj
   of_term : {translation : Translation} {t : Tree} {names : List (List ℕ)} {g : Graph}
       {run demand : Option Column} {leftmost : Option ℕ} →
       IsTerm translation bytes t names → IsNetOfTerm translation t names g →
-      IsRunColumn g bounds.fuel run → IsDemandColumn g bounds.heads bounds.fuel demand →
+      IsRunColumn g bounds.fuel.most run → IsDemandColumn g bounds.heads.most bounds.fuel.most demand →
       IsLeftmostCount t bounds.steps leftmost → text ≡ table_text run demand leftmost →
       IsCounted bytes bounds text (subject.Term translation)
       (end_of (is_some run && is_some demand && is_some leftmost))
   of_net : {g : Graph} {run demand : Option Column} → IsNetRead bytes g →
-      IsRunColumn g bounds.fuel run → IsDemandColumn g bounds.heads bounds.fuel demand →
+      IsRunColumn g bounds.fuel.most run → IsDemandColumn g bounds.heads.most bounds.fuel.most demand →
       text ≡ table_text run demand None →
       IsCounted bytes bounds text subject.Net (end_of (is_some run && is_some demand))

@@ -5,11 +5,12 @@ ghost use Rattle.ol_term.specs.Trees.{tree_of, is_below, term_size};
 ghost use Rattle.ol_subjects.specs.Subjects.{most_bytes, IsTerm, IsNetOfTerm};
 ghost use Rattle.ol_orders.specs.Tables.{at_right, cell_digits, end_of, in_row, net_row, row_name, row_text, table_text, IsRunColumn, IsDemandColumn, IsLeftmostCount, IsCounted};
 ghost use Rattle.ol_orders.specs.Counted.{IsOfNet, IsOfTerm};
-ghost use Rattle.ol_limits.specs.Limits.{most_fuel, most_net_bytes, most_nodes, most_term_bytes};
+ghost use Rattle.ol_limits.specs.Limits.{most_net_bytes, most_nodes, most_term_bytes};
 
 use crate::stepping::is_within;
 use ol_beta::{BetaFault, beta, redex};
 use ol_demand::{Demanded, demand};
+use ol_limits::{Fuel, Heads};
 use ol_memory::NoMemory;
 use ol_net::Net;
 use ol_rules::{Counts, Ended, counts, run};
@@ -21,13 +22,13 @@ use std::alloc::Global;
 
 /// How far each way may go.
 ///
-/// - `fuel`: how many interactions, at most 8,000,000.
-/// - `heads`: how many subterms `demand` asks for, at least 1.
+/// - `fuel`: how many interactions.
+/// - `heads`: how many subterms `demand` asks for.
 /// - `steps`: how many beta steps leftmost reduction makes.
-#[derive(Clone, Copy, Debug, PartialEq, Eq)]
+#[derive(Clone, Copy)]
 pub struct Bounds {
-    pub fuel: u32,
-    pub heads: u32,
+    pub fuel: Fuel,
+    pub heads: Heads,
     pub steps: u32,
 }
 
@@ -69,13 +70,12 @@ pub enum Row {
 const SPACES: &[u8; 12] = b"            ";
 
 // The run of one thread.
-fn run_column(alloc: Global, net: &Net, fuel: u32) -> Result<Option<Column>, NoMemory>
+fn run_column(alloc: Global, net: &Net, fuel: Fuel) -> Result<Option<Column>, NoMemory>
     requires few { length net.now.nodes ≤ most_nodes }
-    requires fuel { fuel ≤ most_fuel }
-    ensures { IfOk result (IsRunColumn net.now fuel) }
+    ensures { IfOk result (IsRunColumn net.now fuel.most) }
 {
     let mut last = net.copy()?;
-    let ran = run(alloc, &mut last, fuel)?;
+    let ran = run(alloc, &mut last, fuel.most)?;
     match ran.ended {
         Ended::Spent => Ok(None),
         Ended::Done => {
@@ -90,19 +90,17 @@ fn run_column(alloc: Global, net: &Net, fuel: u32) -> Result<Option<Column>, NoM
 fn demand_column(
     alloc: Global,
     net: &Net,
-    heads: u32,
-    fuel: u32,
+    heads: Heads,
+    fuel: Fuel,
 ) -> Result<Option<Column>, NoMemory>
     requires few { length net.now.nodes ≤ most_nodes }
-    requires fuel { fuel ≤ most_fuel }
-    requires heads { 1 ≤ heads }
-    ensures { IfOk result (IsDemandColumn net.now heads fuel) }
+    ensures { IfOk result (IsDemandColumn net.now heads.most fuel.most) }
 {
     if net.free_ports() == 0 {
         return Ok(None);
     }
     let mut last = net.copy()?;
-    let demanded = demand(alloc, &mut last, fuel, heads)?;
+    let demanded = demand(alloc, &mut last, fuel.most, heads.most)?;
     match demanded {
         Demanded::Spent { .. } => Ok(None),
         Demanded::Done { journal, .. } => {
@@ -318,8 +316,6 @@ fn end_of(ended: bool) -> End
 // The answer for a net alone.
 fn of_net(alloc: Global, net: &Net, bounds: Bounds) -> Result<Answer, NoMemory>
     requires few { length net.now.nodes ≤ most_nodes }
-    requires fuel { bounds.fuel ≤ most_fuel }
-    requires heads { 1 ≤ bounds.heads }
     ensures { IfOk result (λ a. IsOfNet net.now bounds a.text.items a.end) }
 {
     let run = run_column(alloc, net, bounds.fuel)?;
@@ -333,8 +329,6 @@ fn of_net(alloc: Global, net: &Net, bounds: Bounds) -> Result<Answer, NoMemory>
 fn of_term(alloc: Global, net: &Net, file: TermFile, bounds: Bounds) -> Result<Answer, NoMemory>
     requires few { length net.now.nodes ≤ most_nodes }
     requires counted { term_size (tree_of file.term) < 2 ^ 64 }
-    requires fuel { bounds.fuel ≤ most_fuel }
-    requires heads { 1 ≤ bounds.heads }
     ensures { IfOk result (λ a.
         IsOfTerm (tree_of file.term) net.now bounds a.text.items a.end) }
 {
@@ -354,8 +348,6 @@ fn of_term_file(
     bounds: Bounds,
 ) -> Result<Answer, NoMemory>
     requires short { length bytes.now ≤ most_term_bytes }
-    requires fuel { bounds.fuel ≤ most_fuel }
-    requires heads { 1 ≤ bounds.heads }
     ensures { IfOk result (λ a.
         IsCounted bytes.now bounds a.text.items (Subject.Term translation) a.end) }
 {
@@ -374,8 +366,6 @@ fn of_term_file(
 // The answer to a file with a net.
 fn of_net_file(alloc: Global, bytes: &[u8], bounds: Bounds) -> Result<Answer, NoMemory>
     requires short { length bytes.now ≤ most_net_bytes }
-    requires fuel { bounds.fuel ≤ most_fuel }
-    requires heads { 1 ≤ bounds.heads }
     ensures { IfOk result (λ a. IsCounted bytes.now bounds a.text.items Subject.Net a.end) }
 {
     match read_subject(alloc, bytes, Subject::Net)? {
@@ -410,8 +400,6 @@ pub fn counted(
     bounds: Bounds,
 ) -> Result<Answer, NoMemory>
     requires short { length bytes.now ≤ most_bytes subject }
-    requires fuel { bounds.fuel ≤ most_fuel }
-    requires heads { 1 ≤ bounds.heads }
     ensures { IfOk result (λ a. IsCounted bytes.now bounds a.text.items subject a.end) }
 {
     match subject {

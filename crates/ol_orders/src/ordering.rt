@@ -9,10 +9,11 @@ ghost use Rattle.ol_view.specs.declared.forms.Form.TheVariants.{Two};
 ghost use Rattle.ol_view.specs.Forms.{header_of};
 ghost use Rattle.ol_subjects.specs.Subjects.{most_bytes};
 ghost use Rattle.ol_orders.specs.Orders.{Traces, IsJournalOf, IsJournal};
-ghost use Rattle.ol_limits.specs.Limits.{most_fuel, most_nodes};
+ghost use Rattle.ol_limits.specs.Limits.{most_nodes};
 
 use crate::playing::play;
 use ol_demand::{Demanded, demand};
+use ol_limits::{Fuel, Heads};
 use ol_memory::NoMemory;
 use ol_net::Net;
 use ol_rules::{Ended, Journal, run};
@@ -43,14 +44,13 @@ fn traced(alloc: Global, net: &Net, journal: &Journal) -> Result<Vec<u8>, NoMemo
 }
 
 // The run of one thread.
-fn least(alloc: Global, net: &Net, fuel: u32) -> Result<Answer, NoMemory>
+fn least(alloc: Global, net: &Net, fuel: Fuel) -> Result<Answer, NoMemory>
     requires few { length net.now.nodes ≤ most_nodes }
-    requires fuel { fuel ≤ most_fuel }
     ensures { IfOk result (λ a.
-        (heads : ℕ) → IsJournalOf net.now fuel heads a.text.items Order.Least a.end) }
+        (heads : ℕ) → IsJournalOf net.now fuel.most heads a.text.items Order.Least a.end) }
 {
     let mut last = net.copy()?;
-    let ran = run(alloc, &mut last, fuel)?;
+    let ran = run(alloc, &mut last, fuel.most)?;
     let text = traced(alloc, net, &ran.journal)?;
     match ran.ended {
         Ended::Done => {
@@ -65,11 +65,10 @@ fn least(alloc: Global, net: &Net, fuel: u32) -> Result<Answer, NoMemory>
 }
 
 // The run in rounds.
-fn in_rounds(alloc: Global, net: &Net, fuel: u32) -> Result<Answer, NoMemory>
+fn in_rounds(alloc: Global, net: &Net, fuel: Fuel) -> Result<Answer, NoMemory>
     requires few { length net.now.nodes ≤ most_nodes }
-    requires fuel { fuel ≤ most_fuel }
     ensures { IfOk result (λ a.
-        (heads : ℕ) → IsJournalOf net.now fuel heads a.text.items Order.Rounds a.end) }
+        (heads : ℕ) → IsJournalOf net.now fuel.most heads a.text.items Order.Rounds a.end) }
 {
     let ran = play(alloc, net, fuel)?;
     let text = traced(alloc, net, &ran.journal)?;
@@ -97,18 +96,16 @@ fn no_entry(alloc: Global) -> Result<Answer, NoMemory>
 }
 
 // The run that reads the net on demand.
-fn on_demand(alloc: Global, net: &Net, fuel: u32, heads: u32) -> Result<Answer, NoMemory>
+fn on_demand(alloc: Global, net: &Net, fuel: Fuel, heads: Heads) -> Result<Answer, NoMemory>
     requires few { length net.now.nodes ≤ most_nodes }
-    requires fuel { fuel ≤ most_fuel }
-    requires heads { 1 ≤ heads }
-    ensures { IfOk result (λ a. IsJournalOf net.now fuel heads a.text.items Order.Demand a.end) }
+    ensures { IfOk result (λ a. IsJournalOf net.now fuel.most heads.most a.text.items Order.Demand a.end) }
 {
     if net.free_ports() == 0 {
         let answer = no_entry(alloc)?;
         return Ok(answer);
     }
     let mut last = net.copy()?;
-    let demanded = demand(alloc, &mut last, fuel, heads)?;
+    let demanded = demand(alloc, &mut last, fuel.most, heads.most)?;
     match demanded {
         Demanded::Spent { journal } => {
             let text = traced(alloc, net, &journal)?;
@@ -124,11 +121,15 @@ fn on_demand(alloc: Global, net: &Net, fuel: u32, heads: u32) -> Result<Answer, 
 }
 
 // The journal of a net.
-fn of_net(alloc: Global, net: &Net, order: Order, fuel: u32, heads: u32) -> Result<Answer, NoMemory>
+fn of_net(
+    alloc: Global,
+    net: &Net,
+    order: Order,
+    fuel: Fuel,
+    heads: Heads,
+) -> Result<Answer, NoMemory>
     requires few { length net.now.nodes ≤ most_nodes }
-    requires fuel { fuel ≤ most_fuel }
-    requires heads { 1 ≤ heads }
-    ensures { IfOk result (λ a. IsJournalOf net.now fuel heads a.text.items order a.end) }
+    ensures { IfOk result (λ a. IsJournalOf net.now fuel.most heads.most a.text.items order a.end) }
 {
     match order {
         Order::Least => {
@@ -148,8 +149,7 @@ fn of_net(alloc: Global, net: &Net, order: Order, fuel: u32, heads: u32) -> Resu
 
 /// The journal of a run in this order, of at most `fuel` interactions, with its rules and waves.
 /// The run on demand asks for the first `heads` subterms; where the net has no free port, it asks
-/// for nothing, and its journal has no entry. `fuel` is at most 8,000,000, and `heads` at least 1;
-/// in the other two orders nothing depends on `heads`.
+/// for nothing, and its journal has no entry. In the other two orders nothing depends on `heads`.
 ///
 /// - `Yes`: the order has come to its end.
 /// - `No`: it goes on beyond the fuel.
@@ -162,13 +162,11 @@ pub fn journal(
     bytes: &[u8],
     subject: Subject,
     order: Order,
-    fuel: u32,
-    heads: u32,
+    fuel: Fuel,
+    heads: Heads,
 ) -> Result<Answer, NoMemory>
     requires short { length bytes.now ≤ most_bytes subject }
-    requires fuel { fuel ≤ most_fuel }
-    requires heads { 1 ≤ heads }
-    ensures { IfOk result (λ a. IsJournal bytes.now order fuel heads a.text.items subject a.end) }
+    ensures { IfOk result (λ a. IsJournal bytes.now order fuel.most heads.most a.text.items subject a.end) }
 {
     match read_subject(alloc, bytes, subject)? {
         NetRead::Refused(text) => {

@@ -10,8 +10,9 @@ ghost use Rattle.ol_rules.specs.Runs.{IsRun};
 ghost use Rattle.ol_view.specs.Checks.{start_net_of_graph};
 ghost use Rattle.ol_replay.specs.Replays.{ReplaysPair};
 ghost use Rattle.ol_orders.specs.Played.{IsPair, ArePairs, StillWait, NewWait, Plays, IsCut, IsPlayed};
-ghost use Rattle.ol_limits.specs.Limits.{most_fuel, most_nodes};
+ghost use Rattle.ol_limits.specs.Limits.{most_nodes};
 
+use ol_limits::Fuel;
 use ol_memory::NoMemory;
 use ol_net::{Facing, Net, NodeId, Port};
 use ol_replay::Replay;
@@ -92,21 +93,20 @@ fn play_round(
     replay: &mut Replay,
     waiting: &mut BTreeSet<u32>,
     pairs: &[(u32, u32)],
-    fuel: u32,
+    fuel: Fuel,
 ) -> Result<bool, NoMemory>
     requires pairs { ArePairs replay.old.net pairs.now }
-    requires few { length replay.old.net.nodes + 4 * fuel
+    requires few { length replay.old.net.nodes + 4 * fuel.most
         ≤ 2000000000 + 4 * length replay.old.run.journal }
-    requires fuel { fuel ≤ most_fuel }
-    requires within { length replay.old.run.journal ≤ fuel }
+    requires within { length replay.old.run.journal ≤ fuel.most }
     ensures all { IfOk result (λ all. all ≡ true → Plays replay.old pairs.now [] replay.new) }
     ensures waits { IfOk result (λ all. all ≡ true → AllWait replay.new.net waiting.new) }
-    ensures cut { IfOk result (λ all. all ≡ false → IsCut fuel replay.old pairs.now replay.new) }
-    ensures within { IfOk result (λ all. length replay.new.run.journal ≤ fuel) }
+    ensures cut { IfOk result (λ all. all ≡ false → IsCut fuel.most replay.old pairs.now replay.new) }
+    ensures within { IfOk result (λ all. length replay.new.run.journal ≤ fuel.most) }
 {
     replay.net.is_net();
     for pair in pairs {
-        if replay.run.journal.len() == fuel {
+        if replay.run.journal.len() == fuel.most {
             return Ok(false);
         }
         play_pair(replay, waiting, NodeId(pair.0), NodeId(pair.1))?;
@@ -118,11 +118,10 @@ fn play_round(
 /// pairs that are active when it begins, in the order of their smaller names. The net stays as it
 /// is. A round looks only at nodes that were born in the one before or beside its pairs; the first
 /// one looks at all. `NoMemory`: no memory was found.
-pub fn play(alloc: Global, net: &Net, fuel: u32) -> Result<Ran, NoMemory>
+pub fn play(alloc: Global, net: &Net, fuel: Fuel) -> Result<Ran, NoMemory>
     requires few { length net.now.nodes ≤ most_nodes }
-    requires fuel { fuel ≤ most_fuel }
-    ensures played { IfOk result (λ ran. IsPlayed net.now fuel ran.journal ran.ended) }
-    ensures within { IfOk result (λ ran. length ran.journal ≤ fuel) }
+    ensures played { IfOk result (λ ran. IsPlayed net.now fuel.most ran.journal ran.ended) }
+    ensures within { IfOk result (λ ran. length ran.journal ≤ fuel.most) }
     ensures run { IfOk result (λ ran. (M : NamedNet NodeName)
         × IsRun (start_net_of_graph net.now) 0 ran.journal M) }
 {

@@ -10,17 +10,17 @@ returns-then-free_ports-eq0 c = IsDemandColumn.no_root (sym c.free_ports.ensures
 
 pub returns-in-Spent : goal.returns-in-Spent
 returns-in-Spent c =
-    subst (λ (g : Graph). IsDemandColumn g c.args.heads c.args.fuel None) c.in_ok-last.ensures.copy
+    subst (λ (g : Graph). IsDemandColumn g c.args.heads.most c.args.fuel.most None) c.in_ok-last.ensures.copy
     (IsDemandColumn.goes_on (c.in_ok-demanded.ensures.spent.0 (subst IsSpent (sym c.in-Spent.is) tt)))
 
 pub returns : goal.returns
 returns c =
-    subst (λ n. IsDemandColumn c.args.net.now c.args.heads c.args.fuel
+    subst (λ n. IsDemandColumn c.args.net.now c.args.heads.most c.args.fuel.most
     (Some (record { counts = n; stuck = c.stuck-stuck.result }))) (sym c.counts-counts.ensures)
-    (subst (λ (g : Graph). IsDemandColumn g c.args.heads c.args.fuel
+    (subst (λ (g : Graph). IsDemandColumn g c.args.heads.most c.args.fuel.most
     (Some (record {
       counts = counts_of c.in-Done.journal;
       stuck = c.stuck-stuck.result;
     }))) c.in_ok-last.ensures.copy
-    (IsDemandColumn.ended (subst (IsAnswer c.in_ok-last.last c.args.heads c.args.fuel
+    (IsDemandColumn.ended (subst (IsAnswer c.in_ok-last.last c.args.heads.most c.args.fuel.most
     c.demand.new.net) c.in-Done.is c.in_ok-demanded.ensures.answer) c.stuck-stuck.ensures.stuck))

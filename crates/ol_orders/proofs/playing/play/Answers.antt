@@ -25,8 +25,8 @@ play_round-requires-clause-pairs c = subst (λ (ps : List (ℕ × ℕ)). ArePair
     (sym c.as_slice.ensures.value) c.loop-alloc.invariant.pairs
 
 pub play_round-requires-clause-few : goal.play_round-requires-clause-few
-play_round-requires-clause-few c = few_nodes c.args.net.now c.loop-alloc.replay c.args.fuel
-    c.loop-alloc.invariant.play.replay c.requires.few c.requires.fuel
+play_round-requires-clause-few c = few_nodes c.args.net.now c.loop-alloc.replay c.args.fuel.most
+    c.loop-alloc.invariant.play.replay c.requires.few c.args.fuel.within
 
 pub play_round-requires-clause-within : goal.play_round-requires-clause-within
 play_round-requires-clause-within c = c.loop-alloc.invariant.within
@@ -36,7 +36,7 @@ returns-then-not-branch-clause-played c =
     let all = subst (λ (ps : List (ℕ × ℕ)). ArePairs c.loop-alloc.replay.net ps)
     (sym c.as_slice.ensures.value) c.loop-alloc.invariant.pairs in
     cut c.args.net.now c.loop-alloc.replay c.play_round.new.replay c.loop-alloc.invariant.play
-    c.as_slice.result.now all c.args.fuel (c.in_ok-play_round.ensures.cut c.if-not-branch.true)
+    c.as_slice.result.now all c.args.fuel.most (c.in_ok-play_round.ensures.cut c.if-not-branch.true)
 
 pub returns-then-not-branch-clause-run : goal.returns-then-not-branch-clause-run
 returns-then-not-branch-clause-run c =
@@ -74,7 +74,7 @@ pub returns-clause-played : goal.returns-clause-played
 returns-clause-played c =
     let made : vec_len c.loop-alloc.pairs ≡ length c.loop-alloc.pairs.items = search rules in
     let none : length c.loop-alloc.pairs.items ≡ 0 = grind (arith, nat_tests, c.loop-alloc-test.false, c.is_empty.ensures, made) in
-    ends_with c.args.net.now c.loop-alloc.replay c.args.fuel c.loop-alloc.pairs.items
+    ends_with c.args.net.now c.loop-alloc.replay c.args.fuel.most c.loop-alloc.pairs.items
     c.loop-alloc.invariant.play c.loop-alloc.invariant.pairs none c.loop-alloc.invariant.within
 
 pub returns-clause-within : goal.returns-clause-within

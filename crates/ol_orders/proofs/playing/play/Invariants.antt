@@ -8,8 +8,8 @@ abbrev pub invariant-loop-alloc : goal.invariant-loop-alloc
 invariant-loop-alloc l = record {
   play : IsInPlay l.net l.replay;
   pairs : ArePairs l.replay.net l.pairs.items;
-  within : length l.replay.run.journal ≤ l.fuel;
+  within : length l.replay.run.journal ≤ l.fuel.most;
 }
 
 abbrev pub decreases-loop-alloc : goal.decreases-loop-alloc
-decreases-loop-alloc l = l.fuel - length l.replay.run.journal
+decreases-loop-alloc l = l.fuel.most - length l.replay.run.journal
