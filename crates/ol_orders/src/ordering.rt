@@ -98,7 +98,8 @@ fn no_entry(alloc: Global) -> Result<Answer, NoMemory>
 // The run that reads the net on demand.
 fn on_demand(alloc: Global, net: &Net, fuel: Fuel, heads: Heads) -> Result<Answer, NoMemory>
     requires few { length net.now.nodes ≤ most_nodes }
-    ensures { IfOk result (λ a. IsJournalOf net.now fuel.most heads.most a.text.items Order.Demand a.end) }
+    ensures { IfOk result (λ a.
+        IsJournalOf net.now fuel.most heads.most a.text.items Order.Demand a.end) }
 {
     if net.free_ports() == 0 {
         let answer = no_entry(alloc)?;
@@ -166,7 +167,8 @@ pub fn journal(
     heads: Heads,
 ) -> Result<Answer, NoMemory>
     requires short { length bytes.now ≤ most_bytes subject }
-    ensures { IfOk result (λ a. IsJournal bytes.now order fuel.most heads.most a.text.items subject a.end) }
+    ensures { IfOk result (λ a.
+        IsJournal bytes.now order fuel.most heads.most a.text.items subject a.end) }
 {
     match read_subject(alloc, bytes, subject)? {
         NetRead::Refused(text) => {

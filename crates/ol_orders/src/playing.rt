@@ -101,7 +101,8 @@ fn play_round(
     requires within { length replay.old.run.journal ≤ fuel.most }
     ensures all { IfOk result (λ all. all ≡ true → Plays replay.old pairs.now [] replay.new) }
     ensures waits { IfOk result (λ all. all ≡ true → AllWait replay.new.net waiting.new) }
-    ensures cut { IfOk result (λ all. all ≡ false → IsCut fuel.most replay.old pairs.now replay.new) }
+    ensures cut { IfOk result (λ all. all ≡ false →
+        IsCut fuel.most replay.old pairs.now replay.new) }
     ensures within { IfOk result (λ all. length replay.new.run.journal ≤ fuel.most) }
 {
     replay.net.is_net();
