@@ -7,6 +7,7 @@ use Rattle.ol_beta.specs.declared.certifying.Verdict.{Verdict}
 use Rattle.ol_beta.specs.declared.walking.End as walking
 use Rattle.ol_beta.specs.declared.walking.End.TheVariants as end
 use Rattle.ol_beta.specs.Verdicts.{IsNormalForm, IsPastAt, IsShort, IsVerdict}
+use Rattle.ol_limits.specs.Limits.{most_depth}
 
 -- where leftmost reduction ends
 abbrev pub IsEnd : Tree → ℕ → walking.End → Type 0
@@ -17,4 +18,4 @@ IsEnd t most (end.Normal road term) = IsNormalForm t most road (tree_of term)
 -- what an end says of the tree's term
 abbrev pub IsCompared : walking.End → Tree → Verdict → Type 0
 IsCompared e u v = (t : Tree) (ns : List ReadNode) (most : ℕ) → IsEnd t most e → IsTermOf ns u →
-    depth u ≤ 1000 → IsVerdict t ns most v
+    depth u ≤ most_depth → IsVerdict t ns most v
