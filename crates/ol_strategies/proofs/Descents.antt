@@ -6,10 +6,8 @@ use Rattle.std.specs.Prelude.{if◌then◌else◌}
 use Rattle.std.proofs.lemmas.List.{append-nil, length-append}
 use Rattle.ol_term.specs.Trees.{Tree, lam, app, depth}
 use Rattle.ol_beta.specs.Leftmost.{is_abstraction, under}
+use Rattle.ol_beta.proofs.Searching.{prefixed, one_more}
 use Rattle.ol_strategies.specs.Searches.{spine_redex}
-
-abbrev pub prefixed : List ℕ → Option (List ℕ) → Option (List ℕ)
-prefixed p o = option_map (λ (at : List ℕ). p ++ at) o
 
 -- the search stands at a part with this address
 pub record IsDescended (below : Bool) (t part : Tree) (p : List ℕ) : Type 0 where
@@ -19,9 +17,6 @@ pub record IsDescended (below : Bool) (t part : Tree) (p : List ℕ) : Type 0 wh
 pub prefixed_nil : (o : Option (List ℕ)) → prefixed [] o ≡ o
 prefixed_nil None = refl
 prefixed_nil (Some x) = refl
-
-pub one_more : (p : List ℕ) (m : ℕ) → length (p ++ m ∷ []) ≡ length p + 1
-one_more p m = length-append p (m ∷ [])
 
 moved : (p : List ℕ) (m : ℕ) (o : Option (List ℕ)) → prefixed (p ++ m ∷ []) o ≡ prefixed p (under m o)
 moved p m None = refl

@@ -7,7 +7,7 @@ use Rattle.std.proofs.lemmas.Bool.{eqb-true}
 use Rattle.ol_term.specs.Trees.{Tree, var, free, lam, app}
 use Rattle.ol_beta.specs.Beta.{contracted}
 use Rattle.ol_beta.specs.Leftmost.{is_abstraction, under, IsBefore}
-use Rattle.ol_beta.proofs.Redexes.{no_leftmost}
+use Rattle.ol_beta.proofs.Redexes.{no_leftmost, some_map}
 use Rattle.ol_strategies.specs.Redexes.{root_if, is_value, value_redex}
 use Rattle.ol_strategies.specs.Searches.{is_ready, strict_redex}
 use Rattle.ol_strategies.specs.Laws.{IsInnermost, ApplicativeIsFirst, IsValueRedex, ValueIsFirst}
@@ -51,10 +51,6 @@ none_is o h e = let k : IsSome {T = Tree} None = subst (λ (o : Option Tree). Is
 no_map : (f : Tree → Tree) (o : Option Tree) → option_map f o ≡ None → o ≡ None
 no_map f None e = refl
 no_map f (Some t) e = absurd (cc)
-
-some_map : (f : Tree → Tree) (o : Option Tree) → IsSome (option_map f o) → IsSome o
-some_map f None h = h
-some_map f (Some t) h = refl
 
 into_body : (m : ℕ) (o : Option Tree) → IsSome (if m == 0 then o else None) → m ≡ 0
 into_body m o h = go (m == 0) refl h

@@ -4,9 +4,9 @@ use Rattle.std.proofs.Common.{replicate, Option, Some, None, IsSome, refl, sym, 
 use Rattle.std.specs.Prelude.{◌==◌, ◌&&◌, if◌then◌else◌}
 use Rattle.std.specs.Option.{option_map, option_or}
 use Rattle.ol_term.specs.Trees.{Tree, var, free, lam, app}
-use Rattle.ol_beta.specs.Beta.{applied, contracted}
+use Rattle.ol_beta.specs.Beta.{contracted}
 use Rattle.ol_beta.specs.Leftmost.{is_abstraction, under, leftmost, IsNormal}
-use Rattle.ol_beta.proofs.Redexes.{no_under, no_leftmost, leftmost_first}
+use Rattle.ol_beta.proofs.Redexes.{no_under, no_leftmost, leftmost_first, map_some, map_none, both_none, abstraction_applied}
 use Rattle.ol_law_meaning.specs.Shows.{IsHeadAddress}
 use Rattle.ol_strategies.specs.Redexes.{head_redex, weak_head_redex, root_if, applicative_redex, is_value, value_redex}
 use Rattle.ol_strategies.specs.Searches.{spine_redex, is_ready, strict_redex}
@@ -120,16 +120,6 @@ weak_head (app f a) at e = weak_then (is_abstraction f) (weak_head_redex f) (hea
 
 -- ---- what is next is a redex
 
-map_some : (f : Tree → Tree) (o : Option Tree) → IsSome o → IsSome (option_map f o)
-map_some f None h = h
-map_some f (Some t) h = refl
-
-is_applied : (f c : Tree) → is_abstraction f ≡ true → IsSome (applied f c)
-is_applied (var k) c e = absurd (cc)
-is_applied (free k) c e = absurd (cc)
-is_applied (lam b) c e = refl
-is_applied (app f a) c e = absurd (cc)
-
 and_first : (x y : Bool) → (x && y) ≡ true → x ≡ true
 and_first true y e = refl
 and_first false y e = absurd (cc)
@@ -142,7 +132,7 @@ in_application f a x y z at F A Z (inl (b, e, i)) = subst (λ (at : List ℕ). I
 in_application f a x y z at F A Z (inr (inl (b, e, i))) = subst (λ (at : List ℕ). IsSome (contracted (app f a) at))
     (sym i) (map_some (app f) (contracted a b) (A b e))
 in_application f a x y z at F A Z (inr (inr (e, d, c, i))) = subst
-    (λ (at : List ℕ). IsSome (contracted (app f a) at)) (sym i) (is_applied f a (Z c))
+    (λ (at : List ℕ). IsSome (contracted (app f a) at)) (sym i) (abstraction_applied f a (Z c))
 
 pub strict_is_redex : (below : Bool) (t : Tree) (at : List ℕ) → strict_redex below t ≡ Some at → IsSome (contracted t at)
 strict_is_redex below (var k) at e = absurd (cc)
@@ -181,13 +171,6 @@ no_strict (app f a) e =
     let n = no_sides (strict_redex true f) (strict_redex true a) (is_ready true f a) e in
     left_none (is_abstraction f) (leftmost f) (leftmost a) (sym (and_true (is_abstraction f)) ∙ n.2)
     (no_strict f n.0) (no_strict a n.1)
-
-map_none : (f : Tree → Tree) (o : Option Tree) → o ≡ None → option_map f o ≡ None
-map_none f o e = ap (λ (o : Option Tree). option_map f o) e
-
-both_none : (b : Bool) (o p : Option Tree) → o ≡ None → p ≡ None → (if b then o else p) ≡ None
-both_none true o p h k = h
-both_none false o p h k = k
 
 -- no redex stands within the parts
 within_parts : (f a : Tree) (m : ℕ) (below : List ℕ) → IsNormal f → IsNormal a → contracted (app f a) (m ∷ below) ≡ None

@@ -11,7 +11,7 @@ use Rattle.ol_strategies.specs.Redexes.{root_if}
 use Rattle.ol_strategies.specs.Searches.{is_ready, strict_redex, redex_if}
 use Rattle.ol_strategies.specs.declared.strict.Todo.{Todo}
 use Rattle.ol_strategies.specs.declared.strict.Todo.TheVariants as todo
-use Rattle.ol_strategies.proofs.Descents.{prefixed, one_more}
+use Rattle.ol_beta.proofs.Searching.{prefixed, one_more, nothing_more, moved}
 
 -- what is found in what is still to be looked at, the next one first, where the search stands at an address
 abbrev pub later : Bool → List Todo → List ℕ → Option (List ℕ)
@@ -40,10 +40,6 @@ pub record IsSearched (b : Bool) (t part : Tree) (p : List ℕ) (ws : List Todo)
   pub deep : length p + depth part ≤ depth t
   pub held : AreHeld (depth t) (length p) (reverse ws)
 
-nothing_more : (o : Option (List ℕ)) → option_or (prefixed [] o) None ≡ o
-nothing_more None = refl
-nothing_more (Some x) = refl
-
 later_on : (b : Bool) (d : ℕ) (ws : List Todo) (p q : List ℕ) → AreHeld d (length p) ws →
     later b ws (p ++ q) ≡ later b ws p
 later_on b d [] p q h = refl
@@ -71,11 +67,6 @@ search_begun b t p ws e f =
     record { found = nothing_more (strict_redex b t); deep = omega arith; held = tt } in
     subst (λ (p : List ℕ). IsSearched b t t p ws) (sym e)
     (subst (λ (ws : List Todo). IsSearched b t t [] ws) (sym f) base)
-
-moved : (p : List ℕ) (m : ℕ) (o r : Option (List ℕ)) →
-    option_or (prefixed (p ++ m ∷ []) o) r ≡ option_or (prefixed p (under m o)) r
-moved p m None r = refl
-moved p m (Some x) r = ap (λ (y : List ℕ). Some y) (append_assoc p (m ∷ []) x)
 
 pub search_into_body : (b : Bool) (t part u : Tree) (p q : List ℕ) (ws : List Todo) → b ≡ true → part ≡ lam u →
     q ≡ p ++ 0 ∷ [] → IsSearched b t part p ws → IsSearched b t u q ws
