@@ -17,10 +17,9 @@ use Rattle.ol_rules.specs.Rewriting.{IsStep}
 use Rattle.ol_rules.specs.Runs.{names_born}
 use Rattle.ol_rules.specs.UnderWay.{name_in}
 use Rattle.ol_rules.specs.Steps.{StepsAt}
-use Rattle.ol_rules.proofs.FreshPairs.{linked_sym}
 use Rattle.ol_rules.proofs.NameOrder.{Names, names_apart, names_after, names_after_old, names_on}
 use Rattle.ol_rules.proofs.Renaming.{step_under}
-use Rattle.ol_rules.proofs.OnTheWay.{length-names_born}
+use Rattle.ol_rules.proofs.OnTheWay.{entry_names, length-names_born}
 use Rattle.ol_demand.specs.Asking.{IsNaming, AreNamesOf}
 use Rattle.ol_rules.specs.UnderWay.{Advances}
 use Rattle.ol_rules.specs.declared.under_way.UnderWay.{UnderWay}
@@ -37,28 +36,12 @@ one_name start next ticket m n = names_apart start next ticket m (as_names start
 -- the step of x and y, of which x has the smaller number
 module _ (g g' : Graph) (is_net : IsNet (net_of g)) (x y : ℕ) (r : Rule) (s : StepsAt g g' x r)
     (l : Linked (net_of g) (slot x 0) (slot y 0)) where
-  pub the_pair : ((x ≡ s.f) × (y ≡ s.g)) ⊎ ((x ≡ s.g) × (y ≡ s.f))
-  the_pair = go s.one_of
-    where
-      other : (f h : ℕ) → Linked (net_of g) (slot f 0) (slot h 0) → x ≡ f → y ≡ h
-      other f h a e = let c = is_net.one_link (slot f 0) (slot y 0) (slot h 0)
-          (subst (λ z. Linked (net_of g) (slot z 0) (slot y 0)) e l) a in cc
-
-      go : (x ≡ s.f) ⊎ (x ≡ s.g) → ((x ≡ s.f) × (y ≡ s.g)) ⊎ ((x ≡ s.g) × (y ≡ s.f))
-      go (inl e) = inl (e, other s.f s.g s.step.active.faces.linked e)
-      go (inr e) = inr (e, other s.g s.f (linked_sym (net_of g) (slot s.f 0) (slot s.g 0) s.step.active.faces.linked) e)
-
   module _ (lesser : x < y) (start t : ℕ) (m : ℕ → NodeName) (n : IsNaming start (length g.nodes) t m) where
     abbrev entry : Entry
     entry = record { rule = r; first = m x; second = m y }
 
-    pub entry_names : IsNamed entry (m s.f) (m s.g)
-    entry_names = record { ordered = n.rising x y lesser; pair = go the_pair }
-      where
-        go : ((x ≡ s.f) × (y ≡ s.g)) ⊎ ((x ≡ s.g) × (y ≡ s.f)) →
-            ((m x ≡ m s.f) × (m y ≡ m s.g)) ⊎ ((m x ≡ m s.g) × (m y ≡ m s.f))
-        go (inl e) = inl (ap m e.0, ap m e.1)
-        go (inr e) = inr (ap m e.0, ap m e.1)
+    pub named_entry : IsNamed entry (m s.f) (m s.g)
+    named_entry = entry_names g g' is_net x y r s l lesser start t m (as_names start (length g.nodes) t m n)
 
     abbrev StepBy : (ℕ → NodeName) → Type 0
     StepBy born = IsStep born (net_under m (net_of g)) (m s.f) (m s.g) r (net_under m (net_of g'))

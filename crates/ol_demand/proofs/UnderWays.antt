@@ -17,7 +17,7 @@ use Rattle.ol_rules.specs.Steps.{StepsAt}
 use Rattle.std.proofs.lemmas.Bool.Decides.{nat_tests}
 use Rattle.ol_rules.proofs.NameOrder.{names_first, names_after, names_after_old}
 use Rattle.ol_rules.proofs.Renaming.{net_alike}
-use Rattle.ol_rules.proofs.OnTheWay.{node_below}
+use Rattle.ol_rules.proofs.OnTheWay.{node_below, the_pair}
 use Rattle.ol_readback.specs.Frames.{Frame, asked}
 use Rattle.ol_readback.specs.Heads.{Answer, no_head, budget, IsMatched}
 use Rattle.ol_readback.specs.ReadTrees.{Subterm, whole_term, framed}
@@ -32,7 +32,7 @@ use Rattle.ol_demand.specs.Answers.{start_of, StopsOnTheWay}
 use Rattle.ol_demand.specs.Asking.{IsNaming, IsUnderWay, IsLeftOff}
 use Rattle.ol_rules.specs.UnderWay.{Advances}
 use Rattle.ol_rules.specs.declared.under_way.UnderWay.{UnderWay}
-use Rattle.ol_demand.proofs.Entries.{is_naming, one_name, the_pair, entry_names, named_step, names_of_next, after_step}
+use Rattle.ol_demand.proofs.Entries.{is_naming, one_name, named_entry, named_step, names_of_next, after_step}
 use Rattle.ol_demand.proofs.LiveNodes.{once}
 use Rattle.ol_demand.proofs.Paired.{acts}
 use Rattle.ol_demand.proofs.UnderNames.{end_under, live_under, ends_under, once_under}
@@ -193,7 +193,7 @@ module _ (old g : Graph) (run : UnderWay) (heads : ℕ) (places : List ReadNode)
       step = record {
         f = u.names st.f;
         g = u.names st.g;
-        named = entry_names g g' is_net x y r st l lesser (length old.nodes)
+        named = named_entry g g' is_net x y r st l lesser (length old.nodes)
             (length run.journal) u.names u.are_names.naming;
         step = named_step g g' is_net x y r st l lesser (length old.nodes)
             (length run.journal) u.names u.are_names.naming;

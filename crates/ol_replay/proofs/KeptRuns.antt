@@ -15,11 +15,11 @@ use Rattle.ol_rules.specs.Runs.{IsEntryStep, IsRun, names_born}
 use Rattle.ol_rules.proofs.NameOrder.{names_after, names_after_old, names_first}
 use Rattle.ol_rules.proofs.Renaming.{net_alike}
 use Rattle.ol_rules.proofs.RunsOn.{run_on}
-use Rattle.ol_rules.proofs.OnTheWay.{node_below, length-names_born, step_few}
+use Rattle.ol_rules.proofs.OnTheWay.{node_below, the_pair, length-names_born, step_few}
 use Rattle.ol_rules.specs.UnderWay.{node_number, entry_for}
 use Rattle.ol_diamond.proofs.Replays.{Index, index_first, index_on}
 use Rattle.ol_demand.specs.Asking.{IsNaming, AreNamesOf}
-use Rattle.ol_demand.proofs.Entries.{the_pair, entry_names, named_step, after_step, names_of_next}
+use Rattle.ol_demand.proofs.Entries.{named_entry, named_step, after_step, names_of_next}
 use Rattle.ol_view.specs.Checks.{start_net_of_graph}
 use Rattle.ol_replay.specs.declared.replaying.Replay.{Replay}
 use Rattle.ol_replay.specs.Replays.{names_of, AreNames, IsReplay, ReplaysPair}
@@ -114,7 +114,7 @@ module _ (old : Graph) (r r' : Replay) (x y : ℕ) (u : IsReplay old r) (a : Rep
   step = record {
     f = u.m a.advances.step.f;
     g = u.m a.advances.step.g;
-    named = entry_names r.net r'.net a.old_net x y a.advances.rule a.advances.step a.linked a.lesser (length old.nodes) t u.m n;
+    named = named_entry r.net r'.net a.old_net x y a.advances.rule a.advances.step a.linked a.lesser (length old.nodes) t u.m n;
     step = subst (λ M. IsStep (λ p. Born t p) here (u.m a.advances.step.f) (u.m a.advances.step.g) a.advances.rule M) same
         (named_step r.net r'.net a.old_net x y a.advances.rule a.advances.step a.linked a.lesser (length old.nodes) t u.m n);
   }

@@ -64,29 +64,41 @@ births_few r k l = go (is_meeting r) (few k) (few l)
 pub step_few : (g g' : Graph) (at : ℕ) (r : Rule) → StepsAt g g' at r → length g'.nodes ≤ length g.nodes + 4
 step_few g g' at r s = let q = s.numbers in let b = births_few r s.step.active.k s.step.active.l in omega arith
 
+-- the step of x, whose principal port is linked to that of y
+module _ (g g' : Graph) (is_net : IsNet (net_of g)) (x y : ℕ) (r : Rule) (s : StepsAt g g' x r)
+    (l : Linked (net_of g) (slot x 0) (slot y 0)) where
+  other_end : (f h : ℕ) → Linked (net_of g) (slot f 0) (slot h 0) → x ≡ f → y ≡ h
+  other_end f h a e = let c = is_net.one_link (slot f 0) (slot y 0) (slot h 0)
+      (subst (λ z. Linked (net_of g) (slot z 0) (slot y 0)) e l) a in cc
+
+  pub the_pair : ((x ≡ s.f) × (y ≡ s.g)) ⊎ ((x ≡ s.g) × (y ≡ s.f))
+  the_pair = go s.one_of
+    where
+      go : (x ≡ s.f) ⊎ (x ≡ s.g) → ((x ≡ s.f) × (y ≡ s.g)) ⊎ ((x ≡ s.g) × (y ≡ s.f))
+      go (inl e) = inl (e, other_end s.f s.g s.step.active.faces.linked e)
+      go (inr e) = inr (
+        e,
+        other_end s.g s.f (linked_sym (net_of g) (slot s.f 0) (slot s.g 0) s.step.active.faces.linked) e,
+      )
+
+  -- the entry of the pair names its two nodes, if x has the smaller number
+  pub entry_names : x < y → (start t : ℕ) (m : ℕ → NodeName) → Names start (length g.nodes) t m →
+      IsNamed (record { rule = r; first = m x; second = m y }) (m s.f) (m s.g)
+  entry_names lesser start t m n = record { ordered = n.rising x y lesser; pair = go the_pair }
+    where
+      go : ((x ≡ s.f) × (y ≡ s.g)) ⊎ ((x ≡ s.g) × (y ≡ s.f)) →
+          ((m x ≡ m s.f) × (m y ≡ m s.g)) ⊎ ((m x ≡ m s.g) × (m y ≡ m s.f))
+      go (inl e) = inl (ap m e.0, ap m e.1)
+      go (inr e) = inr (ap m e.0, ap m e.1)
+
 -- the step of the least pair, under the names of a run
 module _ (g g' : Graph) (is_net : IsNet (net_of g)) (at partner : ℕ) (r : Rule)
     (s : StepsAt g g' at r) (least : IsLeast g at partner) where
   abbrev N : NamedNet ℕ
   N = net_of g
 
-  other_end : (f h p q : ℕ) → Linked N (slot f 0) (slot h 0) → Linked N (slot p 0) (slot q 0) → p ≡ f → q ≡ h
-  other_end f h p q a b e = let c = is_net.one_link (slot f 0) (slot q 0) (slot h 0)
-      (subst (λ z. Linked N (slot z 0) (slot q 0)) e b) a in cc
-
-  pub the_pair : ((at ≡ s.f) × (partner ≡ s.g)) ⊎ ((at ≡ s.g) × (partner ≡ s.f))
-  the_pair = go s.one_of
-    where
-      go : (at ≡ s.f) ⊎ (at ≡ s.g) → ((at ≡ s.f) × (partner ≡ s.g)) ⊎ ((at ≡ s.g) × (partner ≡ s.f))
-      go (inl e) = inl (e, other_end s.f s.g at partner s.step.active.faces.linked least.linked e)
-      go (inr e) = inr (
-        e,
-        other_end s.g s.f at partner
-            (linked_sym N (slot s.f 0) (slot s.g 0) s.step.active.faces.linked) least.linked e,
-      )
-
   pub lesser : at < partner
-  lesser = go the_pair
+  lesser = go (the_pair g g' is_net at partner r s least.linked)
     where
       apart : at ≢ partner
       apart e = is_net.apart (slot at 0) (subst (λ z. Linked N (slot at 0) (slot z 0)) (sym e) least.linked)
@@ -99,19 +111,14 @@ module _ (g g' : Graph) (is_net : IsNet (net_of g)) (at partner : ℕ) (r : Rule
     abbrev e : Entry
     e = record { rule = r; first = m at; second = m partner }
 
-    entry_names : IsNamed e (m s.f) (m s.g)
-    entry_names = record { ordered = n.rising at partner lesser; pair = go the_pair }
-      where
-        go : ((at ≡ s.f) × (partner ≡ s.g)) ⊎ ((at ≡ s.g) × (partner ≡ s.f)) →
-            ((m at ≡ m s.f) × (m partner ≡ m s.g)) ⊎ ((m at ≡ m s.g) × (m partner ≡ m s.f))
-        go (inl e) = inl (ap m e.0, ap m e.1)
-        go (inr e) = inr (ap m e.0, ap m e.1)
+    named : IsNamed e (m s.f) (m s.g)
+    named = entry_names g g' is_net at partner r s least.linked lesser start t m n
 
     pub is_lead : IsLead (net_under m N) e
     is_lead = record {
       f = m s.f;
       g = m s.g;
-      named = entry_names;
+      named = named;
       active = active_to m N s.f s.g r s.step.active;
       least = λ F G r' a.
           let b = active_from m (names_apart start (length g.nodes) t m n) N F G r' a in (
@@ -136,7 +143,7 @@ module _ (g g' : Graph) (is_net : IsNet (net_of g)) (at partner : ℕ) (r : Rule
         × (births r u.active.k u.active.l ≡ length g'.nodes - length g.nodes)
 
     pub entry_step : Stepped (net_under m N) t e (net_under m (net_of g')) (length g'.nodes - length g.nodes)
-    entry_step = (record { f = m s.f; g = m s.g; named = entry_names; step = on.0 }, on.1)
+    entry_step = (record { f = m s.f; g = m s.g; named = named; step = on.0 }, on.1)
       where
         first : StepBy (λ p. m (length g.nodes + p))
         first =

@@ -241,5 +241,5 @@ all_wait_on g g' n at partner r s least w others beside_at beside_partner born x
         ⊎ Linked (net_of g) (slot x 0) (slot s.g (suc u))))) → contains nat_cmp w x ≡ true
     go (inl c) = others x t c stays
     go (inr (inl (p, e))) = let b = active_below g' x t a in born x t (omega arith) b a
-    go (inr (inr (u, inl h))) = at_slot s.f u h (f_is (the_pair g g' n at partner r s least))
-    go (inr (inr (u, inr h))) = at_slot s.g u h (g_is (the_pair g g' n at partner r s least))
+    go (inr (inr (u, inl h))) = at_slot s.f u h (f_is (the_pair g g' n at partner r s least.linked))
+    go (inr (inr (u, inr h))) = at_slot s.g u h (g_is (the_pair g g' n at partner r s least.linked))
