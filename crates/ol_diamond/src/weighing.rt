@@ -68,9 +68,12 @@ pub struct Rewritten {
 /// two ports.
 #[derive(Drop)]
 pub struct Weighing {
-    net: Net,
-    numbers: Numbers,
-    weights: Vec<u32>,
+    /// The net so far.
+    pub net: Net,
+    /// The numbers of the names.
+    pub numbers: Numbers,
+    /// The weights of the ports, each at its place.
+    pub weights: Vec<u32>,
 }
 
 /// The waves of the entries of a journal: the round in which each pair would be rewritten if each
