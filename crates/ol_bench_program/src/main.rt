@@ -1,18 +1,15 @@
 //! The program `ol-bench` over files, standard input, standard output and standard error.
 //!
 //! - `words`: the words of a command line, read by clap
-//! - `errors`: standard error as a sink
 #![tactic(auto)]
 
 ghost use Rattle.ol_bench.specs.Commands.{IsWithinBounds};
 
-mod errors;
 mod words;
 
 use clap::Error;
-use errors::Errors;
 use ol_bench::{Asked, Status, bench};
-use ol_io::{StdSink, StdSource};
+use ol_io::{StdSink, StdSource, WriterSink};
 use std::io::ErrorKind;
 use std::process::ExitCode;
 use words::asked_by;
@@ -29,7 +26,7 @@ fn run(rt: &HostRuntime, asked: &Asked) -> Status
 {
     let mut src = StdSource::new(rt);
     let mut out = StdSink::new(rt);
-    let mut errors = Errors::to(rt.stderr());
+    let mut errors = WriterSink::new(rt.stderr());
     bench(rt.alloc(), asked, &mut src, &mut out, &mut errors)
 }
 
