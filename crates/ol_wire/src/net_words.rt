@@ -89,6 +89,12 @@ fn field_of(net: &Net, parts: Parts, words: &[u64], node: u32, slot: u8, wires: 
     }
 }
 
+// As many words as are laid out, or more, so that none is copied while they are. A node has two
+// fields. There are at most as many wires as nodes, and as many words of cells.
+fn room_for(net: &Net, fuel: u32) -> usize {
+    2 + net.free_ports() as usize + 4 * net.born() as usize + BLOCK as usize * fuel as usize
+}
+
 // Adds a word.
 fn put(words: &mut Vec<u64>, word: u64) -> Result<(), NoMemory>
     ensures { OnOk result (words.new.items ≡ words.old.items ++ word ∷ []) }
@@ -226,7 +232,7 @@ fn lay_out(alloc: Global, net: &Net, fuel: u32) -> Result<(Parts, Vec<u64>), NoM
         cells: 0,
         fuel,
     };
-    let mut words: Vec<u64> = Vec::new(alloc);
+    let mut words: Vec<u64> = Vec::with_capacity(alloc, room_for(net, fuel))?;
     put(&mut words, 0)?;
     put(&mut words, 0)?;
     put_ports(net, early, &mut words)?;

@@ -17,7 +17,7 @@ put_nodes-requires-clause-behind c =
       fuel = c.args.fuel;
     } in
     let ea : c.put-2.new.words.items ≡ 0 ∷ 0 ∷ [] = c.in_ok-put-2.ensures
-    ∙ ap (λ xs. xs ++ 0 ∷ []) (c.in_ok-put.ensures ∙ ap (λ xs. xs ++ 0 ∷ []) c.new-words.ensures.items) in
+    ∙ ap (λ xs. xs ++ 0 ∷ []) (c.in_ok-put.ensures ∙ ap (λ xs. xs ++ 0 ∷ []) c.in_ok-words.ensures.items) in
     start_length c.args.net.now z c.put-2.new.words.items c.put_ports.new.words.items
     c.free_ports.ensures.free ea c.in_ok-put_ports.ensures
 
@@ -53,7 +53,7 @@ count_active-requires-clause-wide c =
       fuel = c.args.fuel;
     } in
     let ea : c.put-2.new.words.items ≡ 0 ∷ 0 ∷ [] = c.in_ok-put-2.ensures
-    ∙ ap (λ xs. xs ++ 0 ∷ []) (c.in_ok-put.ensures ∙ ap (λ xs. xs ++ 0 ∷ []) c.new-words.ensures.items) in
+    ∙ ap (λ xs. xs ++ 0 ∷ []) (c.in_ok-put.ensures ∙ ap (λ xs. xs ++ 0 ∷ []) c.in_ok-words.ensures.items) in
     let is_laid = laid c.args.net.now z c.put-2.new.words.items c.put_ports.new.words.items
     c.put_nodes.new.words.items c.put_empty.new.words.items c.put_cells.new.words.items
     c.put_empty-2.new.words.items c.free_ports.ensures.free c.born.ensures.born ea
@@ -71,7 +71,7 @@ returns-clause-laid c =
       fuel = c.args.fuel;
     } in
     let ea : c.put-2.new.words.items ≡ 0 ∷ 0 ∷ [] = c.in_ok-put-2.ensures
-    ∙ ap (λ xs. xs ++ 0 ∷ []) (c.in_ok-put.ensures ∙ ap (λ xs. xs ++ 0 ∷ []) c.new-words.ensures.items) in
+    ∙ ap (λ xs. xs ++ 0 ∷ []) (c.in_ok-put.ensures ∙ ap (λ xs. xs ++ 0 ∷ []) c.in_ok-words.ensures.items) in
     laid_with c.args.net.now z c.put_empty-2.new.words.items
     (laid c.args.net.now z c.put-2.new.words.items c.put_ports.new.words.items
     c.put_nodes.new.words.items c.put_empty.new.words.items c.put_cells.new.words.items
@@ -90,7 +90,7 @@ returns-clause-live c =
       fuel = c.args.fuel;
     } in
     let ea : c.put-2.new.words.items ≡ 0 ∷ 0 ∷ [] = c.in_ok-put-2.ensures
-    ∙ ap (λ xs. xs ++ 0 ∷ []) (c.in_ok-put.ensures ∙ ap (λ xs. xs ++ 0 ∷ []) c.new-words.ensures.items) in
+    ∙ ap (λ xs. xs ++ 0 ∷ []) (c.in_ok-put.ensures ∙ ap (λ xs. xs ++ 0 ∷ []) c.in_ok-words.ensures.items) in
     let is_laid = laid c.args.net.now z c.put-2.new.words.items c.put_ports.new.words.items
     c.put_nodes.new.words.items c.put_empty.new.words.items c.put_cells.new.words.items
     c.put_empty-2.new.words.items c.free_ports.ensures.free c.born.ensures.born ea
