@@ -13,7 +13,7 @@ use ol_io::OpenGate;
 use ol_memory::NoMemory;
 use ol_net::{Net, Port};
 use ol_pool::{Hand, Pool};
-use ol_reduce::{End, Reduced, Sweep, Worker, reduce, sweep, worker};
+use ol_reduce::{Counted, End, Reduced, Sweep, Worker, reduce, reduce_counted, sweep, worker};
 use ol_rules::{Counts, counts};
 use ol_wire::{Seat, Shared};
 use std::alloc::Global;
@@ -117,11 +117,9 @@ fn workers_share_a_net(rt: HostRuntime) -> Result<(), Fail> {
     Ok(())
 }
 
-#[test]
-fn sixty_four_workers_begin_at_one_cell(rt: HostRuntime) -> Result<(), Fail> {
-    let net = identity_twice(rt.alloc())?;
-    assert!(rt; is_small(&net));
-    let expected = Counts {
+// How often each rule stands in a complete run of `identity_twice`.
+fn counts_of_identity_twice() -> Counts {
+    Counts {
         beta: 2,
         fan: 1,
         croissant: 3,
@@ -130,7 +128,13 @@ fn sixty_four_workers_begin_at_one_cell(rt: HostRuntime) -> Result<(), Fail> {
         cross_croissant: 6,
         cross_bracket: 2,
         erase: 0,
-    };
+    }
+}
+
+#[test]
+fn sixty_four_workers_begin_at_one_cell(rt: HostRuntime) -> Result<(), Fail> {
+    let net = identity_twice(rt.alloc())?;
+    assert!(rt; is_small(&net));
     for workers in [1, 2, 64] {
         match reduce(&rt, rt.alloc(), &net, workers, 100, &OpenGate)? {
             Reduced::Done {
@@ -138,7 +142,7 @@ fn sixty_four_workers_begin_at_one_cell(rt: HostRuntime) -> Result<(), Fail> {
                 journal,
                 words,
             } => {
-                assert_eq!(rt; counts(&journal), expected);
+                assert_eq!(rt; counts(&journal), counts_of_identity_twice());
                 assert_eq!(rt; words.events(), 17);
                 assert_eq!(rt; last.nodes(), 2);
             }
@@ -146,6 +150,36 @@ fn sixty_four_workers_begin_at_one_cell(rt: HostRuntime) -> Result<(), Fail> {
                 journal: _journal,
                 words: _words,
             } => assert!(rt; false),
+        }
+    }
+    Ok(())
+}
+
+#[test]
+fn counts_come_in_place_of_the_journal(rt: HostRuntime) -> Result<(), Fail> {
+    let net = identity_twice(rt.alloc())?;
+    assert!(rt; is_small(&net));
+    for (workers, fuel, is_done) in [
+        (1, 17, true),
+        (64, 17, true),
+        (1, 16, false),
+        (64, 16, false),
+    ] {
+        match reduce_counted(&rt, rt.alloc(), &net, workers, fuel, &OpenGate)? {
+            Counted::Done {
+                net: last,
+                counts,
+                words,
+            } => {
+                assert!(rt; is_done);
+                assert_eq!(rt; counts, counts_of_identity_twice());
+                assert_eq!(rt; words.events(), fuel);
+                assert_eq!(rt; last.nodes(), 2);
+            }
+            Counted::Spent { words } => {
+                assert!(rt; !is_done);
+                assert_eq!(rt; words.events(), fuel);
+            }
         }
     }
     Ok(())
