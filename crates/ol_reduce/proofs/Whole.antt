@@ -1,6 +1,5 @@
 -- From an empty draft to the frozen net.
 use Rattle.std.proofs.Common.{◌≡◌, ℕ, ◌+◌, ◌*◌, ◌<◌, ◌≤◌, List, length, sym, ap, ◌∙◌, subst, arith}
-use Rattle.std.specs.Prelude.{Result, Ok, Err, IfOk}
 use Rattle.ol_net.specs.declared.parts.Kind.{Kind}
 use Rattle.ol_net.specs.Nets.{NamedNet, SameNet}
 use Rattle.ol_net.specs.Graph.{Graph}
@@ -59,7 +58,3 @@ module _ (w : ClosedTable) (places numbers : List ℕ)
       (is_frozen w places numbers left_are told.0 (is_reached_in w) told.2 kinds partners walked.0
       (whole told.0 (is_reached_in w) told.2) (walked.1 told.0 (is_reached_in w) told.2)
       (cells told.0 (is_reached_in w) told.2) g b')
-
-pub map_ok : {A E : Type 0} (P Q : A → Type 0) (r : Result A E) → ((x : A) → P x → Q x) → IfOk r P → IfOk r Q
-map_ok P Q (Ok x) f h = f x h
-map_ok P Q (Err e) f h = tt

@@ -1,7 +1,11 @@
 -- Private: the nodes that are left, and their numbers. Ranks have the order of places: first the
 -- start nodes, and then four for each ticket.
 use Rattle.std.specs.Prelude.{◌≡◌, ℕ, ◌+◌, ◌-◌, ◌*◌, ◌/◌, ◌%◌, ◌<◌, ◌≤◌, nat_lt, if◌then◌else◌}
-use Rattle.std.specs.Prelude.{Bool, true, List, length, slice_index, slice_get, Some, ◌⊎◌, ◌↔◌}
+use Rattle.std.specs.Prelude.{Bool, true, List, [], ◌∷◌, length, slice_index, slice_get, Some, ◌⊎◌, ◌↔◌}
+use Rattle.ol_net.specs.declared.parts.Rule.{Rule}
+use Rattle.ol_net.specs.Parts.{arity}
+use Rattle.ol_rules.specs.Listed.{each}
+use Rattle.ol_rules.specs.Rewriting.{is_meeting}
 use Rattle.ol_rules.specs.declared.journal.NodeName.{NodeName}
 use Rattle.ol_rules.specs.declared.journal.NodeName.TheVariants.{Init, Born}
 use Rattle.ol_rules.specs.declared.journal.Entry.{Entry}
@@ -9,6 +13,7 @@ use Rattle.ol_wire.specs.declared.layout.Parts.{Parts}
 use Rattle.ol_wire.specs.Layout.{place_of, IsPlaced, table_size}
 use Rattle.ol_wire.specs.Closed.{ClosedTable, events_in, journal_in, event_at, events_drawn}
 use Rattle.ol_wire.specs.Standing.{IsMadeNode, IsUntouched}
+use Rattle.ol_wire.specs.References.{kind_in}
 use Rattle.ol_wire.specs.Blocks.{copies_of_f, copies_of_g}
 use Rattle.ol_wire.specs.Sizes.{IsSmall}
 
@@ -52,6 +57,14 @@ pub record AreLeft (w : ClosedTable) (n : ℕ) (places numbers : List ℕ) : Typ
 -- how many nodes a ticket made
 abbrev pub births_at : ClosedTable → ℕ → ℕ
 births_at w t = copies_of_f (event_at w.plan.parts w.words t) + copies_of_g (event_at w.plan.parts w.words t)
+
+-- the same, by the rule and the two nodes that it rewrote
+abbrev pub births_by : Rule → (one other : ℕ) → ℕ
+births_by rule one other = if is_meeting rule then 0 else arity (kind_in one) + arity (kind_in other)
+
+-- how many each of the tickets before t made
+abbrev pub births_before : ClosedTable → ℕ → List ℕ
+births_before w t = each t (λ u. births_at w u ∷ [])
 
 -- the parts are small, and there are as many words as they say
 abbrev pub IsSmallTable : ClosedTable → Type 0

@@ -4,11 +4,19 @@ use Rattle.std.specs.Prelude.{◌≡◌, ◌≢◌, ℕ, ◌+◌, ◌-◌, ◌*�
 use Rattle.std.specs.Prelude.{Bool, if◌then◌else◌, ◌++◌, [], ◌∷◌}
 use Rattle.ol_net.specs.Linking.{linked}
 use Rattle.ol_wire.specs.Layout.{cells_of}
-use Rattle.ol_wire.specs.Closed.{ClosedTable}
+use Rattle.ol_rules.specs.Counting.{counts_of}
+use Rattle.ol_wire.specs.Closed.{ClosedTable, events_drawn, journal_drawn}
 use Rattle.ol_reduce.specs.declared.live.Live.{Live}
+use Rattle.ol_reduce.specs.declared.live.Tally.{Tally}
 use Rattle.ol_reduce.specs.declared.draft.Draft.{Draft}
-use Rattle.ol_reduce.specs.Left.{ranks_in, AreLeft}
+use Rattle.ol_reduce.specs.Left.{ranks_in, AreLeft, AreMarked, births_before}
 use Rattle.ol_reduce.specs.Found.{IsPartly, AreMetTo, AreCelledTo, AreListedTo, KeepsKnown, KeepsPartners}
+
+-- what the tickets did: which nodes they rewrote, how many each made, and how often each rule stands in the journal
+pub record IsTally (w : ClosedTable) (tally : Tally) : Type 0 where
+  pub marks : AreMarked w (events_drawn w) tally.marks.items
+  pub births : tally.births.items ≡ births_before w (events_drawn w)
+  pub counts : tally.counts ≡ counts_of (journal_drawn w)
 
 -- these are all nodes that are left
 abbrev pub AreAllLeft : ClosedTable → Live → Type 0

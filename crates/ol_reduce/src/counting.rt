@@ -6,12 +6,12 @@ ghost use Rattle.ol_reduce.specs.Counted.{IsDoneCounted, ReducesCounted};
 ghost use Rattle.ol_reduce.specs.Reduced.{EndsWithin};
 
 use crate::answers::End;
-use crate::freezing::freeze_with_journal;
+use crate::freezing::freeze_counted;
 use crate::reducing::reduce_words;
 use ol_io::Gate;
 use ol_memory::NoMemory;
 use ol_net::Net;
-use ol_rules::{Counts, counts};
+use ol_rules::Counts;
 use ol_wire::Words;
 use std::alloc::Global;
 use std::sync::Wait;
@@ -37,11 +37,11 @@ pub enum Counted {
 }
 
 /// Rewrites a net as `reduce` does, within the same bounds, for a caller who doesn't read the
-/// journal: `Done` has its counts in its place. Where the fuel is used up, no journal is built, and
+/// journal: no journal is built, and `Done` has its counts in its place. Where the fuel is used up,
 /// no block of the words is read.
 ///
 /// `NoMemory`: there was no memory for the words, the pool or the workers, or, where no active pair
-/// is left, for the journal or the last net.
+/// is left, for what the tickets did or the last net.
 pub fn reduce_counted<R: Threads + Wait + Sync, G: Gate + Sync>(
     rt: &R,
     alloc: Global,
@@ -60,10 +60,10 @@ pub fn reduce_counted<R: Threads + Wait + Sync, G: Gate + Sync>(
     let (words, end) = reduce_words(rt, alloc, net, workers, fuel, gate)?;
     match end {
         End::Quiet => {
-            let (last, journal) = freeze_with_journal(alloc, &words)?;
+            let (last, counts) = freeze_counted(alloc, &words)?;
             Ok(Counted::Done {
                 net: last,
-                counts: counts(&journal),
+                counts,
                 words,
             })
         }

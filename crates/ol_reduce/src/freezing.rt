@@ -2,6 +2,7 @@
 ghost use Rattle.std.specs.Prelude.{◌≡◌, ◌≢◌, ℕ, Bool, List, ◌+◌, ◌-◌, ◌*◌, ◌<◌, ◌≤◌, ◌⊎◌, length, slice_index, slice_set, IfOk, OnOk};
 ghost use Rattle.ol_net.specs.Nets.{NamedNet};
 ghost use Rattle.ol_net.specs.Linking.{linked};
+ghost use Rattle.ol_rules.specs.Counting.{counts_of};
 ghost use Rattle.ol_rules.specs.declared.journal.NodeName.{NodeName};
 ghost use Rattle.ol_wire.specs.Layout.{table_size, cells_of};
 ghost use Rattle.ol_wire.specs.Sizes.{IsSmall};
@@ -14,11 +15,11 @@ ghost use Rattle.ol_reduce.specs.Linked.{AreAllLeft, IsRight, AreCellsLinked, Ha
 
 use crate::chains::{Goal, follow};
 use crate::draft::Draft;
-use crate::live::Live;
+use crate::live::{Live, Tally};
 use crate::reading::word_at;
 use ol_memory::NoMemory;
 use ol_net::Net;
-use ol_rules::Journal;
+use ol_rules::{Counts, Journal};
 use ol_wire::{BLOCK, Blocks, Parts, Words, index_in, kind_in, place_in, port_word};
 use std::alloc::Global;
 
@@ -29,40 +30,47 @@ use std::alloc::Global;
 pub fn freeze(alloc: Global, words: &Words) -> Result<Net, NoMemory>
     ensures frozen { IfOk result (λ g. EachAfter words.now (λ net. IsFrozen net g)) }
 {
-    let (net, _journal) = freeze_with_journal(alloc, words)?;
+    let (net, _counts) = freeze_counted(alloc, words)?;
     Ok(net)
 }
 
-/// The same, with the journal of the words, which the net is made by.
+/// The same, with the journal of the words.
 pub(crate) fn freeze_with_journal(alloc: Global, words: &Words) -> Result<(Net, Journal), NoMemory>
     ensures frozen { IfOk result (λ r. EachAfter words.now (λ net. IsFrozen net r.0)) }
     ensures journal { IfOk result (λ r. r.1 ≡ journal_drawn words.now) }
 {
     let blocks = words.blocks(alloc)?;
+    let (net, _counts) = freeze_by(alloc, words, &blocks)?;
     let journal = words.journal_by(alloc, &blocks.pairs)?;
-    let net = freeze_by(alloc, words, &blocks, &journal)?;
     Ok((net, journal))
 }
 
-// The same, by what the blocks hold and by the journal, so that neither is looked for again.
-fn freeze_by(
-    alloc: Global,
-    words: &Words,
-    blocks: &Blocks,
-    journal: &Journal,
-) -> Result<Net, NoMemory>
+/// The same, with the counts of the journal of the words, which isn't made.
+pub(crate) fn freeze_counted(alloc: Global, words: &Words) -> Result<(Net, Counts), NoMemory>
+    ensures frozen { IfOk result (λ r. EachAfter words.now (λ net. IsFrozen net r.0)) }
+    ensures counts { IfOk result (λ r. r.1 ≡ counts_of (journal_drawn words.now)) }
+{
+    let blocks = words.blocks(alloc)?;
+    let (net, counts) = freeze_by(alloc, words, &blocks)?;
+    Ok((net, counts))
+}
+
+// The same, by what the blocks hold, so that it isn't looked for again.
+fn freeze_by(alloc: Global, words: &Words, blocks: &Blocks) -> Result<(Net, Counts), NoMemory>
     requires pairs { blocks.now.pairs.items ≡ pairs_drawn words.now }
     requires cells { blocks.now.cells.items ≡ cells_filled words.now }
-    requires journal { journal.now ≡ journal_drawn words.now }
-    ensures frozen { IfOk result (λ g. EachAfter words.now (λ net. IsFrozen net g)) }
+    ensures frozen { IfOk result (λ r. EachAfter words.now (λ net. IsFrozen net r.0)) }
+    ensures counts { IfOk result (λ r. r.1 ≡ counts_of (journal_drawn words.now)) }
 {
     words.stands();
     words.runs();
-    let live = Live::find(alloc, words, &blocks.pairs, journal)?;
+    let tally = Tally::of(alloc, words, &blocks.pairs)?;
+    let live = Live::find(alloc, words, &tally)?;
     let mut draft = Draft::new(alloc, words.parts().free, live.count())?;
     link_cells(words, &live, &mut draft, &blocks.cells);
     link_chains(alloc, words, &live, &mut draft)?;
-    draft.build(alloc)
+    let net = draft.build(alloc)?;
+    Ok((net, tally.counts))
 }
 
 // The place of slot 0 of the node of a reference, whose kind and index are told by it.

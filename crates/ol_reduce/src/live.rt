@@ -7,11 +7,12 @@ ghost use Rattle.ol_wire.specs.Blocks.{copies_of_f, copies_of_g};
 ghost use Rattle.ol_wire.specs.Closed.{ClosedTable, events_in, event_at, events_drawn, journal_drawn, pairs_drawn};
 ghost use Rattle.ol_wire.specs.Layout.{place_of, table_size, IsPlaced};
 ghost use Rattle.ol_wire.specs.Sizes.{IsSmall};
-ghost use Rattle.ol_reduce.specs.Left.{rank_of, AreMarked, births_at, IsSmallTable, IsWithinFuel, IsMarkedToo, IsPlaceOfSome, IsRankAt, IsRankOf, IsPlaceLeft};
-ghost use Rattle.ol_reduce.specs.Linked.{AreAllLeft, AreLeftTo, AddsPlace, AddsNumber};
+ghost use Rattle.ol_reduce.specs.Left.{rank_of, AreMarked, births_at, IsSmallTable, IsWithinFuel, IsMarkedToo, IsPlaceOfSome, IsRankAt, IsRankOf, IsPlaceLeft, births_by};
+ghost use Rattle.ol_reduce.specs.Linked.{AreAllLeft, AreLeftTo, IsTally, AddsPlace, AddsNumber};
 
 use ol_memory::NoMemory;
-use ol_rules::{Journal, NodeName, is_meeting};
+use ol_net::Rule;
+use ol_rules::{Counts, NodeName, counted, is_meeting, no_counts};
 use ol_wire::{BLOCK, Parts, Words, kind_in};
 use std::alloc::Global;
 
@@ -25,6 +26,7 @@ pub(crate) struct Live {
 }
 
 // The rank of a name. `None`: no node can have the name after so many tickets.
+#[inline(always)]
 fn rank_of(parts: Parts, events: u32, name: NodeName) -> Option<u32>
     requires { IsSmall parts × (events ≤ most_fuel) }
     ensures { MatchOption result (IsPlaced parts events name → ⊥) (IsRankOf parts events name) }
@@ -45,24 +47,18 @@ fn rank_of(parts: Parts, events: u32, name: NodeName) -> Option<u32>
     }
 }
 
-// How many nodes a ticket made.
-fn births(words: &Words, pairs: &Vec<(u64, u64)>, journal: &Journal, ticket: u32) -> u32
-    requires pairs { pairs.now.items ≡ pairs_drawn words.now }
-    requires journal { journal.now ≡ journal_drawn words.now }
-    requires drawn { ticket < events_drawn words.now }
-    ensures { result ≡ births_at words.now ticket }
+// How many nodes a ticket made that rewrote these two by this rule.
+fn births(rule: Rule, pair: (u64, u64)) -> u32
+    ensures { result ≡ births_by rule pair.0 pair.1 }
 {
-    let Some(entry) = journal.get(ticket) else {
-        return 0;
-    };
-    if is_meeting(entry.rule) {
+    if is_meeting(rule) {
         return 0;
     }
-    let (one, other) = pairs[ticket as usize];
-    kind_in(one).arity() as u32 + kind_in(other).arity() as u32
+    kind_in(pair.0).arity() as u32 + kind_in(pair.1).arity() as u32
 }
 
 // Marks a name.
+#[inline(always)]
 fn mark(parts: Parts, events: u32, marks: &mut Vec<bool>, name: NodeName)
     requires small { IsSmall parts × (events ≤ most_fuel) }
     requires long { length marks.old.items ≡ parts.nodes + 4 * events }
@@ -74,24 +70,49 @@ fn mark(parts: Parts, events: u32, marks: &mut Vec<bool>, name: NodeName)
     }
 }
 
-// By rank, whether a ticket rewrote the node.
-fn rewritten(alloc: Global, words: &Words, journal: &Journal) -> Result<Vec<bool>, NoMemory>
-    requires small { IsSmall words.now.plan.parts }
-    requires journal { journal.now ≡ journal_drawn words.now }
-    requires drawn { events_drawn words.now ≤ most_fuel }
-    ensures { IfOk result (λ v. AreMarked words.now (events_drawn words.now) v.items) }
-{
-    let parts = words.parts();
-    let events = words.events();
-    let mut marks = Vec::new(alloc);
-    marks.resize((parts.nodes + 4 * events) as usize, false)?;
-    for ticket in 0..events {
-        if let Some(entry) = journal.get(ticket) {
+/// What the tickets did.
+#[derive(Drop)]
+pub(crate) struct Tally {
+    // By rank, whether a ticket rewrote the node.
+    pub(crate) marks: Vec<bool>,
+    // By ticket, how many nodes it made.
+    pub(crate) births: Vec<u32>,
+    // How often each rule was used.
+    pub(crate) counts: Counts,
+}
+
+impl Tally {
+    /// What the tickets did, in one pass over their pairs.
+    pub(crate) fn of(
+        alloc: Global,
+        words: &Words,
+        pairs: &Vec<(u64, u64)>,
+    ) -> Result<Tally, NoMemory>
+        requires small { IsSmallTable words.now }
+        requires pairs { pairs.now.items ≡ pairs_drawn words.now }
+        requires drawn { IsWithinFuel words.now }
+        ensures { IfOk result (IsTally words.now) }
+    {
+        let parts = words.parts();
+        let events = words.events();
+        let mut marks = Vec::new(alloc);
+        marks.resize((parts.nodes + 4 * events) as usize, false)?;
+        let mut made = Vec::with_capacity(alloc, events as usize)?;
+        let mut counts = no_counts();
+        for ticket in 0..events {
+            let pair = pairs[ticket as usize];
+            let entry = words.entry(ticket, pair);
             mark(parts, events, &mut marks, entry.first);
             mark(parts, events, &mut marks, entry.second);
+            put(&mut made, births(entry.rule, pair))?;
+            counts = counted(counts, entry.rule);
         }
+        Ok(Tally {
+            marks,
+            births: made,
+            counts,
+        })
     }
-    Ok(marks)
 }
 
 // The rank of the node with that place.
@@ -116,56 +137,40 @@ fn put(numbers: &mut Vec<u32>, number: u32) -> Result<(), NoMemory>
 
 impl Live {
     /// The nodes that the words tell as left.
-    pub(crate) fn find(
-        alloc: Global,
-        words: &Words,
-        pairs: &Vec<(u64, u64)>,
-        journal: &Journal,
-    ) -> Result<Live, NoMemory>
+    pub(crate) fn find(alloc: Global, words: &Words, tally: &Tally) -> Result<Live, NoMemory>
         requires small { IsSmallTable words.now }
-        requires pairs { pairs.now.items ≡ pairs_drawn words.now }
-        requires journal { journal.now ≡ journal_drawn words.now }
         requires drawn { IsWithinFuel words.now }
+        requires tally { IsTally words.now tally.now }
         ensures { IfOk result (AreAllLeft words.now) }
     {
-        let marks = rewritten(alloc, words, journal)?;
         let parts = words.parts();
         let mut live = Live {
             places: Vec::new(alloc),
             numbers: Vec::new(alloc),
         };
-        live.numbers.resize(marks.len(), 0)?;
+        live.numbers.resize(tally.marks.len(), 0)?;
         for node in 0..parts.nodes {
-            live.add(!marks[node as usize], node, parts.start_node(node))?;
+            live.add(!tally.marks[node as usize], node, parts.start_node(node))?;
         }
         for ticket in 0..words.events() {
-            live.add_born(words, pairs, journal, &marks, ticket)?;
+            live.add_born(words, tally, ticket)?;
         }
         Ok(live)
     }
 
     // The four ranks of a ticket.
-    fn add_born(
-        &mut self,
-        words: &Words,
-        pairs: &Vec<(u64, u64)>,
-        journal: &Journal,
-        marks: &Vec<bool>,
-        ticket: u32,
-    ) -> Result<(), NoMemory>
+    fn add_born(&mut self, words: &Words, tally: &Tally, ticket: u32) -> Result<(), NoMemory>
         requires small { IsSmallTable words.now }
-        requires pairs { pairs.now.items ≡ pairs_drawn words.now }
-        requires journal { journal.now ≡ journal_drawn words.now }
         requires drawn { IsWithinFuel words.now × (ticket < events_drawn words.now) }
-        requires marked { AreMarked words.now (events_drawn words.now) marks.now.items }
+        requires tally { IsTally words.now tally.now }
         requires before { AreLeftTo words.now ticket self.old }
         ensures { OnOk result (AreLeftTo words.now (ticket + 1) self.new) }
     {
         let parts = words.parts();
-        let births = births(words, pairs, journal, ticket);
+        let births = tally.births[ticket as usize];
         for place in 0..4 {
             let rank = parts.nodes + 4 * ticket + place;
-            let is_left = place < births && !marks[rank as usize];
+            let is_left = place < births && !tally.marks[rank as usize];
             self.add(is_left, rank, parts.block(ticket) + 2 + 2 * place)?;
         }
         Ok(())

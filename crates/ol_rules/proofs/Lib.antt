@@ -21,7 +21,7 @@ pub mod Waiting
 pub mod OneThread
 pub mod Same
 pub mod UnderNames
-mod Counted
+pub mod EntryCounts
 pub mod BothWays
 pub mod OneRun
 pub mod OneEnd

@@ -1,6 +1,6 @@
 //! How often each rule stands in a journal.
 
-ghost use Rattle.std.specs.Prelude.{◌≡◌};
+ghost use Rattle.std.specs.Prelude.{◌≡◌, []};
 ghost use Rattle.ol_rules.specs.Counting.{counts_of};
 ghost use Rattle.ol_rules.specs.Counted.{counted, HaveRoom};
 
@@ -11,7 +11,19 @@ use ol_net::Rule;
 pub fn counts(j: &Journal) -> Counts
     ensures { result ≡ counts_of j.now }
 {
-    let mut told = Counts {
+    let mut told = no_counts();
+    for k in 0..j.len() {
+        let entry = j.entry(k);
+        told = counted(told, entry.rule);
+    }
+    told
+}
+
+/// The counts of a journal without an entry.
+pub fn no_counts() -> Counts
+    ensures { result ≡ counts_of [] }
+{
+    Counts {
         beta: 0,
         fan: 0,
         croissant: 0,
@@ -20,16 +32,11 @@ pub fn counts(j: &Journal) -> Counts
         cross_croissant: 0,
         cross_bracket: 0,
         erase: 0,
-    };
-    for k in 0..j.len() {
-        let entry = j.entry(k);
-        told = counted(told, entry.rule);
     }
-    told
 }
 
-// One entry more, of this rule.
-fn counted(told: Counts, rule: Rule) -> Counts
+/// The counts with one entry more, of this rule.
+pub fn counted(told: Counts, rule: Rule) -> Counts
     requires { HaveRoom told }
     ensures { result ≡ counted told rule }
 {

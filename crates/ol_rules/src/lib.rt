@@ -24,7 +24,7 @@ mod steps;
 mod under_way;
 
 pub use awaiting::{await_active, await_beside};
-pub use counting::counts;
+pub use counting::{counted, counts, no_counts};
 pub use facing::{are_facing, node_at};
 pub use journal::{Counts, Entry, Journal, NodeName};
 pub use laws::{a_step_is_a_contraction, a_step_is_a_net, a_step_is_one, one_thread_is_one};

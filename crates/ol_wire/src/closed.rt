@@ -165,8 +165,9 @@ impl Words {
         Ok(Blocks { pairs, cells })
     }
 
-    // The entry of the pair of a ticket.
-    fn entry(&self, k: u32, pair: (u64, u64)) -> Entry
+    /// The entry of a ticket, by the pair that it was drawn for.
+    #[inline(always)]
+    pub fn entry(&self, k: u32, pair: (u64, u64)) -> Entry
         requires drawn { k < events_in self.now.plan.parts self.now.words }
         requires pair { pair ≡ pair_at self.now.plan.parts self.now.words k }
         ensures { result ≡ entry_at self.now k }

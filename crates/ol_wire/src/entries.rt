@@ -12,6 +12,7 @@ use ol_rules::{Entry, NodeName};
 
 impl Parts {
     /// The node whose first field has that place; for a word that is no field it has no meaning.
+    #[inline(always)]
     pub fn name_at(self, place: u32) -> NodeName
         requires { IsSmall self }
         ensures { result ≡ name_at self place }
@@ -36,6 +37,7 @@ impl Parts {
     }
 
     // The entry of a rewrite by this rule.
+    #[inline(always)]
     fn entry_by(self, rule: Rule, f: u64, g: u64) -> Entry
         requires small { IsSmall self }
         requires places { (place_in f < 4294967296) × (place_in g < 4294967296) }
@@ -59,6 +61,7 @@ impl Parts {
 
     /// The entry of two nodes that were rewritten, by their references; for a stuck pair it has no
     /// meaning.
+    #[inline(always)]
     pub(crate) fn entry(self, left: u64, right: u64) -> Entry
         requires small { IsSmall self }
         requires places { (place_in left < 4294967296) × (place_in right < 4294967296) }

@@ -1,5 +1,3 @@
-use Rattle.std.proofs.Common.{◌∙◌, ap}
-use Rattle.ol_rules.specs.Counting.{counts_of}
 use Rattle.ol_reduce.proofs.Answered.{either_end}
 use Rattle.ol_reduce.proofs.counting.reduce_counted.Goals as goal
 
@@ -7,7 +5,7 @@ pub returns-in_ok-last-in-Quiet-clause-reduced : goal.returns-in_ok-last-in-Quie
 returns-in_ok-last-in-Quiet-clause-reduced g c =
     let done = c.in_ok-words.ensures.quiet c.in-Quiet.is c.in_ok-last-in-Quiet.last
     c.in_ok-last-in-Quiet.ensures.frozen in
-    (done, c.counts.ensures ∙ ap counts_of c.in_ok-last-in-Quiet.ensures.journal)
+    (done, c.in_ok-last-in-Quiet.ensures.counts)
 
 pub returns-in_ok-last-in-Quiet-clause-done : goal.returns-in_ok-last-in-Quiet-clause-done
 returns-in_ok-last-in-Quiet-clause-done g c = ((λ d. c.in_ok-words.ensures.ends.0 c.in-Quiet.is), (λ within. tt))

@@ -1,12 +1,6 @@
 use Rattle.std.proofs.Common.{ap, ◌∙◌, arith}
 use Rattle.ol_wire.specs.declared.layout.Parts.{Parts}
-use Rattle.ol_net.specs.Nets.{NamedNet}
-use Rattle.ol_net.specs.Build.{Builds}
-use Rattle.ol_rules.specs.declared.journal.NodeName.{NodeName}
-use Rattle.ol_wire.specs.Closed.{IsAfter}
-use Rattle.ol_reduce.specs.Drafts.{frozen_top, all_links}
-use Rattle.ol_reduce.specs.Frozen.{IsFrozen}
-use Rattle.ol_reduce.proofs.Whole.{fresh_partly, few, completed, built, map_ok}
+use Rattle.ol_reduce.proofs.Whole.{fresh_partly, few, completed, built}
 use Rattle.ol_reduce.proofs.freezing.freeze_by.Goals as goal
 
 pub link_cells-requires-clause-before : goal.link_cells-requires-clause-before
@@ -40,17 +34,12 @@ build-requires-clause-complete c =
     (c.in_ok-link_chains.ensures.free ∙ c.link_cells.ensures.free ∙ c.in_ok-draft.ensures.free
     ∙ ap (λ (z : Parts). z.free) c.parts.ensures)
 
-pub returns : goal.returns
-returns c = record {
-  frozen = map_ok (Builds frozen_top c.link_chains.new.draft.free
-      c.link_chains.new.draft.kinds.items (all_links c.link_chains.new.draft.free
-      c.link_chains.new.draft.partners.items))
-      (λ g. (net : NamedNet NodeName) → IsAfter c.args.words.now net → IsFrozen net g) c.build.result
-      (λ g b. built c.args.words.now c.in_ok-live.live.places.items c.in_ok-live.live.numbers.items
-      c.in_ok-live.ensures c.stands.ensures.stands c.link_chains.new.draft.kinds.items
-      c.link_chains.new.draft.partners.items
-      c.in_ok-link_chains.ensures.after c.in_ok-link_chains.ensures.celled
-      c.in_ok-link_chains.ensures.walked c.link_chains.new.draft.free
-      (c.in_ok-link_chains.ensures.free ∙ c.link_cells.ensures.free ∙ c.in_ok-draft.ensures.free
-      ∙ ap (λ (z : Parts). z.free) c.parts.ensures) c.runs.ensures.one g b) c.build.ensures;
-}
+pub returns-clause-frozen : goal.returns-clause-frozen
+returns-clause-frozen c =
+    built c.args.words.now c.in_ok-live.live.places.items c.in_ok-live.live.numbers.items
+    c.in_ok-live.ensures c.stands.ensures.stands c.link_chains.new.draft.kinds.items
+    c.link_chains.new.draft.partners.items
+    c.in_ok-link_chains.ensures.after c.in_ok-link_chains.ensures.celled
+    c.in_ok-link_chains.ensures.walked c.link_chains.new.draft.free
+    (c.in_ok-link_chains.ensures.free ∙ c.link_cells.ensures.free ∙ c.in_ok-draft.ensures.free
+    ∙ ap (λ (z : Parts). z.free) c.parts.ensures) c.runs.ensures.one c.in_ok-net.net c.in_ok-net.ensures

@@ -1,7 +1,7 @@
 use Rattle.std.proofs.Common.{◌∙◌, sym, ap, arith}
 use Rattle.std.proofs.lemmas.List.{take_all}
 use Rattle.ol_rules.specs.Counting.{counts_of}
-use Rattle.ol_rules.proofs.Counted.{more_counted, have_room}
+use Rattle.ol_rules.proofs.EntryCounts.{more_counted, have_room}
 use Rattle.ol_rules.proofs.counting.counts.Goals as goal
 
 pub counted-told-requires : goal.counted-told-requires

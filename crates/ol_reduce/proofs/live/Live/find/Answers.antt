@@ -15,7 +15,7 @@ loop-node-preserved c =
     let at : c.start_node.result ≡ start_node z k = c.start_node.ensures
     ∙ ap (λ (z : Parts). start_node z k) c.parts-parts.ensures in
     subst (λ n. AreLeft c.args.words.now n c.add.new.self.places.items c.add.new.self.numbers.items) e
-    (by_mark c.args.words.now c.in_ok-marks.marks.items c.in_ok-marks.ensures k (omega (arith, low))
+    (by_mark c.args.words.now c.args.tally.now.marks.items c.requires.tally.marks k (omega (arith, low))
     (Init k) (name_of_start z k low)
     c.loop-node.live.places.items c.loop-node.live.numbers.items c.add.new.self.places.items
     c.add.new.self.numbers.items c.loop-node.invariant c.start_node.result at (not c.index.result.now)
