@@ -2,11 +2,12 @@
 ghost use Rattle.std.specs.Prelude.{◌≡◌, ◌<◌, ◌⊎◌, Some};
 ghost use Rattle.ol_wire.specs.References.{place_in};
 ghost use Rattle.ol_wire.specs.Events.{name_at, rule_between, event_of, entry_of};
+ghost use Rattle.ol_wire.specs.Rewrites.{event_for};
 ghost use Rattle.ol_wire.specs.Sizes.{IsSmall};
 
 use crate::layout::{BLOCK, Parts};
 use crate::reference::place_in;
-use crate::rewrite::rewrite_of;
+use crate::rewrite::{Rewrite, rewrite_of};
 use ol_net::Rule;
 use ol_rules::{Entry, NodeName};
 
@@ -36,26 +37,19 @@ impl Parts {
         NodeName::Init(0)
     }
 
-    // The entry of a rewrite by this rule.
+    // The entry of a rewrite.
     #[inline(always)]
-    fn entry_by(self, rule: Rule, f: u64, g: u64) -> Entry
+    fn entry_by(self, rewrite: Rewrite) -> Entry
         requires small { IsSmall self }
-        requires places { (place_in f < 4294967296) × (place_in g < 4294967296) }
-        ensures { result ≡ entry_of self (record { rule = rule; f = f; g = g }) }
+        requires places { (place_in rewrite.f < 4294967296) × (place_in rewrite.g < 4294967296) }
+        ensures { result ≡ entry_of self (event_for rewrite) }
     {
-        let one = self.name_at(place_in(f));
-        let other = self.name_at(place_in(g));
-        if place_in(f) < place_in(g) {
-            return Entry {
-                rule,
-                first: one,
-                second: other,
-            };
-        }
+        let first = place_in(rewrite.earlier());
+        let second = place_in(rewrite.later());
         Entry {
-            rule,
-            first: other,
-            second: one,
+            rule: rewrite.rule,
+            first: self.name_at(first),
+            second: self.name_at(second),
         }
     }
 
@@ -68,8 +62,12 @@ impl Parts {
         ensures { result ≡ entry_of self (event_of left right) }
     {
         match rewrite_of(left, right) {
-            Some(rewrite) => self.entry_by(rewrite.rule, rewrite.f, rewrite.g),
-            None => self.entry_by(Rule::Erase, left, right),
+            Some(rewrite) => self.entry_by(rewrite),
+            None => self.entry_by(Rewrite {
+                rule: Rule::Erase,
+                f: left,
+                g: right,
+            }),
         }
     }
 }

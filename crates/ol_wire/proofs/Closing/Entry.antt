@@ -28,6 +28,14 @@ pub event_small : (l r n : ℕ) → place_in l < n → place_in r < n →
     (place_in (event_of l r).f < n) × (place_in (event_of l r).g < n)
 event_small l r n p q = acting_small (rule_between l r) (rule_between r l) l r n p q
 
+pub picked_small : (f g n : ℕ) → place_in f < n → place_in g < n →
+    (place_in (earlier f g) < n) × (place_in (later f g) < n)
+picked_small f g n p q = go (nat_lt (place_in f) (place_in g))
+  where
+    go : (b : Bool) → (place_in (if b then f else g) < n) × (place_in (if b then g else f) < n)
+    go true = (p, q)
+    go false = (q, p)
+
 -- two nodes that have a rule both ways have one
 one_rule : (f g : ℕ) (r s : Rule) → rule_between f g ≡ Some r → rule_between g f ≡ Some s → r ≡ s
 one_rule f g r s a b = (both_ways (kind_in f) (kind_in g) (index_in f) (index_in g) r s a b).one_rule
