@@ -1,42 +1,119 @@
--- What comes of two files, by what comes of the second one; and what is written of that.
+-- What comes of a file that gives no bytes, and what is written of an answer.
 use Rattle.std.proofs.Common.{◌≡◌, ℕ, ◌<◌, ◌≤◌, ◌↔◌, ◌⊎◌, inl, inr, List, Option, length}
-use Rattle.std.proofs.Common.{subst, sym, ◌∙◌, Vec, Global, Ok, arith}
+use Rattle.std.proofs.Common.{refl, subst, sym, Vec, Global, Result, Ok, Err, IfOk, arith}
 use Rattle.std.specs.Result.{IsErrOf}
 use Rattle.ol_io.specs.declared.calls.ReadAll.{ReadAll}
-use Rattle.ol_io.specs.declared.calls.ReadAll.TheVariants.{TooLong}
-use Rattle.ol_io.specs.Outside.{Rose}
+use Rattle.ol_io.specs.declared.calls.ReadAll.TheVariants as read
+use Rattle.ol_io.specs.Calls.{read_all_failed}
+use Rattle.ol_io.specs.Outside.{Counts, IsAllOf, IsLonger}
+use Rattle.ol_io.specs.Readings.{Reading, AreOfSince}
+use Rattle.ol_io.proofs.Readings.{AreOfSince-parts, AreOfSince-nothing}
 use Rattle.ol_subjects.specs.declared.answers.End.{End}
-use Rattle.ol_bench.specs.declared.top.Asked.{Asked}
+use Rattle.ol_subjects.specs.declared.answers.End.TheVariants.{Refused}
+use Rattle.ol_bench.specs.declared.asked.Content.{Content}
+use Rattle.ol_bench.specs.declared.asked.Given.{Given}
+use Rattle.ol_bench.specs.declared.asked.Given.TheVariants as given
+use Rattle.ol_bench.specs.declared.asked.OnOne.{OnOne}
+use Rattle.ol_bench.specs.declared.asked.OnTwo.{OnTwo}
 use Rattle.ol_bench.specs.declared.top.Status.{Status}
-use Rattle.ol_bench.specs.Commands.{IsAllWithin, IsCause, most_of}
-use Rattle.ol_bench.specs.Commands as cause
-use Rattle.ol_bench.specs.Seconds.{IsCauseOnward, fault, too_long, answered}
+use Rattle.ol_bench.specs.Commands.{IsAnswerToOne, IsAnswerToTwo, IsCauseOfOne, IsCauseOfTwo, IsCauseOnward}
+use Rattle.ol_bench.specs.Commands.{content_of, contents_of}
+use Rattle.ol_bench.specs.Inputs.{ComesOf, Files, IsAllWithin, fault, too_long, of_bytes, most_of, after_taking, told_of}
+use Rattle.ol_bench.specs.Taking.{IsReadOnce, IsRefusal}
 use Rattle.ol_bench.specs.Writing.{Change, GoesTo, Told, WritesAnswer, status_of, told}
 
 -- all bytes that were read are no more than were asked for
-pub is_short : (bytes : Vec ℕ Global) (given asked most : ℕ) → length bytes.items ≡ given →
-    IsErrOf {T = Vec ℕ Global} {E = ReadAll} (Ok bytes) TooLong ↔ (asked < given) → asked ≡ most →
-    length bytes.items ≤ most
-is_short bytes given asked most counted h a =
-    elim (which asked given)
-    [ inl past ↦ absurd (no (h.1 past)) | inr w ↦ omega (arith, counted, w, a) ]
+pub is_short : (bytes : Vec ℕ Global) (given asked : ℕ) → length bytes.items ≡ given →
+    IsErrOf {T = Vec ℕ Global} {E = ReadAll} (Ok bytes) read.TooLong ↔ (asked < given) →
+    length bytes.items ≤ asked
+is_short bytes given asked counted h =
+    elim (which asked given) [ inl past ↦ absurd (no (h.1 past)) | inr w ↦ omega (arith, counted, w) ]
   where
     which : (asked given : ℕ) → (asked < given) ⊎ (given ≤ asked)
     which asked given = grind arith
 
-    no : IsErrOf {T = Vec ℕ Global} {E = ReadAll} (Ok bytes) TooLong → ⊥
+    no : IsErrOf {T = Vec ℕ Global} {E = ReadAll} (Ok bytes) read.TooLong → ⊥
     no h = absurd (cc)
 
-pub of_both : (asked : Asked) (file second : Option (List ℕ)) (faults mid faults' : ℕ)
-    (bytes text : List ℕ) (e : End) → mid ≡ faults → IsAllWithin (most_of asked) file bytes →
-    IsCauseOnward asked bytes second mid faults' text e →
-    IsCause asked file second faults faults' text e
-of_both asked file second faults mid faults' bytes text e m all (fault r t) =
-    cause.IsCause.fault (subst (λ f. Rose f faults') m r) t
-of_both asked file second faults mid faults' bytes text e m all (too_long s h l t) =
-    cause.IsCause.second_too_long bytes (s ∙ m) all h l t
-of_both asked file second faults mid faults' bytes text e m all (answered more s two a) =
-    cause.IsCause.answered bytes more (s ∙ m) all two a
+-- there are no bytes, and the line says why
+refused_by : (c : Content) (file : Option (List ℕ)) (faults faults' : ℕ)
+    (OfBytes : List ℕ → List ℕ → End → Type 0) (text : List ℕ) (why : ReadAll) →
+    Counts (read_all_failed (Err why)) faults faults' →
+    (IsErrOf {T = Vec ℕ Global} {E = ReadAll} (Err why) read.TooLong → IsLonger file (most_of c)) →
+    IsRefusal why c text → ComesOf c file faults faults' OfBytes text Refused
+refused_by c file faults faults' OfBytes text read.Fault counts longer line = fault counts line
+refused_by c file faults faults' OfBytes text read.TooLong counts longer line =
+    too_long counts (longer refl) line
+refused_by c file faults faults' OfBytes text read.NoMemory counts longer line = absurd line
+
+not_read : (c d : Content) (file : Option (List ℕ)) (faults faults' : ℕ)
+    (OfBytes : List ℕ → List ℕ → End → Type 0) (text : List ℕ) (e : End) (why : ReadAll) →
+    Counts (read_all_failed (Err why)) faults faults' →
+    (IsErrOf {T = Vec ℕ Global} {E = ReadAll} (Err why) read.TooLong → IsLonger file (most_of c)) →
+    IsRefusal why c text → e ≡ Refused → c ≡ d → ComesOf d file faults faults' OfBytes text e
+not_read c d file faults faults' OfBytes text e why counts longer line end same =
+    subst (λ d. ComesOf d file faults faults' OfBytes text e) same
+    (subst (λ e. ComesOf c file faults faults' OfBytes text e) (sym end)
+    (refused_by c file faults faults' OfBytes text why counts longer line))
+
+module _ (files : Files) (faults faults' : ℕ) (text : List ℕ) (e : End) (c : Content) where
+  module _ (why : ReadAll) (counts : Counts (read_all_failed (Err why)) faults faults')
+      (line : IsRefusal why c text) (end : e ≡ Refused) where
+    -- the one file of a command gives no bytes, or the second of two, or the first
+    pub one_not_read : (command : OnOne) (file : Given) → c ≡ content_of command →
+        (IsErrOf {T = Vec ℕ Global} {E = ReadAll} (Err why) read.TooLong →
+        IsLonger (told_of files file) (most_of c)) →
+        IsCauseOfOne command file files faults faults' text e
+    one_not_read command file same longer =
+        not_read c (content_of command) (told_of files file) faults faults' _ text e why counts longer line end same
+
+    pub onward_not_read : (command : OnTwo) (bytes : List ℕ) (other : Given) →
+        c ≡ (contents_of command).1 →
+        (IsErrOf {T = Vec ℕ Global} {E = ReadAll} (Err why) read.TooLong →
+        IsLonger (told_of files other) (most_of c)) →
+        IsCauseOnward command bytes other files faults faults' text e
+    onward_not_read command bytes other same longer =
+        not_read c (contents_of command).1 (told_of files other) faults faults' _ text e why counts longer line end same
+
+    pub two_not_read : (command : OnTwo) (file other : Given) → c ≡ (contents_of command).0 →
+        (IsErrOf {T = Vec ℕ Global} {E = ReadAll} (Err why) read.TooLong →
+        IsLonger (told_of files file) (most_of c)) →
+        IsCauseOfTwo command file other files faults faults' text e
+    two_not_read command file other same longer =
+        not_read c (contents_of command).0 (told_of files file) faults faults' _ text e why counts longer line end same
+
+  -- the one file of a command has these bytes, or the second of two, or the first
+  pub one_read : (command : OnOne) (file : Given) (bytes : List ℕ) → c ≡ content_of command →
+      IsAllWithin (most_of c) (told_of files file) bytes → faults' ≡ faults →
+      IsAnswerToOne command bytes text e → IsCauseOfOne command file files faults faults' text e
+  one_read command file bytes same all stays answer = of_bytes bytes
+      (subst (λ c. IsAllWithin (most_of c) (told_of files file) bytes) same all) (stays, answer)
+
+  pub onward_read : (command : OnTwo) (bytes more : List ℕ) (other : Given) →
+      c ≡ (contents_of command).1 → IsAllWithin (most_of c) (told_of files other) more →
+      faults' ≡ faults → IsAnswerToTwo command bytes more text e →
+      IsCauseOnward command bytes other files faults faults' text e
+  onward_read command bytes more other same all stays answer = of_bytes more
+      (subst (λ c. IsAllWithin (most_of c) (told_of files other) more) same all) (stays, answer)
+
+  pub two_read : (command : OnTwo) (file other : Given) (bytes : List ℕ) (mid : ℕ) →
+      c ≡ (contents_of command).0 → IsAllWithin (most_of c) (told_of files file) bytes →
+      mid ≡ faults → IsCauseOnward command bytes other (after_taking file files) mid faults' text e →
+      IsCauseOfTwo command file other files faults faults' text e
+  two_read command file other bytes mid same all stays cause = of_bytes bytes
+      (subst (λ c. IsAllWithin (most_of c) (told_of files file) bytes) same all)
+      (subst (λ f. IsCauseOnward command bytes other (after_taking file files) f faults' text e) stays cause)
+
+-- the readings of the first of two files, and those after it
+pub parts : (g : Given) (files : Files) (tells : List ℕ → Option (List ℕ))
+    (old mid new : List Reading) → IsReadOnce g old mid → AreOfSince (λ _. tells) mid new →
+    AreOfSince files old new → AreOfSince files old mid × AreOfSince (after_taking g files) mid new
+parts (given.Name file) files tells old mid new (r, e) h k =
+    AreOfSince-parts files tells r old mid new e h k
+parts (given.Text text) files tells old mid new e h k = (
+  subst (λ mid. AreOfSince files old mid) (sym e) (AreOfSince-nothing files old),
+  subst (λ mid. AreOfSince files mid new) (sym e) k,
+)
 
 -- An answer of this text and end was told to the sink to which it goes.
 pub told_to : {Cause : List ℕ → End → Type 0} {out errors : Change} {result : Status}
@@ -45,3 +122,16 @@ pub told_to : {Cause : List ℕ → End → Type 0} {out errors : Change} {resul
 told_to {out = out} {errors = errors} {result = result} {text = text} {e = e} e' c t i goes =
     told text e c (subst (λ e. GoesTo e out errors (Told text (status_of e) result)) (sym i)
     (subst (λ text. GoesTo e' out errors (Told text (status_of e') result)) t goes))
+
+-- all bytes that were read are all of what is given, and no more than so many
+pub whole_within : (file of_name : Option (List ℕ)) (most asked given : ℕ)
+    (result : Result (Vec ℕ Global) ReadAll) → file ≡ of_name →
+    IfOk result (λ bytes. IsAllOf of_name bytes.items) →
+    IfOk result (λ bytes. length bytes.items ≡ given) →
+    IsErrOf result read.TooLong ↔ (asked < given) → asked ≡ most →
+    IfOk result (λ bytes. IsAllWithin most file bytes.items)
+whole_within file of_name most asked given (Ok bytes) e whole counted long m = (
+  subst (λ file. IsAllOf file bytes.items) (sym e) whole,
+  subst (λ most. length bytes.items ≤ most) m (is_short bytes given asked counted long),
+)
+whole_within file of_name most asked given (Err x) e whole counted long m = tt

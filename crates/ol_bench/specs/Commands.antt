@@ -1,12 +1,19 @@
 -- The commands: what each asks of its files, and what is answered.
-use Rattle.std.specs.Prelude.{◌≡◌, ℕ, ◌≤◌, ◌==◌, if◌then◌else◌, Bool, true, false, List, [], Option}
-use Rattle.std.specs.Prelude.{codes, length, string_bytes}
-use Rattle.ol_io.specs.Outside.{Rose, IsAllOf, IsLonger}
+use Rattle.std.specs.Prelude.{◌≡◌, ℕ, ◌+◌, ◌≤◌, List, ◌⊎◌}
+use Rattle.ol_limits.specs.Limits.{most_fuel}
+use Rattle.ol_term.specs.declared.translations.Translation.TheVariants as translation
 use Rattle.ol_subjects.specs.declared.answers.End.{End}
-use Rattle.ol_subjects.specs.declared.answers.End.TheVariants as end
-use Rattle.ol_bench.specs.declared.top.Asked.{Asked}
-use Rattle.ol_bench.specs.declared.top.Asked.TheVariants as asked
-use Rattle.ol_subjects.specs.Subjects.{most_bytes}
+use Rattle.ol_subjects.specs.declared.subjects.Subject.TheVariants as subject
+use Rattle.ol_bench.specs.declared.asked.Content.{Content}
+use Rattle.ol_bench.specs.declared.asked.Content.TheVariants.{Subject, Journal}
+use Rattle.ol_bench.specs.declared.asked.Given.{Given}
+use Rattle.ol_bench.specs.declared.asked.OnOne.{OnOne}
+use Rattle.ol_bench.specs.declared.asked.OnOne.TheVariants as one
+use Rattle.ol_bench.specs.declared.asked.OnTwo.{OnTwo}
+use Rattle.ol_bench.specs.declared.asked.OnTwo.TheVariants as two
+use Rattle.ol_bench.specs.declared.asked.Asked.{Asked}
+use Rattle.ol_bench.specs.declared.asked.Asked.TheVariants as asked
+use Rattle.ol_bench.specs.Inputs.{Files, ComesOf, IsNamed, after_taking, told_of}
 use Rattle.ol_bench.specs.Places.{IsWhere}
 use Rattle.ol_orders.specs.Steps.{IsStepsOf}
 use Rattle.ol_orders.specs.Tables.{IsCounted}
@@ -14,102 +21,88 @@ use Rattle.ol_orders.specs.Orders.{IsJournal}
 use Rattle.ol_explain.specs.Afters.{IsAfter}
 use Rattle.ol_explain.specs.Explained.{IsExplained}
 use Rattle.ol_same.specs.Same.{IsSame}
-use Rattle.ol_limits.specs.Limits.{most_fuel, most_journal_bytes, most_net_bytes, most_term_bytes}
 
--- the name of the file, the first one where there are two
-abbrev pub name_of : Asked → List ℕ
-name_of (asked.Where byte name) = string_bytes name
-name_of (asked.Steps most name) = string_bytes name
-name_of (asked.Counts subject bounds name) = string_bytes name
-name_of (asked.Journal subject order fuel heads name) = string_bytes name
-name_of (asked.After subject lines name journal) = string_bytes name
-name_of (asked.Explain subject name journal) = string_bytes name
-name_of (asked.Same name other) = string_bytes name
+-- ---- a command on one file
 
--- there is a second file
-abbrev pub has_second : Asked → Bool
-has_second (asked.After subject lines name journal) = true
-has_second (asked.Explain subject name journal) = true
-has_second (asked.Same name other) = true
-has_second _ = false
+-- what stands in the file
+abbrev pub content_of : OnOne → Content
+content_of (one.Where byte) = Journal
+content_of (one.Steps most) = Subject (subject.Term translation.Two)
+content_of (one.Counts s bounds) = Subject s
+content_of (one.Journal s order fuel heads) = Subject s
 
--- its name
-abbrev pub second_of : Asked → List ℕ
-second_of (asked.After subject lines name journal) = string_bytes journal
-second_of (asked.Explain subject name journal) = string_bytes journal
-second_of (asked.Same name other) = string_bytes other
-second_of _ = []
+-- its numbers are within their bounds
+abbrev pub IsOneWithin : OnOne → Type 0
+IsOneWithin (one.Where byte) = Unit {0}
+IsOneWithin (one.Steps most) = Unit {0}
+IsOneWithin (one.Counts s bounds) = Unit {0}
+IsOneWithin (one.Journal s order fuel heads) = Unit {0}
 
--- the most bytes of the file
-abbrev pub most_of : Asked → ℕ
-most_of (asked.Where byte name) = most_journal_bytes
-most_of (asked.Steps most name) = most_term_bytes
-most_of (asked.Counts subject bounds name) = most_bytes subject
-most_of (asked.Journal subject order fuel heads name) = most_bytes subject
-most_of (asked.After subject lines name journal) = most_bytes subject
-most_of (asked.Explain subject name journal) = most_bytes subject
-most_of (asked.Same name other) = most_net_bytes
+-- the answer to the bytes of the file
+abbrev pub IsAnswerToOne : OnOne → List ℕ → List ℕ → End → Type 0
+IsAnswerToOne (one.Where byte) bytes text e = IsWhere bytes byte text e
+IsAnswerToOne (one.Steps most) bytes text e = IsStepsOf bytes most text e
+IsAnswerToOne (one.Counts s bounds) bytes text e = IsCounted bytes bounds text s e
+IsAnswerToOne (one.Journal s order fuel heads) bytes text e =
+    IsJournal bytes order fuel.most heads.most text s e
 
--- the most bytes of the second file
-abbrev pub second_most : Asked → ℕ
-second_most (asked.Same name other) = most_net_bytes
-second_most _ = most_journal_bytes
+-- ---- a command on two files
 
--- the line by which a file of more bytes is refused
-abbrev pub limit_line : ℕ → List ℕ
-limit_line most =
-    if most == most_journal_bytes then codes "limit journal 402653184\n"
-    else (if most == most_net_bytes then codes "limit net 33554432\n" else codes "limit bytes 1048576\n")
+-- what stands in the first file, and in the second one
+abbrev pub contents_of : OnTwo → Content × Content
+contents_of (two.After s lines) = (Subject s, Journal)
+contents_of (two.Explain s) = (Subject s, Journal)
+contents_of two.Same = (Subject subject.Net, Subject subject.Net)
+
+-- its numbers are within their bounds
+abbrev pub IsTwoWithin : OnTwo → Type 0
+IsTwoWithin (two.After s lines) = (1 ≤ lines) × (lines ≤ most_fuel + 1)
+IsTwoWithin (two.Explain s) = Unit {0}
+IsTwoWithin two.Same = Unit {0}
+
+-- the answer to the bytes of the first file and to those of the second one
+abbrev pub IsAnswerToTwo : OnTwo → List ℕ → List ℕ → List ℕ → End → Type 0
+IsAnswerToTwo (two.After s lines) bytes more text e = IsAfter bytes more lines text s e
+IsAnswerToTwo (two.Explain s) bytes more text e = IsExplained bytes more text s e
+IsAnswerToTwo two.Same bytes more text e = IsSame bytes more text e
+
+-- ---- what is asked
 
 -- the numbers are within their bounds
 abbrev pub IsWithinBounds : Asked → Type 0
-IsWithinBounds (asked.Where byte name) = Unit {0}
-IsWithinBounds (asked.Steps most name) = Unit {0}
-IsWithinBounds (asked.Counts subject bounds name) = Unit {0}
-IsWithinBounds (asked.Journal subject order fuel heads name) = Unit {0}
-IsWithinBounds (asked.After subject lines name journal) = (1 ≤ lines) × (lines ≤ most_fuel + 1)
-IsWithinBounds (asked.Explain subject name journal) = Unit {0}
-IsWithinBounds (asked.Same name other) = Unit {0}
+IsWithinBounds (asked.One file command) = IsOneWithin command
+IsWithinBounds (asked.Two file other command) = IsTwoWithin command
 
--- the answer to the bytes of the file and to those of the second one
-abbrev pub IsAnswer : Asked → List ℕ → List ℕ → List ℕ → End → Type 0
-IsAnswer (asked.Where byte name) bytes more text e = IsWhere bytes byte text e
-IsAnswer (asked.Steps most name) bytes more text e = IsStepsOf bytes most text e
-IsAnswer (asked.Counts subject bounds name) bytes more text e =
-    IsCounted bytes bounds text subject e
-IsAnswer (asked.Journal subject order fuel heads name) bytes more text e =
-    IsJournal bytes order fuel.most heads.most text subject e
-IsAnswer (asked.After subject lines name journal) bytes more text e =
-    IsAfter bytes more lines text subject e
-IsAnswer (asked.Explain subject name journal) bytes more text e =
-    IsExplained bytes more text subject e
-IsAnswer (asked.Same name other) bytes more text e = IsSame bytes more text e
+-- a file of this name is asked for
+abbrev pub Names : Asked → List ℕ → Type 0
+Names (asked.One file command) name = IsNamed file name
+Names (asked.Two file other command) name = IsNamed file name ⊎ IsNamed other name
 
--- These are all bytes of a file, and no more than so many.
-abbrev pub IsAllWithin : ℕ → Option (List ℕ) → List ℕ → Type 0
-IsAllWithin most file bytes = IsAllOf file bytes × (length bytes ≤ most)
+-- The answer of a command on one file, whose bytes are told, by the calls of the source that had
+-- failed before and that now have.
+abbrev pub IsCauseOfOne : OnOne → Given → Files → (faults faults' : ℕ) → List ℕ → End → Type 0
+IsCauseOfOne command file files faults faults' text e =
+    ComesOf (content_of command) (told_of files file) faults faults'
+    (λ bytes text e. (faults' ≡ faults) × IsAnswerToOne command bytes text e) text e
 
--- Where there is a second file, these are all its bytes, and no more than so many.
-abbrev pub IsSecond : Bool → ℕ → Option (List ℕ) → List ℕ → Type 0
-IsSecond true most file bytes = IsAllWithin most file bytes
-IsSecond false most file bytes = Unit {0}
+-- the answer of a command on two files, where the first one has these bytes
+abbrev pub IsCauseOnward : OnTwo → List ℕ → Given → Files → (faults faults' : ℕ) → List ℕ → End →
+    Type 0
+IsCauseOnward command bytes other files faults faults' text e =
+    ComesOf (contents_of command).1 (told_of files other) faults faults'
+    (λ more text e. (faults' ≡ faults) × IsAnswerToTwo command bytes more text e) text e
 
--- The answer to files whose bytes are told, by the calls of the source that had failed before and
--- that now have. A call failed, and the line says so; or none did, and the answer is the line that
--- says that a file has too many bytes, the first one where both have, or that to the bytes.
-pub data IsCause (asked : Asked) (file second : Option (List ℕ)) (faults faults' : ℕ)
-    (text : List ℕ) : End → Type 0 where
-  fault : Rose faults faults' → text ≡ codes "read fault\n" →
-      IsCause asked file second faults faults' text end.Refused
-  too_long : faults' ≡ faults → IsLonger file (most_of asked) →
-      text ≡ limit_line (most_of asked) →
-      IsCause asked file second faults faults' text end.Refused
-  second_too_long : (bytes : List ℕ) → faults' ≡ faults →
-      IsAllWithin (most_of asked) file bytes → has_second asked ≡ true →
-      IsLonger second (second_most asked) → text ≡ limit_line (second_most asked) →
-      IsCause asked file second faults faults' text end.Refused
-  answered : {e : End} (bytes more : List ℕ) → faults' ≡ faults →
-      IsAllWithin (most_of asked) file bytes →
-      IsSecond (has_second asked) (second_most asked) second more →
-      IsAnswer asked bytes more text e →
-      IsCause asked file second faults faults' text e
+-- the answer of a command on two files
+abbrev pub IsCauseOfTwo : OnTwo → (file other : Given) → Files → (faults faults' : ℕ) → List ℕ →
+    End → Type 0
+IsCauseOfTwo command file other files faults faults' text e =
+    ComesOf (contents_of command).0 (told_of files file) faults faults'
+    (λ bytes text e. IsCauseOnward command bytes other (after_taking file files)
+    faults faults' text e) text e
+
+-- the answer to what is asked
+abbrev pub IsCause : Asked → Files → (faults faults' : ℕ) → List ℕ → End → Type 0
+IsCause (asked.One file command) files faults faults' text e =
+    IsCauseOfOne command file files faults faults' text e
+IsCause (asked.Two file other command) files faults faults' text e =
+    IsCauseOfTwo command file other files faults faults' text e

@@ -1,7 +1,8 @@
 -- What clauses of public functions rest on.
 pub mod Places
+pub mod Inputs
 pub mod Commands
 pub mod Writing
 pub mod Statuses
 -- What only contracts of private functions and proofs cite.
-pub mod Seconds
+pub mod Taking

@@ -1,79 +1,18 @@
 //! A command, from its files to what is written.
 
-ghost use Rattle.std.specs.Prelude.{◌≡◌, ℕ, List, Option, ◌≤◌, length, true, codes, IfOk};
+ghost use Rattle.std.specs.Prelude.{◌≡◌, ℕ, List, Option, ◌≤◌, length, true, IfOk};
 ghost use Rattle.ol_io.specs.Readings.{AreOfSince};
-ghost use Rattle.ol_bench.specs.Commands.{IsAnswer, IsCause, IsWithinBounds, has_second, limit_line, most_of, name_of, second_most, second_of};
-ghost use Rattle.ol_bench.specs.Seconds.{IsCauseOnward};
+ghost use Rattle.ol_bench.specs.Inputs.{IsNamed, most_of};
+ghost use Rattle.ol_bench.specs.Commands.{IsCause, IsCauseOfOne, IsCauseOfTwo, IsCauseOnward, IsOneWithin, IsTwoWithin, IsWithinBounds, Names, contents_of};
 ghost use Rattle.ol_bench.specs.Statuses.{status_number};
 ghost use Rattle.ol_bench.specs.Writing.{Told, WritesAnswer, change_of};
 
-use crate::placing::whereabouts;
-use ol_explain::{after, explained};
-use ol_io::{ReadAll, Sink, Source, Written, read_all, write_all};
-use ol_limits::{Fuel, Heads, MOST_JOURNAL_BYTES, MOST_NET_BYTES, MOST_TERM_BYTES};
+use crate::asked::{Asked, Given, OnOne, OnTwo};
+use crate::taking::{bytes_of, refusal};
+use ol_io::{Sink, Source, Written, write_all};
 use ol_memory::NoMemory;
-use ol_orders::{Bounds, Order, counted, journal, steps};
-use ol_same::same;
-use ol_subjects::{Answer, End, Subject, most_bytes, put};
+use ol_subjects::{Answer, End};
 use std::alloc::Global;
-
-/// What is asked: a command, with its numbers and with the names of its files. To the source of a
-/// process `-` is standard input.
-///
-/// `name` is that of the file with the term or the net, and the only one where there is no second
-/// name. Where two files are read, it is read first.
-#[derive(Drop)]
-pub enum Asked {
-    /// Where a byte of a file stands, any file. `byte` is its place, counted from 0: any number,
-    /// also one past the end.
-    Where {
-        byte: u32,
-        name: String,
-    },
-    /// Leftmost reduction of a term, by at most `most` steps: any number.
-    Steps {
-        most: u32,
-        name: String,
-    },
-    /// Interactions and beta steps of three ways to reduce, each within its bound; of leftmost
-    /// steps any number.
-    Counts {
-        subject: Subject,
-        bounds: Bounds,
-        name: String,
-    },
-    /// The journal of a run in this order: of at most `fuel` interactions, and on demand of at
-    /// most `heads` subterms.
-    Journal {
-        subject: Subject,
-        order: Order,
-        fuel: Fuel,
-        heads: Heads,
-        name: String,
-    },
-    /// The net after the first `lines` lines of a journal, from 1, its first line, which tells its
-    /// form, to 8,000,001. `name` is the file with the term or the net, `journal` the one with the
-    /// journal.
-    After {
-        subject: Subject,
-        lines: u32,
-        name: String,
-        journal: String,
-    },
-    /// What a journal is found to be, and why. `name` is the file with the term or the net,
-    /// `journal` the one with the journal.
-    Explain {
-        subject: Subject,
-        name: String,
-        journal: String,
-    },
-    /// Whether two nets are one up to the numbers of their nodes. `name` is the file with the first
-    /// one, `other` that with the second.
-    Same {
-        name: String,
-        other: String,
-    },
-}
 
 /// How a call of the bench ended.
 #[derive(Clone, Copy, Debug, PartialEq, Eq)]
@@ -110,175 +49,89 @@ impl Status {
     }
 }
 
-// The name of the file, the first one where there are two.
-fn name_of(asked: &Asked) -> &str
-    ensures { result.now ≡ name_of asked.now }
-{
-    match asked {
-        Asked::Where { name, .. } => name.as_str(),
-        Asked::Steps { name, .. } => name.as_str(),
-        Asked::Counts { name, .. } => name.as_str(),
-        Asked::Journal { name, .. } => name.as_str(),
-        Asked::After { name, .. } => name.as_str(),
-        Asked::Explain { name, .. } => name.as_str(),
-        Asked::Same { name, .. } => name.as_str(),
-    }
-}
-
-// Whether there is a second file.
-fn has_second(asked: &Asked) -> bool
-    ensures { result ≡ has_second asked.now }
-{
-    match asked {
-        Asked::After { .. } => true,
-        Asked::Explain { .. } => true,
-        Asked::Same { .. } => true,
-        _ => false,
-    }
-}
-
-// The name of the second file, where there is one.
-fn second_of(asked: &Asked) -> &str
-    ensures { result.now ≡ second_of asked.now }
-{
-    match asked {
-        Asked::After { journal, .. } => journal.as_str(),
-        Asked::Explain { journal, .. } => journal.as_str(),
-        Asked::Same { other, .. } => other.as_str(),
-        _ => "",
-    }
-}
-
-// The most bytes of the file.
-fn most_of(asked: &Asked) -> usize
-    ensures { result ≡ most_of asked.now }
-{
-    match asked {
-        Asked::Where { .. } => MOST_JOURNAL_BYTES as usize,
-        Asked::Steps { .. } => MOST_TERM_BYTES as usize,
-        Asked::Counts { subject, .. } => most_bytes(*subject),
-        Asked::Journal { subject, .. } => most_bytes(*subject),
-        Asked::After { subject, .. } => most_bytes(*subject),
-        Asked::Explain { subject, .. } => most_bytes(*subject),
-        Asked::Same { .. } => MOST_NET_BYTES as usize,
-    }
-}
-
-// The most bytes of the second file.
-fn second_most(asked: &Asked) -> usize
-    ensures { result ≡ second_most asked.now }
-{
-    match asked {
-        Asked::Same { .. } => MOST_NET_BYTES as usize,
-        _ => MOST_JOURNAL_BYTES as usize,
-    }
-}
-
-// The line by which a longer file is refused.
-fn limit_line(most: usize) -> &'static str
-    ensures { result.now ≡ limit_line most }
-{
-    if most == MOST_JOURNAL_BYTES as usize {
-        "limit journal 402653184\n"
-    } else if most == MOST_NET_BYTES as usize {
-        "limit net 33554432\n"
-    } else {
-        "limit bytes 1048576\n"
-    }
-}
-
-// The answer to the bytes of the file, and to those of the second one.
-fn of_bytes(alloc: Global, asked: &Asked, bytes: &[u8], more: &[u8]) -> Result<Answer, NoMemory>
-    requires short { length bytes.now ≤ most_of asked.now }
-    requires short_more { has_second asked.now ≡ true → length more.now ≤ second_most asked.now }
-    requires bounds { IsWithinBounds asked.now }
-    ensures { IfOk result (λ a. IsAnswer asked.now bytes.now more.now a.text.items a.end) }
-{
-    match asked {
-        Asked::Where { byte, .. } => {
-            let answer = whereabouts(alloc, bytes, *byte as usize)?;
-            Ok(answer)
-        }
-        Asked::Steps { most, .. } => {
-            let answer = steps(alloc, bytes, *most)?;
-            Ok(answer)
-        }
-        Asked::Counts {
-            subject,
-            bounds,
-            ..
-        } => {
-            let answer = counted(alloc, bytes, *subject, *bounds)?;
-            Ok(answer)
-        }
-        Asked::Journal {
-            subject,
-            order,
-            fuel,
-            heads,
-            ..
-        } => {
-            let answer = journal(alloc, bytes, *subject, *order, *fuel, *heads)?;
-            Ok(answer)
-        }
-        Asked::After { subject, lines, .. } => {
-            let answer = after(alloc, bytes, more, *subject, *lines)?;
-            Ok(answer)
-        }
-        Asked::Explain { subject, .. } => {
-            let answer = explained(alloc, bytes, more, *subject)?;
-            Ok(answer)
-        }
-        Asked::Same { .. } => {
-            let answer = same(alloc, bytes, more)?;
-            Ok(answer)
-        }
-    }
-}
-
-// The answer that refuses a file by this line.
-fn refusal(alloc: Global, line: &str) -> Result<Answer, NoMemory>
-    ensures text { IfOk result (λ a. a.text.items ≡ line.now) }
-    ensures refused { IfOk result (λ a. a.end ≡ End.Refused) }
-{
-    let mut text = Vec::new(alloc);
-    put(&mut text, line.as_bytes())?;
-    let end = End::Refused;
-    Ok(Answer { text, end })
-}
-
-// The answer where the file has these bytes. The second one is read, where there is one.
-fn onward<S: Source>(
+// The answer of a command on one file.
+fn of_one<S: Source>(
     alloc: Global,
-    asked: &Asked,
-    bytes: &[u8],
     src: &mut S,
+    file: &Given,
+    command: OnOne,
 ) -> Result<Answer, NoMemory>
-    requires known { has_second asked.now ≡ true → S.knows src.old (second_of asked.now) ≡ true }
-    requires short { length bytes.now ≤ most_of asked.now }
-    requires bounds { IsWithinBounds asked.now }
+    requires known { (name : List ℕ) → IsNamed file.now name → S.knows src.old name ≡ true }
+    requires within { IsOneWithin command }
     ensures caused { (files : ℕ → List ℕ → Option (List ℕ))
         → AreOfSince files (S.readings src.old) (S.readings src.new)
-        → IfOk result (λ a. IsCauseOnward asked.now bytes.now (files 0 (second_of asked.now))
+        → IfOk result (λ a. IsCauseOfOne command file.now files
         (S.faults src.old) (S.faults src.new) a.text.items a.end) }
     ensures told { AreOfSince (λ _. S.contents src.old) (S.readings src.old) (S.readings src.new) }
 {
-    if !has_second(asked) {
-        let answer = of_bytes(alloc, asked, bytes, b"")?;
-        return Ok(answer);
-    }
-    match read_all(alloc, src, second_of(asked), second_most(asked)) {
-        Err(ReadAll::NoMemory) => Err(NoMemory),
-        Err(ReadAll::Fault) => {
-            let answer = refusal(alloc, "read fault\n")?;
+    let content = command.content();
+    match bytes_of(alloc, src, file, content) {
+        Err(fault) => {
+            let answer = refusal(alloc, fault, content)?;
             Ok(answer)
         }
-        Err(ReadAll::TooLong) => {
-            let answer = refusal(alloc, limit_line(second_most(asked)))?;
+        Ok(bytes) => {
+            let answer = command.answer(alloc, &bytes)?;
+            Ok(answer)
+        }
+    }
+}
+
+// The answer of a command on two files, where the first one has these bytes.
+fn onward<S: Source>(
+    alloc: Global,
+    src: &mut S,
+    bytes: &[u8],
+    other: &Given,
+    command: OnTwo,
+) -> Result<Answer, NoMemory>
+    requires known { (name : List ℕ) → IsNamed other.now name → S.knows src.old name ≡ true }
+    requires short { length bytes.now ≤ most_of (contents_of command).0 }
+    requires within { IsTwoWithin command }
+    ensures caused { (files : ℕ → List ℕ → Option (List ℕ))
+        → AreOfSince files (S.readings src.old) (S.readings src.new)
+        → IfOk result (λ a. IsCauseOnward command bytes.now other.now files
+        (S.faults src.old) (S.faults src.new) a.text.items a.end) }
+    ensures told { AreOfSince (λ _. S.contents src.old) (S.readings src.old) (S.readings src.new) }
+{
+    let (_, content) = command.contents();
+    match bytes_of(alloc, src, other, content) {
+        Err(fault) => {
+            let answer = refusal(alloc, fault, content)?;
             Ok(answer)
         }
         Ok(more) => {
-            let answer = of_bytes(alloc, asked, bytes, &more)?;
+            let answer = command.answer(alloc, bytes, &more)?;
+            Ok(answer)
+        }
+    }
+}
+
+// The answer of a command on two files.
+fn of_two<S: Source>(
+    alloc: Global,
+    src: &mut S,
+    file: &Given,
+    other: &Given,
+    command: OnTwo,
+) -> Result<Answer, NoMemory>
+    requires known { (name : List ℕ) → IsNamed file.now name → S.knows src.old name ≡ true }
+    requires second { (name : List ℕ) → IsNamed other.now name → S.knows src.old name ≡ true }
+    requires within { IsTwoWithin command }
+    ensures caused { (files : ℕ → List ℕ → Option (List ℕ))
+        → AreOfSince files (S.readings src.old) (S.readings src.new)
+        → IfOk result (λ a. IsCauseOfTwo command file.now other.now files
+        (S.faults src.old) (S.faults src.new) a.text.items a.end) }
+    ensures told { AreOfSince (λ _. S.contents src.old) (S.readings src.old) (S.readings src.new) }
+{
+    let (content, _) = command.contents();
+    match bytes_of(alloc, src, file, content) {
+        Err(fault) => {
+            let answer = refusal(alloc, fault, content)?;
+            Ok(answer)
+        }
+        Ok(bytes) => {
+            let answer = onward(alloc, src, &bytes, other, command)?;
             Ok(answer)
         }
     }
@@ -286,30 +139,21 @@ fn onward<S: Source>(
 
 // The answer to what is asked.
 fn answer<S: Source>(alloc: Global, asked: &Asked, src: &mut S) -> Result<Answer, NoMemory>
-    requires known { S.knows src.old (name_of asked.now) ≡ true }
-    requires second { has_second asked.now ≡ true → S.knows src.old (second_of asked.now) ≡ true }
+    requires known { (name : List ℕ) → Names asked.now name → S.knows src.old name ≡ true }
     requires bounds { IsWithinBounds asked.now }
     ensures caused { (files : ℕ → List ℕ → Option (List ℕ))
         → AreOfSince files (S.readings src.old) (S.readings src.new)
-        → IfOk result (λ a. IsCause asked.now (files 0 (name_of asked.now))
-        (files 1 (second_of asked.now))
+        → IfOk result (λ a. IsCause asked.now files
         (S.faults src.old) (S.faults src.new) a.text.items a.end) }
     ensures told { AreOfSince (λ _. S.contents src.old) (S.readings src.old) (S.readings src.new) }
 {
-    match read_all(alloc, src, name_of(asked), most_of(asked)) {
-        Err(ReadAll::NoMemory) => Err(NoMemory),
-        Err(ReadAll::Fault) => {
-            let answer = refusal(alloc, "read fault\n")?;
-            Ok(answer)
-        }
-        Err(ReadAll::TooLong) => {
-            let answer = refusal(alloc, limit_line(most_of(asked)))?;
-            Ok(answer)
-        }
-        Ok(bytes) => {
-            let answer = onward(alloc, asked, &bytes, src)?;
-            Ok(answer)
-        }
+    match asked {
+        Asked::One { file, command } => of_one(alloc, src, file, *command),
+        Asked::Two {
+            file,
+            other,
+            command,
+        } => of_two(alloc, src, file, other, *command),
     }
 }
 
@@ -325,7 +169,7 @@ fn told<W: Sink>(sink: &mut W, text: &[u8], status: Status) -> Status
 
 /// Reads the files of a command, and writes its answer or why there is none: to `out`, or to
 /// `errors` where a file is refused or can't be read, or where there is nothing to show. The source
-/// has to know the names of the files, and the numbers are within their bounds (`Asked`).
+/// has to know the names of the files, and the numbers are within their bounds (`OnOne`, `OnTwo`).
 ///
 /// A file with a term has at most 1,048,576 bytes, one with a net 33,554,432, and one with a
 /// journal or in which a place is asked 402,653,184.
@@ -351,8 +195,7 @@ pub fn bench<S: Source, W: Sink, E: Sink>(
     errors: &mut E,
 ) -> Status
     // The source knows the names of the files, and the numbers are within their bounds.
-    requires known { S.knows src.old (name_of asked.now) ≡ true }
-    requires second { has_second asked.now ≡ true → S.knows src.old (second_of asked.now) ≡ true }
+    requires known { (name : List ℕ) → Names asked.now name → S.knows src.old name ≡ true }
     requires bounds { IsWithinBounds asked.now }
 
     // The text is the answer to the files, or the line that refuses them. It was told to the sink
@@ -362,9 +205,7 @@ pub fn bench<S: Source, W: Sink, E: Sink>(
     // whose bytes the source tells.
     ensures answered { (files : ℕ → List ℕ → Option (List ℕ))
         → AreOfSince files (S.readings src.old) (S.readings src.new)
-        → WritesAnswer (IsCause asked.now
-        (files 0 (name_of asked.now)) (files 1 (second_of asked.now))
-        (S.faults src.old) (S.faults src.new))
+        → WritesAnswer (IsCause asked.now files (S.faults src.old) (S.faults src.new))
         (change_of W.faults W.taken out.old out.new)
         (change_of E.faults E.taken errors.old errors.new) result }
     ensures told { AreOfSince (λ _. S.contents src.old) (S.readings src.old) (S.readings src.new) }

@@ -1,10 +1,10 @@
 //! The words of a command line, read by clap.
 
-ghost use Rattle.std.specs.Prelude.{◌≤◌, IfOk};
-ghost use Rattle.ol_bench.specs.Commands.{IsWithinBounds};
+ghost use Rattle.std.specs.Prelude.{◌≤◌, IfOk, IfSome};
+ghost use Rattle.ol_bench.specs.Commands.{IsOneWithin, IsTwoWithin, IsWithinBounds};
 
 use clap::{Arg, ArgAction, ArgMatches, Command, Error};
-use ol_bench::Asked;
+use ol_bench::{Asked, Given, OnOne, OnTwo};
 use ol_limits::{
     Fuel, Heads, MOST_FUEL, MOST_HEADS, MOST_JOURNAL_BYTES, MOST_STEPS, PLAIN_FUEL, PLAIN_HEADS,
 };
@@ -17,14 +17,35 @@ const OF_TERM: &str = "the file with the term, `-` for standard input";
 
 const OF_TERM_OR_NET: &str = "the file with the term or the net, `-` for standard input";
 
+const OF_TWO: &str =
+    "the file with the term or the net, `-` for standard input; with -e the file with the journal";
+
 const TRANSLATION: &str = "how the term becomes a net, 1 or 2; by itself 2";
 
-// The name of a file.
-fn file<'a>(alloc: Global, help: &'a str) -> Arg<'a> {
-    Arg::new(alloc, "name")
-        .required(true)
+// The name of a file, behind this name.
+fn file<'a>(alloc: Global, id: &'a str, help: &'a str) -> Arg<'a> {
+    Arg::new(alloc, id).action(ArgAction::Set).help(help)
+}
+
+// A term in place of a file.
+fn term<'a>(alloc: Global) -> Arg<'a> {
+    Arg::new(alloc, "term")
+        .short('e')
+        .value_name("TERM")
         .action(ArgAction::Set)
-        .help(help)
+        .help("the term itself, in place of its file")
+}
+
+// A command that reads a term: of a file, or behind `-e`.
+fn of_term<'a>(
+    alloc: Global,
+    command: Command<'a>,
+    help: &'a str,
+) -> Result<Command<'a>, AllocError> {
+    let name = file(alloc, "name", help)
+        .required_unless_present("term")?
+        .conflicts_with("term")?;
+    command.arg(term(alloc))?.arg(name)
 }
 
 // An option with a number.
@@ -45,25 +66,49 @@ fn flag<'a>(alloc: Global, id: &'a str, help: &'a str) -> Arg<'a> {
 }
 
 // A command that reads a term or a net.
-fn on_net<'a>(alloc: Global, name: &'a str, about: &'a str) -> Result<Command<'a>, AllocError> {
-    let command = Command::new(alloc, name).about(about);
+fn of_subject<'a>(alloc: Global, command: Command<'a>) -> Result<Command<'a>, AllocError> {
+    let net = flag(alloc, "net", "the file has a net, as `ol net` writes one").conflicts_with(
+        "term",
+    )?;
     command
-        .arg(flag(alloc, "net", "the file has a net, as `ol net` writes one"))?
-        .arg(number(alloc, "translation", 1, 2, TRANSLATION))?
-        .arg(number(
-            alloc,
-            "fuel",
-            0,
-            MOST_FUEL as i64,
-            "the most interactions, by itself 200000",
-        ))?
-        .arg(number(
-            alloc,
-            "heads",
-            1,
-            MOST_HEADS as i64,
-            "the most places that `demand` asks, by itself 4096",
-        ))
+        .arg(net)?
+        .arg(number(alloc, "translation", 1, 2, TRANSLATION))
+}
+
+// A command that reads a term or a net, and runs it.
+fn of_run<'a>(alloc: Global, command: Command<'a>) -> Result<Command<'a>, AllocError> {
+    let fuel = number(
+        alloc,
+        "fuel",
+        0,
+        MOST_FUEL as i64,
+        "the most interactions, by itself 200000",
+    );
+    let heads = number(
+        alloc,
+        "heads",
+        1,
+        MOST_HEADS as i64,
+        "the most places that `demand` asks, by itself 4096",
+    );
+    of_subject(alloc, command)?.arg(fuel)?.arg(heads)
+}
+
+// A command that reads a term or a net, and a journal. With `-e` only the journal has a file, and
+// its name is the first one.
+fn of_journal<'a>(alloc: Global, command: Command<'a>) -> Result<Command<'a>, AllocError> {
+    let journal = file(
+        alloc,
+        "other",
+        "the file with the journal, `-` for standard input",
+    )
+    .value_name("journal")
+    .required_unless_present("term")?
+    .conflicts_with("term")?;
+    of_subject(alloc, command)?
+        .arg(term(alloc))?
+        .arg(file(alloc, "name", OF_TWO).required(true))?
+        .arg(journal)
 }
 
 fn journal<'a>(alloc: Global) -> Result<Command<'a>, AllocError> {
@@ -73,21 +118,10 @@ fn journal<'a>(alloc: Global) -> Result<Command<'a>, AllocError> {
         .action(ArgAction::Set)
         .value_parser(["least", "demand", "rounds"].as_slice())
         .help("which pairs come first");
-    on_net(
-        alloc,
-        "journal",
+    let command = Command::new(alloc, "journal").about(
         "The journal of a run in one of three orders",
-    )?
-    .arg(order)?
-    .arg(file(alloc, OF_TERM_OR_NET))
-}
-
-// The file with the journal.
-fn journal_file<'a>(alloc: Global) -> Arg<'a> {
-    Arg::new(alloc, "journal")
-        .required(true)
-        .action(ArgAction::Set)
-        .help("the file with the journal, `-` for standard input")
+    );
+    of_term(alloc, of_run(alloc, command)?.arg(order)?, OF_TERM_OR_NET)
 }
 
 fn after<'a>(alloc: Global) -> Result<Command<'a>, AllocError> {
@@ -96,55 +130,43 @@ fn after<'a>(alloc: Global) -> Result<Command<'a>, AllocError> {
         .action(ArgAction::Set)
         .value_parser(clap::value_parser!(u32).range(1..=MOST_FUEL as i64 + 1))
         .help("how many lines of the journal, the first of which tells its form");
-    Command::new(alloc, "after")
-        .about("The net after the first lines of a journal, under the journal's names")
-        .arg(flag(alloc, "net", "the file has a net, as `ol net` writes one"))?
-        .arg(number(alloc, "translation", 1, 2, TRANSLATION))?
-        .arg(lines)?
-        .arg(file(alloc, OF_TERM_OR_NET))?
-        .arg(journal_file(alloc))
+    let command = Command::new(alloc, "after").about(
+        "The net after the first lines of a journal, under the journal's names",
+    );
+    of_journal(alloc, command.arg(lines)?)
 }
 
 fn explain<'a>(alloc: Global) -> Result<Command<'a>, AllocError> {
-    Command::new(alloc, "explain")
-        .about(
-            "What a journal is found to be; pairs left, what bad text wants, why a line is wrong",
-        )
-        .arg(flag(alloc, "net", "the file has a net, as `ol net` writes one"))?
-        .arg(number(alloc, "translation", 1, 2, TRANSLATION))?
-        .arg(file(alloc, OF_TERM_OR_NET))?
-        .arg(journal_file(alloc))
+    let command = Command::new(alloc, "explain").about(
+        "What a journal is found to be; pairs left, what bad text wants, why a line is wrong",
+    );
+    of_journal(alloc, command)
 }
 
 fn steps<'a>(alloc: Global) -> Result<Command<'a>, AllocError> {
-    Command::new(alloc, "steps")
+    let command = Command::new(alloc, "steps")
         .about("The terms of leftmost reduction, one under another, with the address of each redex")
         .arg(flag(
             alloc,
             "leftmost",
             "the leftmost redex comes first, as it does by itself",
         ))?
-        .arg(number(
-            alloc,
-            "most",
-            0,
-            MOST_STEPS as i64,
-            "the most steps, by itself 100",
-        ))?
-        .arg(file(alloc, OF_TERM))
+        .arg(number(alloc, "most", 0, MOST_STEPS as i64, "the most steps, by itself 100"))?;
+    of_term(alloc, command, OF_TERM)
 }
 
 fn counts<'a>(alloc: Global) -> Result<Command<'a>, AllocError> {
-    let about = "Interactions and beta steps of a run, a run on demand and leftmost reduction";
-    on_net(alloc, "counts", about)?
-        .arg(number(
-            alloc,
-            "most",
-            0,
-            MOST_STEPS as i64,
-            "the most leftmost steps, by itself 1000",
-        ))?
-        .arg(file(alloc, OF_TERM_OR_NET))
+    let command = Command::new(alloc, "counts").about(
+        "Interactions and beta steps of a run, a run on demand and leftmost reduction",
+    );
+    let most = number(
+        alloc,
+        "most",
+        0,
+        MOST_STEPS as i64,
+        "the most leftmost steps, by itself 1000",
+    );
+    of_term(alloc, of_run(alloc, command)?.arg(most)?, OF_TERM_OR_NET)
 }
 
 fn places<'a>(alloc: Global) -> Result<Command<'a>, AllocError> {
@@ -155,25 +177,18 @@ fn places<'a>(alloc: Global) -> Result<Command<'a>, AllocError> {
         .help("the place of the byte, counted from 0");
     Command::new(alloc, "where")
         .about("Line and column of a byte of a file, the line and a caret")
-        .arg(file(alloc, "the file, `-` for standard input"))?
+        .arg(file(alloc, "name", "the file, `-` for standard input").required(true))?
         .arg(byte)
 }
 
-// A file with a net, behind this name.
-fn net_file<'a>(alloc: Global, id: &'a str) -> Arg<'a> {
-    Arg::new(alloc, id)
-        .required(true)
-        .action(ArgAction::Set)
-        .help("a file with a net, `-` for standard input")
-}
-
 fn same<'a>(alloc: Global) -> Result<Command<'a>, AllocError> {
+    let help = "a file with a net, `-` for standard input";
     Command::new(alloc, "same")
         .about(
             "Whether two nets are one up to the numbers of nodes, or the first port where they differ",
         )
-        .arg(net_file(alloc, "name"))?
-        .arg(net_file(alloc, "other"))
+        .arg(file(alloc, "name", help).required(true))?
+        .arg(file(alloc, "other", help).required(true))
 }
 
 fn command<'a>(alloc: Global) -> Result<Command<'a>, AllocError> {
@@ -212,14 +227,6 @@ fn number_of(found: &ArgMatches, id: &str, least: u32, most: u32, default: u32) 
     }
 }
 
-fn fuel_of(found: &ArgMatches) -> Fuel {
-    Fuel::of(number_of(found, "fuel", 0, MOST_FUEL, PLAIN_FUEL))
-}
-
-fn heads_of(found: &ArgMatches) -> Heads {
-    Heads::of(number_of(found, "heads", 1, MOST_HEADS, PLAIN_HEADS))
-}
-
 fn subject_of(found: &ArgMatches) -> Subject {
     if found.get_flag("net") {
         return Subject::Net;
@@ -238,8 +245,21 @@ fn word_of(alloc: Global, found: &ArgMatches, id: &str) -> Result<String, Error>
     }
 }
 
-fn name_of(alloc: Global, found: &ArgMatches) -> Result<String, Error> {
-    word_of(alloc, found, "name")
+// The file of this name.
+fn file_of(alloc: Global, found: &ArgMatches, id: &str) -> Result<Given, Error> {
+    let name = word_of(alloc, found, id)?;
+    Ok(Given::Name(name))
+}
+
+// The term behind `-e`, if there is one.
+fn term_of(alloc: Global, found: &ArgMatches) -> Result<Option<Given>, Error> {
+    match found.get_str("term") {
+        Some(text) => {
+            let text = String::from_str(alloc, text)?;
+            Ok(Some(Given::Text(text)))
+        }
+        None => Ok(None),
+    }
 }
 
 fn order_of(found: &ArgMatches) -> Order {
@@ -250,104 +270,100 @@ fn order_of(found: &ArgMatches) -> Order {
     }
 }
 
-fn steps_asked(alloc: Global, found: &ArgMatches) -> Result<Asked, Error>
-    ensures { IfOk result IsWithinBounds }
+// The command on one file of this name, with its numbers.
+fn on_one(name: &str, found: &ArgMatches) -> OnOne
+    ensures { IsOneWithin result }
 {
-    let most = number_of(found, "most", 0, MOST_STEPS, 100);
-    let name = name_of(alloc, found)?;
-    Ok(Asked::Steps { most, name })
+    let subject = subject_of(found);
+    let fuel = Fuel::of(number_of(found, "fuel", 0, MOST_FUEL, PLAIN_FUEL));
+    let heads = Heads::of(number_of(found, "heads", 1, MOST_HEADS, PLAIN_HEADS));
+    match name {
+        "steps" => OnOne::Steps {
+            most: number_of(found, "most", 0, MOST_STEPS, 100),
+        },
+        "counts" => OnOne::Counts {
+            subject,
+            bounds: Bounds {
+                fuel,
+                heads,
+                steps: number_of(found, "most", 0, MOST_STEPS, 1_000),
+            },
+        },
+        "journal" => OnOne::Journal {
+            subject,
+            order: order_of(found),
+            fuel,
+            heads,
+        },
+        _ => OnOne::Where {
+            byte: number_of(found, "byte", 0, MOST_JOURNAL_BYTES, 0),
+        },
+    }
 }
 
-fn counts_asked(alloc: Global, found: &ArgMatches) -> Result<Asked, Error>
+// The command on two files of this name, with its numbers, if there is one.
+fn on_two(name: &str, found: &ArgMatches) -> Option<OnTwo>
+    ensures { IfSome result IsTwoWithin }
+{
+    let subject = subject_of(found);
+    match name {
+        "after" => Some(OnTwo::After {
+            subject,
+            lines: number_of(found, "lines", 1, MOST_FUEL + 1, 1),
+        }),
+        "explain" => Some(OnTwo::Explain { subject }),
+        "same" => Some(OnTwo::Same),
+        _ => None,
+    }
+}
+
+// A command on one file: that of the name, or the term behind `-e`.
+fn asked_of_one(
+    alloc: Global,
+    command: OnOne,
+    found: &ArgMatches,
+    term: Option<Given>,
+) -> Result<Asked, Error>
+    requires within { IsOneWithin command }
     ensures { IfOk result IsWithinBounds }
 {
-    let bounds = Bounds {
-        fuel: fuel_of(found),
-        heads: heads_of(found),
-        steps: number_of(found, "most", 0, MOST_STEPS, 1_000),
+    let file = match term {
+        Some(term) => term,
+        None => file_of(alloc, found, "name")?,
     };
-    let subject = subject_of(found);
-    let name = name_of(alloc, found)?;
-    Ok(Asked::Counts {
-        subject,
-        bounds,
-        name,
+    Ok(Asked::One { file, command })
+}
+
+// A command on two files: those of the names, or the term behind `-e` and the file of the one name.
+fn asked_of_two(
+    alloc: Global,
+    command: OnTwo,
+    found: &ArgMatches,
+    term: Option<Given>,
+) -> Result<Asked, Error>
+    requires within { IsTwoWithin command }
+    ensures { IfOk result IsWithinBounds }
+{
+    let name = file_of(alloc, found, "name")?;
+    let (file, other) = match term {
+        Some(term) => (term, name),
+        None => (name, file_of(alloc, found, "other")?),
+    };
+    Ok(Asked::Two {
+        file,
+        other,
+        command,
     })
-}
-
-fn journal_asked(alloc: Global, found: &ArgMatches) -> Result<Asked, Error>
-    ensures { IfOk result IsWithinBounds }
-{
-    let fuel = fuel_of(found);
-    let heads = heads_of(found);
-    let subject = subject_of(found);
-    let order = order_of(found);
-    let name = name_of(alloc, found)?;
-    Ok(Asked::Journal {
-        subject,
-        order,
-        fuel,
-        heads,
-        name,
-    })
-}
-
-fn after_asked(alloc: Global, found: &ArgMatches) -> Result<Asked, Error>
-    ensures { IfOk result IsWithinBounds }
-{
-    let lines = number_of(found, "lines", 1, MOST_FUEL + 1, 1);
-    let subject = subject_of(found);
-    let name = name_of(alloc, found)?;
-    let journal = word_of(alloc, found, "journal")?;
-    Ok(Asked::After {
-        subject,
-        lines,
-        name,
-        journal,
-    })
-}
-
-fn explain_asked(alloc: Global, found: &ArgMatches) -> Result<Asked, Error>
-    ensures { IfOk result IsWithinBounds }
-{
-    let subject = subject_of(found);
-    let name = name_of(alloc, found)?;
-    let journal = word_of(alloc, found, "journal")?;
-    Ok(Asked::Explain {
-        subject,
-        name,
-        journal,
-    })
-}
-
-fn same_asked(alloc: Global, found: &ArgMatches) -> Result<Asked, Error>
-    ensures { IfOk result IsWithinBounds }
-{
-    let name = name_of(alloc, found)?;
-    let other = word_of(alloc, found, "other")?;
-    Ok(Asked::Same { name, other })
-}
-
-fn place_asked(alloc: Global, found: &ArgMatches) -> Result<Asked, Error>
-    ensures { IfOk result IsWithinBounds }
-{
-    let byte = number_of(found, "byte", 0, MOST_JOURNAL_BYTES, 0);
-    let name = name_of(alloc, found)?;
-    Ok(Asked::Where { byte, name })
 }
 
 // What is asked by what was given behind the name of a command.
 fn asked_of(alloc: Global, name: &str, found: &ArgMatches) -> Result<Asked, Error>
     ensures { IfOk result IsWithinBounds }
 {
-    match name {
-        "steps" => steps_asked(alloc, found),
-        "counts" => counts_asked(alloc, found),
-        "journal" => journal_asked(alloc, found),
-        "explain" => explain_asked(alloc, found),
-        "after" => after_asked(alloc, found),
-        "same" => same_asked(alloc, found),
-        _ => place_asked(alloc, found),
+    let term = term_of(alloc, found)?;
+    match on_two(name, found) {
+        Some(command) => asked_of_two(alloc, command, found, term),
+        None => asked_of_one(alloc, on_one(name, found), found, term),
     }
 }
 
@@ -361,9 +377,9 @@ pub fn asked_by(alloc: Global, words: &Vec<String>) -> Result<Asked, Error>
         Some((name, found)) => asked_of(alloc, name, found),
         // clap takes no words without a command.
         None => {
-            let byte = 0;
-            let name = String::new(alloc);
-            Ok(Asked::Where { byte, name })
+            let file = Given::Name(String::new(alloc));
+            let command = OnOne::Where { byte: 0 };
+            Ok(Asked::One { file, command })
         }
     }
 }

@@ -2,8 +2,8 @@
 ghost use Rattle.std.specs.Prelude.{◌≤◌, IfOk};
 ghost use Rattle.ol_bench.specs.Commands.{IsWithinBounds};
 
-use crate::fakes::file;
-use ol_bench::{Asked, Status, bench};
+use crate::fakes::{file, named};
+use ol_bench::{Asked, OnTwo, Status, bench};
 use ol_io::{MemSink, MemSource};
 use ol_subjects::Subject;
 use ol_term::Translation;
@@ -43,11 +43,10 @@ fn asked(alloc: Global, subject: Subject, lines: u32) -> Result<Asked, AllocErro
     requires { (1 ≤ lines) × (lines ≤ 8000001) }
     ensures { IfOk result IsWithinBounds }
 {
-    Ok(Asked::After {
-        subject,
-        lines,
-        name: String::from_str(alloc, "file")?,
-        journal: String::from_str(alloc, "journal")?,
+    Ok(Asked::Two {
+        file: named(alloc, "file")?,
+        other: named(alloc, "journal")?,
+        command: OnTwo::After { subject, lines },
     })
 }
 

@@ -1,15 +1,16 @@
 //! Rows of each command over the fakes.
-ghost use Rattle.std.specs.Prelude.{◌≤◌, IfOk};
-ghost use Rattle.ol_bench.specs.Commands.{IsWithinBounds};
+ghost use Rattle.std.specs.Prelude.{◌≤◌};
+ghost use Rattle.ol_bench.specs.Commands.{IsOneWithin};
 ghost use Rattle.ol_limits.specs.Limits.{most_fuel};
 
-use ol_bench::{Asked, Status, bench};
+use crate::fakes::named;
+use ol_bench::{Asked, OnOne, Status, bench};
 use ol_io::{MemFile, MemSink, MemSource};
 use ol_limits::{Fuel, Heads};
 use ol_orders::{Bounds, Order};
 use ol_subjects::Subject;
 use ol_term::Translation;
-use std::alloc::{AllocError, Global};
+use std::alloc::Global;
 use std::process::Abort;
 use std::test::Fail;
 
@@ -88,54 +89,48 @@ interactions               1           -           -
 stuck                      0           -           -
 ";
 
-fn counts(subject: Subject, fuel: u32, name: String) -> Asked
+fn counts(subject: Subject, fuel: u32) -> OnOne
     requires { fuel ≤ most_fuel }
-    ensures { IsWithinBounds result }
+    ensures { IsOneWithin result }
 {
     let bounds = Bounds {
         fuel: Fuel::of(fuel),
         heads: Heads::of(10),
         steps: 2,
     };
-    Asked::Counts {
-        subject,
-        bounds,
-        name,
-    }
+    OnOne::Counts { subject, bounds }
 }
 
-fn journal(subject: Subject, order: Order, fuel: u32, name: String) -> Asked
+fn journal(subject: Subject, order: Order, fuel: u32) -> OnOne
     requires { fuel ≤ most_fuel }
-    ensures { IsWithinBounds result }
+    ensures { IsOneWithin result }
 {
-    Asked::Journal {
+    OnOne::Journal {
         subject,
         order,
         fuel: Fuel::of(fuel),
         heads: Heads::of(10),
-        name,
     }
 }
 
-// What a command asks of standard input, with one number.
-fn asked(alloc: Global, command: &str, number: u32) -> Result<Asked, AllocError>
+// A command with one number.
+fn command(command: &str, number: u32) -> OnOne
     requires { number ≤ 8000000 }
-    ensures { IfOk result IsWithinBounds }
+    ensures { IsOneWithin result }
 {
-    let name = String::from_str(alloc, "-")?;
     let term = Subject::Term(Translation::Two);
     let first = Subject::Term(Translation::One);
     match command {
-        "where" => Ok(Asked::Where { byte: number, name }),
-        "steps" => Ok(Asked::Steps { most: number, name }),
-        "counts" => Ok(counts(term, number, name)),
-        "counts --net" => Ok(counts(Subject::Net, number, name)),
-        "least" => Ok(journal(term, Order::Least, number, name)),
-        "least --translation 1" => Ok(journal(first, Order::Least, number, name)),
-        "least --net" => Ok(journal(Subject::Net, Order::Least, number, name)),
-        "rounds" => Ok(journal(term, Order::Rounds, number, name)),
-        "demand --net" => Ok(journal(Subject::Net, Order::Demand, number, name)),
-        _ => Ok(journal(term, Order::Demand, number, name)),
+        "where" => OnOne::Where { byte: number },
+        "steps" => OnOne::Steps { most: number },
+        "counts" => counts(term, number),
+        "counts --net" => counts(Subject::Net, number),
+        "least" => journal(term, Order::Least, number),
+        "least --translation 1" => journal(first, Order::Least, number),
+        "least --net" => journal(Subject::Net, Order::Least, number),
+        "rounds" => journal(term, Order::Rounds, number),
+        "demand --net" => journal(Subject::Net, Order::Demand, number),
+        _ => journal(term, Order::Demand, number),
     }
 }
 
@@ -147,8 +142,11 @@ pub fn assert_row(
 ) -> Result<(), Fail>
     requires { row.1 ≤ 8000000 }
 {
-    let (command, number, bytes, status, wanted) = row;
-    let asked = asked(alloc, command, number)?;
+    let (words, number, bytes, status, wanted) = row;
+    let asked = Asked::One {
+        file: named(alloc, "-")?,
+        command: command(words, number),
+    };
     let mut files = Vec::new(alloc);
     files.push(MemFile {
         name: String::from_str(alloc, "-")?,
@@ -162,13 +160,13 @@ pub fn assert_row(
         .ok()
         .ok_or("no memory")?;
     let ended = bench(alloc, &asked, &mut src, &mut out, &mut errors);
-    assert_eq!(rt; ended, status, "{command} {number}");
+    assert_eq!(rt; ended, status, "{words} {number}");
     let (written, empty) = match status {
         Status::Refused => (errors.bytes(), out.bytes()),
         _ => (out.bytes(), errors.bytes()),
     };
-    assert!(rt; written == wanted.as_bytes(), "{command} {number}");
-    assert!(rt; empty.is_empty(), "{command} {number}");
+    assert!(rt; written == wanted.as_bytes(), "{words} {number}");
+    assert!(rt; empty.is_empty(), "{words} {number}");
     Ok(())
 }
 

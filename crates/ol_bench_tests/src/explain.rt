@@ -2,8 +2,8 @@
 ghost use Rattle.std.specs.Prelude.{IfOk};
 ghost use Rattle.ol_bench.specs.Commands.{IsWithinBounds};
 
-use crate::fakes::file;
-use ol_bench::{Asked, Status, bench};
+use crate::fakes::{file, named};
+use ol_bench::{Asked, OnTwo, Status, bench};
 use ol_io::{MemSink, MemSource};
 use ol_subjects::Subject;
 use ol_term::Translation;
@@ -34,10 +34,10 @@ const JOURNAL: &str =
 fn asked(alloc: Global, subject: Subject) -> Result<Asked, AllocError>
     ensures { IfOk result IsWithinBounds }
 {
-    Ok(Asked::Explain {
-        subject,
-        name: String::from_str(alloc, "file")?,
-        journal: String::from_str(alloc, "journal")?,
+    Ok(Asked::Two {
+        file: named(alloc, "file")?,
+        other: named(alloc, "journal")?,
+        command: OnTwo::Explain { subject },
     })
 }
 

@@ -5,7 +5,8 @@
 //! - `commands`: rows of each command over the fakes
 //! - `after`: rows of `after` over the fakes
 //! - `explain`: rows of `explain` over the fakes
-//! - `fakes`: files in memory
+//! - `texts`: rows of commands on a term that stands on the command line
+//! - `fakes`: files in memory, and their names
 //! - `comparing`: two nets that are one up to numbers, and two that aren't
 //! - `limits`: rows of `steps` at the limits of terms
 //! - `outside`: `same` through `bench`, where a call of the source or of a sink fails
@@ -25,3 +26,5 @@ mod fakes;
 mod limits;
 #[cfg(test)]
 mod outside;
+#[cfg(test)]
+mod texts;

@@ -2,8 +2,8 @@
 ghost use Rattle.std.specs.Prelude.{IfOk};
 ghost use Rattle.ol_bench.specs.Commands.{IsWithinBounds};
 
-use crate::fakes::file;
-use ol_bench::{Asked, Status, bench};
+use crate::fakes::{file, named};
+use ol_bench::{Asked, OnTwo, Status, bench};
 use ol_io::{MemSink, MemSource};
 use std::alloc::{AllocError, Global};
 use std::process::Abort;
@@ -17,9 +17,10 @@ const NONE: u64 = 1_000;
 fn asked(alloc: Global) -> Result<Asked, AllocError>
     ensures { IfOk result IsWithinBounds }
 {
-    Ok(Asked::Same {
-        name: String::from_str(alloc, "-")?,
-        other: String::from_str(alloc, "other")?,
+    Ok(Asked::Two {
+        file: named(alloc, "-")?,
+        other: named(alloc, "other")?,
+        command: OnTwo::Same,
     })
 }
 

@@ -1,0 +1,189 @@
+//! What is asked: a command, with its numbers, and the files that it reads.
+//!
+//! A command is a variant of `OnOne` or of `OnTwo`, with an arm in `content` or in `contents`, which
+//! tell what stands in its files, and one in `answer`.
+
+ghost use Rattle.std.specs.Prelude.{◌≡◌, ◌≤◌, length, IfOk};
+ghost use Rattle.ol_bench.specs.Inputs.{most_of};
+ghost use Rattle.ol_bench.specs.Commands.{IsOneWithin, IsTwoWithin, IsAnswerToOne, IsAnswerToTwo, content_of, contents_of};
+
+use crate::placing::whereabouts;
+use ol_explain::{after, explained};
+use ol_limits::{Fuel, Heads, MOST_JOURNAL_BYTES};
+use ol_memory::NoMemory;
+use ol_orders::{Bounds, Order, counted, journal, steps};
+use ol_same::same;
+use ol_subjects::{Answer, Subject, most_bytes};
+use ol_term::Translation;
+use std::alloc::Global;
+
+/// Where the bytes of a file come from.
+#[derive(Debug, Drop)]
+pub enum Given {
+    /// From the file of this name. To the source of a process `-` is standard input.
+    Name(String),
+    /// From the command line, on which the text itself stands.
+    Text(String),
+}
+
+/// What stands in a file. By it goes how many bytes a file may have.
+#[derive(Clone, Copy, Debug, PartialEq, Eq)]
+pub enum Content {
+    /// A term or a net.
+    Subject(Subject),
+    /// A journal, or any text in which a place is asked.
+    Journal,
+}
+
+/// The most bytes of a file.
+pub fn most_of(content: Content) -> usize
+    ensures { result ≡ most_of content }
+{
+    match content {
+        Content::Subject(subject) => most_bytes(subject),
+        Content::Journal => MOST_JOURNAL_BYTES as usize,
+    }
+}
+
+// A term by the second translation, where the translation plays no part.
+const TERM: Subject = Subject::Term(Translation::Two);
+
+/// A command on one file.
+#[derive(Clone, Copy)]
+pub enum OnOne {
+    /// Where a byte of a file stands, any file. `byte` is its place, counted from 0: any number,
+    /// also one past the end.
+    Where {
+        byte: u32,
+    },
+    /// Leftmost reduction of a term, by at most `most` steps: any number.
+    Steps {
+        most: u32,
+    },
+    /// Interactions and beta steps of three ways to reduce, each within its bound; of leftmost
+    /// steps any number.
+    Counts {
+        subject: Subject,
+        bounds: Bounds,
+    },
+    /// The journal of a run in this order: of at most `fuel` interactions, and on demand of at
+    /// most `heads` subterms.
+    Journal {
+        subject: Subject,
+        order: Order,
+        fuel: Fuel,
+        heads: Heads,
+    },
+}
+
+impl OnOne {
+    /// What stands in the file.
+    pub fn content(self) -> Content
+        ensures { result ≡ content_of self }
+    {
+        match self {
+            OnOne::Where { .. } => Content::Journal,
+            OnOne::Steps { .. } => Content::Subject(TERM),
+            OnOne::Counts { subject, .. } => Content::Subject(subject),
+            OnOne::Journal { subject, .. } => Content::Subject(subject),
+        }
+    }
+
+    /// The answer to the bytes of the file.
+    pub fn answer(self, alloc: Global, bytes: &[u8]) -> Result<Answer, NoMemory>
+        requires short { length bytes.now ≤ most_of (content_of self) }
+        requires within { IsOneWithin self }
+        ensures { IfOk result (λ a. IsAnswerToOne self bytes.now a.text.items a.end) }
+    {
+        match self {
+            OnOne::Where { byte } => {
+                let answer = whereabouts(alloc, bytes, byte as usize)?;
+                Ok(answer)
+            }
+            OnOne::Steps { most } => {
+                let answer = steps(alloc, bytes, most)?;
+                Ok(answer)
+            }
+            OnOne::Counts { subject, bounds } => {
+                let answer = counted(alloc, bytes, subject, bounds)?;
+                Ok(answer)
+            }
+            OnOne::Journal {
+                subject,
+                order,
+                fuel,
+                heads,
+            } => {
+                let answer = journal(alloc, bytes, subject, order, fuel, heads)?;
+                Ok(answer)
+            }
+        }
+    }
+}
+
+/// A command on two files.
+#[derive(Clone, Copy, Debug)]
+pub enum OnTwo {
+    /// The net after the first `lines` lines of a journal, from 1, its first line, which tells its
+    /// form, to 8,000,001. The first file has the term or the net, the second one the journal.
+    After { subject: Subject, lines: u32 },
+    /// What a journal is found to be, and why. The first file has the term or the net, the second
+    /// one the journal.
+    Explain { subject: Subject },
+    /// Whether two nets are one up to the numbers of their nodes.
+    Same,
+}
+
+impl OnTwo {
+    /// What stands in the first file, and in the second one.
+    pub fn contents(self) -> (Content, Content)
+        ensures { result ≡ contents_of self }
+    {
+        match self {
+            OnTwo::After { subject, .. } => (Content::Subject(subject), Content::Journal),
+            OnTwo::Explain { subject } => (Content::Subject(subject), Content::Journal),
+            OnTwo::Same => (
+                Content::Subject(Subject::Net),
+                Content::Subject(Subject::Net),
+            ),
+        }
+    }
+
+    /// The answer to the bytes of the first file, and to those of the second one.
+    pub fn answer(self, alloc: Global, bytes: &[u8], more: &[u8]) -> Result<Answer, NoMemory>
+        requires short { length bytes.now ≤ most_of (contents_of self).0 }
+        requires short_more { length more.now ≤ most_of (contents_of self).1 }
+        requires within { IsTwoWithin self }
+        ensures { IfOk result (λ a. IsAnswerToTwo self bytes.now more.now a.text.items a.end) }
+    {
+        match self {
+            OnTwo::After { subject, lines } => {
+                let answer = after(alloc, bytes, more, subject, lines)?;
+                Ok(answer)
+            }
+            OnTwo::Explain { subject } => {
+                let answer = explained(alloc, bytes, more, subject)?;
+                Ok(answer)
+            }
+            OnTwo::Same => {
+                let answer = same(alloc, bytes, more)?;
+                Ok(answer)
+            }
+        }
+    }
+}
+
+/// What is asked: a command, and where the bytes of its files come from. Of two files the first one
+/// is read first.
+#[derive(Drop)]
+pub enum Asked {
+    One {
+        file: Given,
+        command: OnOne,
+    },
+    Two {
+        file: Given,
+        other: Given,
+        command: OnTwo,
+    },
+}
