@@ -14,7 +14,8 @@ use Rattle.ol_bench.specs.declared.asked.OnTwo.TheVariants as two
 use Rattle.ol_bench.specs.declared.asked.Asked.{Asked}
 use Rattle.ol_bench.specs.declared.asked.Asked.TheVariants as asked
 use Rattle.ol_bench.specs.Inputs.{Files, ComesOf, IsNamed, after_taking, told_of}
-use Rattle.ol_bench.specs.Places.{IsWhere}
+use Rattle.ol_places.specs.Places.{IsWhere}
+use Rattle.ol_places.specs.Wanted.{IsStop}
 use Rattle.ol_orders.specs.Steps.{IsStepsOf}
 use Rattle.ol_orders.specs.Tables.{IsCounted}
 use Rattle.ol_orders.specs.Orders.{IsJournal}
@@ -27,6 +28,7 @@ use Rattle.ol_same.specs.Same.{IsSame}
 -- what stands in the file
 abbrev pub content_of : OnOne → Content
 content_of (one.Where byte) = Journal
+content_of one.Stop = Subject (subject.Term translation.Two)
 content_of (one.Steps most) = Subject (subject.Term translation.Two)
 content_of (one.Counts s bounds) = Subject s
 content_of (one.Journal s order fuel heads) = Subject s
@@ -34,6 +36,7 @@ content_of (one.Journal s order fuel heads) = Subject s
 -- its numbers are within their bounds
 abbrev pub IsOneWithin : OnOne → Type 0
 IsOneWithin (one.Where byte) = Unit {0}
+IsOneWithin one.Stop = Unit {0}
 IsOneWithin (one.Steps most) = Unit {0}
 IsOneWithin (one.Counts s bounds) = Unit {0}
 IsOneWithin (one.Journal s order fuel heads) = Unit {0}
@@ -41,6 +44,7 @@ IsOneWithin (one.Journal s order fuel heads) = Unit {0}
 -- the answer to the bytes of the file
 abbrev pub IsAnswerToOne : OnOne → List ℕ → List ℕ → End → Type 0
 IsAnswerToOne (one.Where byte) bytes text e = IsWhere bytes byte text e
+IsAnswerToOne one.Stop bytes text e = IsStop bytes text e
 IsAnswerToOne (one.Steps most) bytes text e = IsStepsOf bytes most text e
 IsAnswerToOne (one.Counts s bounds) bytes text e = IsCounted bytes bounds text s e
 IsAnswerToOne (one.Journal s order fuel heads) bytes text e =

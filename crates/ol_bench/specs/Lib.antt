@@ -1,5 +1,4 @@
 -- What clauses of public functions rest on.
-pub mod Places
 pub mod Inputs
 pub mod Commands
 pub mod Writing

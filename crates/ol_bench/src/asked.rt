@@ -7,11 +7,11 @@ ghost use Rattle.std.specs.Prelude.{◌≡◌, ◌≤◌, length, IfOk};
 ghost use Rattle.ol_bench.specs.Inputs.{most_of};
 ghost use Rattle.ol_bench.specs.Commands.{IsOneWithin, IsTwoWithin, IsAnswerToOne, IsAnswerToTwo, content_of, contents_of};
 
-use crate::placing::whereabouts;
 use ol_explain::{after, explained};
 use ol_limits::{Fuel, Heads, MOST_JOURNAL_BYTES};
 use ol_memory::NoMemory;
 use ol_orders::{Bounds, Order, counted, journal, steps};
+use ol_places::{stop, whereabouts};
 use ol_same::same;
 use ol_subjects::{Answer, Subject, most_bytes};
 use ol_term::Translation;
@@ -56,6 +56,8 @@ pub enum OnOne {
     Where {
         byte: u32,
     },
+    /// Where a text stops being a term, and what is wanted there.
+    Stop,
     /// Leftmost reduction of a term, by at most `most` steps: any number.
     Steps {
         most: u32,
@@ -83,6 +85,7 @@ impl OnOne {
     {
         match self {
             OnOne::Where { .. } => Content::Journal,
+            OnOne::Stop => Content::Subject(TERM),
             OnOne::Steps { .. } => Content::Subject(TERM),
             OnOne::Counts { subject, .. } => Content::Subject(subject),
             OnOne::Journal { subject, .. } => Content::Subject(subject),
@@ -98,6 +101,10 @@ impl OnOne {
         match self {
             OnOne::Where { byte } => {
                 let answer = whereabouts(alloc, bytes, byte as usize)?;
+                Ok(answer)
+            }
+            OnOne::Stop => {
+                let answer = stop(alloc, bytes)?;
                 Ok(answer)
             }
             OnOne::Steps { most } => {

@@ -1,18 +1,15 @@
 //! The bench: answers for those who look closer at a term, a net or a journal. Each command is a
 //! function from bytes to an answer; `bench` reads the files of a command and writes its answer.
-//! The commands but `where` stand in `ol_orders`, `ol_explain` and `ol_same`.
+//! The commands stand in `ol_places`, `ol_orders`, `ol_explain` and `ol_same`.
 //!
-//! - `placing`: the command `where`: the line and the column of a byte
 //! - `asked`: the commands: their numbers, what stands in their files, and their answers
 //! - `taking`: the bytes that are given, of a file or of a text
 //! - `top`: a command, from its files to what is written
 #![tactic(auto)]
 
 mod asked;
-mod placing;
 mod taking;
 mod top;
 
 pub use asked::{Asked, Content, Given, OnOne, OnTwo};
-pub use placing::whereabouts;
 pub use top::{Status, bench};

@@ -171,12 +171,11 @@ fn counts<'a>(alloc: Global) -> Result<Command<'a>, AllocError> {
 
 fn places<'a>(alloc: Global) -> Result<Command<'a>, AllocError> {
     let byte = Arg::new(alloc, "byte")
-        .required(true)
         .action(ArgAction::Set)
         .value_parser(clap::value_parser!(u32).range(0..=MOST_JOURNAL_BYTES as i64))
-        .help("the place of the byte, counted from 0");
+        .help("the place of the byte, counted from 0; by itself where the text stops being a term");
     Command::new(alloc, "where")
-        .about("Line and column of a byte of a file, the line and a caret")
+        .about("Line and column of a byte, or of where a text stops being a term, with a caret")
         .arg(file(alloc, "name", "the file, `-` for standard input").required(true))?
         .arg(byte)
 }
@@ -270,6 +269,18 @@ fn order_of(found: &ArgMatches) -> Order {
     }
 }
 
+// The command `where`: with a byte or without.
+fn place_of(found: &ArgMatches) -> OnOne
+    ensures { IsOneWithin result }
+{
+    match found.get_one::<u32>("byte") {
+        None => OnOne::Stop,
+        Some(_) => OnOne::Where {
+            byte: number_of(found, "byte", 0, MOST_JOURNAL_BYTES, 0),
+        },
+    }
+}
+
 // The command on one file of this name, with its numbers.
 fn on_one(name: &str, found: &ArgMatches) -> OnOne
     ensures { IsOneWithin result }
@@ -295,9 +306,7 @@ fn on_one(name: &str, found: &ArgMatches) -> OnOne
             fuel,
             heads,
         },
-        _ => OnOne::Where {
-            byte: number_of(found, "byte", 0, MOST_JOURNAL_BYTES, 0),
-        },
+        _ => place_of(found),
     }
 }
 

@@ -10,6 +10,7 @@
 //! - `comparing`: two nets that are one up to numbers, and two that aren't
 //! - `limits`: rows of `steps` at the limits of terms
 //! - `outside`: `same` through `bench`, where a call of the source or of a sink fails
+//! - `stops`: where texts stop being terms
 #![tactic(auto)]
 
 #[cfg(test)]
@@ -26,5 +27,7 @@ mod fakes;
 mod limits;
 #[cfg(test)]
 mod outside;
+#[cfg(test)]
+mod stops;
 #[cfg(test)]
 mod texts;

@@ -1,7 +1,7 @@
 use Rattle.std.proofs.Common.{◌≡◌, suc, ◌+◌, ◌++◌, append_assoc, take, slice_index, sym, ap, ◌∙◌, arith}
-use Rattle.ol_bench.specs.Places.{blank, blanks}
-use Rattle.ol_bench.proofs.Blanks.{blanks_on}
-use Rattle.ol_bench.proofs.placing.put_blanks.Goals as goal
+use Rattle.ol_places.specs.Places.{blank, blanks}
+use Rattle.ol_places.proofs.Blanks.{blanks_on}
+use Rattle.ol_places.proofs.placing.put_blanks.Goals as goal
 
 pub loop-k-preserved : goal.loop-k-preserved
 loop-k-preserved c =

@@ -1,7 +1,7 @@
-//! The command `where`: the line and the column of a byte.
+//! The command `where` of a byte: its line and its column.
 
 ghost use Rattle.std.specs.Prelude.{◌≡◌, ◌≢◌, ℕ, ◌+◌, ◌-◌, ◌<◌, ◌≤◌, ◌++◌, ◌⊎◌, length, take, drop, count_by, slice_index, IfOk, OnOk};
-ghost use Rattle.ol_bench.specs.Places.{is_feed, blank, blanks, place_text, past_text, IsLineOf, IsWhere};
+ghost use Rattle.ol_places.specs.Places.{is_feed, blank, blanks, place_text, past_text, IsLineOf, IsWhere};
 
 use ol_memory::NoMemory;
 use ol_subjects::{Answer, End, put, put_number};
@@ -38,6 +38,14 @@ fn line_end(bytes: &[u8], at: usize) -> usize
     end
 }
 
+// Where the line of this place begins and ends.
+pub fn line_of(bytes: &[u8], at: usize) -> (usize, usize)
+    requires { at ≤ length bytes.now }
+    ensures { IsLineOf bytes.now at result.0 result.1 }
+{
+    (line_start(bytes, at), line_end(bytes, at))
+}
+
 // How many lines end in these bytes.
 fn lines_in(bytes: &[u8]) -> usize
     ensures { result ≡ count_by is_feed bytes.now }
@@ -70,7 +78,7 @@ fn put_blanks(text: &mut Vec<u8>, front: &[u8]) -> Result<(), NoMemory>
 }
 
 // The text of a place within the bytes, or at their end.
-fn place_text(
+pub fn place_text(
     alloc: Global,
     bytes: &[u8],
     at: usize,
@@ -116,8 +124,7 @@ pub fn whereabouts(alloc: Global, bytes: &[u8], at: usize) -> Result<Answer, NoM
         let end = End::No;
         return Ok(Answer { text, end });
     }
-    let start = line_start(bytes, at);
-    let last = line_end(bytes, at);
+    let (start, last) = line_of(bytes, at);
     let text = place_text(alloc, bytes, at, start, last)?;
     let end = End::Yes;
     Ok(Answer { text, end })

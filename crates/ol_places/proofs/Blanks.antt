@@ -3,7 +3,7 @@ use Rattle.std.proofs.Common.{◌≡◌, ℕ, zero, suc, ◌<◌, List, [], ◌�
 use Rattle.std.proofs.Common.{take, sym, ap, ◌∙◌, arith}
 use Rattle.std.proofs.lemmas.List.{append-nil}
 use Rattle.std.specs.Prelude.{slice_index}
-use Rattle.ol_bench.specs.Places.{blank, blanks}
+use Rattle.ol_places.specs.Places.{blank, blanks}
 
 -- one byte more
 pub blanks_on : (bytes : List ℕ) (k : ℕ) → k < length bytes →

@@ -1,0 +1,44 @@
+//! Where texts stop being terms, and what is wanted there.
+ghost use Rattle.std.specs.Prelude.{◌≤◌, length};
+
+use ol_places::stop;
+use ol_subjects::End;
+use std::alloc::Global;
+use std::process::Abort;
+use std::test::Fail;
+
+// Asserts what `stop` answers to a text.
+fn assert_row(rt: &impl Abort, alloc: Global, row: (&[u8], End, &str)) -> Result<(), Fail>
+    requires { length row.0.now ≤ 1048576 }
+{
+    let (text, end, wanted) = row;
+    let answer = stop(alloc, text).ok().ok_or("no memory")?;
+    assert!(rt; answer.text.as_slice() == wanted.as_bytes(), "{wanted}");
+    assert_eq!(rt; answer.end, end, "{wanted}");
+    Ok(())
+}
+
+#[test]
+fn texts_stop_where_something_is_wanted(rt: HostRuntime) -> Result<(), Fail> {
+    let bracket = "line 1, column 7\n(\\x. x\n      ^\nwanted: ) or more\n";
+    let further = "line 1, column 8\n(\\x. x))\n       ^\nwanted: the end or more\n";
+    let arrow = "line 2, column 4\n\\x -> x\n   ^\nwanted: . or a name\n";
+    let key = "line 1, column 4\n\\in. in\n   ^\nwanted: a longer word, since let and in are keywords\n";
+    let half = "line 1, column 4\nf \u{3b1} x\n   ^\nwanted: the second byte of \u{3bb}\n";
+    let rows: [(&[u8], End, &str); 10] = [
+        (b"\\x. x", End::Yes, "a term\n"),
+        (b"", End::No, "line 1, column 1\n\n^\nwanted: a term\n"),
+        (b"(\\x. x", End::No, bracket),
+        (b"(\\x. x))", End::No, further),
+        (b"# one\n\\x -> x\n", End::No, arrow),
+        (b"let", End::No, "line 1, column 4\nlet\n   ^\nwanted: a name\n"),
+        (b"let x", End::No, "line 1, column 6\nlet x\n     ^\nwanted: =\n"),
+        (b"let y = x", End::No, "line 1, column 10\nlet y = x\n         ^\nwanted: in or more\n"),
+        (b"\\in. in", End::No, key),
+        (b"f \xce\xb1 x", End::No, half),
+    ];
+    for row in rows {
+        assert_row(&rt, rt.alloc(), row)?;
+    }
+    Ok(())
+}
