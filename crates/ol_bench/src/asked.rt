@@ -10,9 +10,10 @@ ghost use Rattle.ol_bench.specs.Commands.{IsOneWithin, IsTwoWithin, IsAnswerToOn
 use ol_explain::{after, explained};
 use ol_limits::{Fuel, Heads, MOST_JOURNAL_BYTES};
 use ol_memory::NoMemory;
-use ol_orders::{Bounds, Order, counted, journal, steps};
+use ol_orders::{Bounds, Order, counted, journal};
 use ol_places::{stop, whereabouts};
 use ol_same::same;
+use ol_steps::{Shown, steps};
 use ol_subjects::{Answer, Subject, most_bytes};
 use ol_term::Translation;
 use std::alloc::Global;
@@ -58,8 +59,9 @@ pub enum OnOne {
     },
     /// Where a text stops being a term, and what is wanted there.
     Stop,
-    /// Leftmost reduction of a term, by at most `most` steps: any number.
+    /// Reduction of a term in an order, by at most `most` steps: any number.
     Steps {
+        how: Shown,
         most: u32,
     },
     /// Interactions and beta steps of three ways to reduce, each within its bound; of leftmost
@@ -107,8 +109,8 @@ impl OnOne {
                 let answer = stop(alloc, bytes)?;
                 Ok(answer)
             }
-            OnOne::Steps { most } => {
-                let answer = steps(alloc, bytes, most)?;
+            OnOne::Steps { how, most } => {
+                let answer = steps(alloc, bytes, how, most)?;
                 Ok(answer)
             }
             OnOne::Counts { subject, bounds } => {

@@ -9,6 +9,8 @@ use ol_limits::{
     Fuel, Heads, MOST_FUEL, MOST_HEADS, MOST_JOURNAL_BYTES, MOST_STEPS, PLAIN_FUEL, PLAIN_HEADS,
 };
 use ol_orders::{Bounds, Order};
+use ol_steps::Shown;
+use ol_strategies::Order as Reduction;
 use ol_subjects::Subject;
 use ol_term::Translation;
 use std::alloc::{AllocError, Global};
@@ -144,13 +146,19 @@ fn explain<'a>(alloc: Global) -> Result<Command<'a>, AllocError> {
 }
 
 fn steps<'a>(alloc: Global) -> Result<Command<'a>, AllocError> {
+    let order = Arg::new(alloc, "order")
+        .long("order")
+        .action(ArgAction::Set)
+        .value_parser(["leftmost", "head", "weak-head", "applicative", "value"].as_slice())
+        .help("which redex comes next, by itself the leftmost one");
     let command = Command::new(alloc, "steps")
-        .about("The terms of leftmost reduction, one under another, with the address of each redex")
+        .about("The terms of reduction in an order, one under another, with the address of each redex")
         .arg(flag(
             alloc,
             "leftmost",
             "the leftmost redex comes first, as it does by itself",
         ))?
+        .arg(order)?
         .arg(number(alloc, "most", 0, MOST_STEPS as i64, "the most steps, by itself 100"))?;
     of_term(alloc, command, OF_TERM)
 }
@@ -261,6 +269,17 @@ fn term_of(alloc: Global, found: &ArgMatches) -> Result<Option<Given>, Error> {
     }
 }
 
+// The order of reduction, the leftmost one by itself.
+fn reduction_of(found: &ArgMatches) -> Reduction {
+    match found.get_str("order") {
+        Some("head") => Reduction::Head,
+        Some("weak-head") => Reduction::WeakHead,
+        Some("applicative") => Reduction::Applicative,
+        Some("value") => Reduction::Value,
+        _ => Reduction::Leftmost,
+    }
+}
+
 fn order_of(found: &ArgMatches) -> Order {
     match found.get_str("order") {
         Some("demand") => Order::Demand,
@@ -290,6 +309,9 @@ fn on_one(name: &str, found: &ArgMatches) -> OnOne
     let heads = Heads::of(number_of(found, "heads", 1, MOST_HEADS, PLAIN_HEADS));
     match name {
         "steps" => OnOne::Steps {
+            how: Shown {
+                order: reduction_of(found),
+            },
             most: number_of(found, "most", 0, MOST_STEPS, 100),
         },
         "counts" => OnOne::Counts {

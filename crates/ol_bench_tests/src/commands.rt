@@ -3,7 +3,7 @@ ghost use Rattle.std.specs.Prelude.{◌≤◌};
 ghost use Rattle.ol_bench.specs.Commands.{IsOneWithin};
 ghost use Rattle.ol_limits.specs.Limits.{most_fuel};
 
-use crate::fakes::named;
+use crate::fakes::{leftmost, named};
 use ol_bench::{Asked, OnOne, Status, bench};
 use ol_io::{MemFile, MemSink, MemSource};
 use ol_limits::{Fuel, Heads};
@@ -122,7 +122,7 @@ fn command(command: &str, number: u32) -> OnOne
     let first = Subject::Term(Translation::One);
     match command {
         "where" => OnOne::Where { byte: number },
-        "steps" => OnOne::Steps { most: number },
+        "steps" => leftmost(number),
         "counts" => counts(term, number),
         "counts --net" => counts(Subject::Net, number),
         "least" => journal(term, Order::Least, number),

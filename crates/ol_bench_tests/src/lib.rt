@@ -6,10 +6,11 @@
 //! - `after`: rows of `after` over the fakes
 //! - `explain`: rows of `explain` over the fakes
 //! - `texts`: rows of commands on a term that stands on the command line
-//! - `fakes`: files in memory, and their names
+//! - `fakes`: files in memory, and their names; leftmost reduction of a term
 //! - `comparing`: two nets that are one up to numbers, and two that aren't
 //! - `limits`: rows of `steps` at the limits of terms
 //! - `outside`: `same` through `bench`, where a call of the source or of a sink fails
+//! - `steps`: reduction in each order, and terms that come back
 //! - `stops`: where texts stop being terms
 #![tactic(auto)]
 
@@ -27,6 +28,8 @@ mod fakes;
 mod limits;
 #[cfg(test)]
 mod outside;
+#[cfg(test)]
+mod steps;
 #[cfg(test)]
 mod stops;
 #[cfg(test)]

@@ -1,7 +1,7 @@
 //! Rows of commands on a term that stands on the command line, over the fakes.
 ghost use Rattle.ol_bench.specs.Commands.{IsWithinBounds};
 
-use crate::fakes::{file, named, written};
+use crate::fakes::{file, leftmost, named, written};
 use ol_bench::{Asked, OnOne, OnTwo, Status, bench};
 use ol_io::{MemSink, MemSource};
 use ol_subjects::Subject;
@@ -43,7 +43,7 @@ fn a_term_on_the_line_is_read(rt: HostRuntime) -> Result<(), Fail> {
     let reduced = "(\\a. a) y\n  at .\ny\nnormal after 1 steps\n";
     let asked = Asked::One {
         file: written(alloc, "(\\x. x) y")?,
-        command: OnOne::Steps { most: 9 },
+        command: leftmost(9),
     };
     assert_asked(&rt, alloc, &asked, (Status::Yes, reduced, ""))?;
     let subject = Subject::Term(Translation::Two);
@@ -63,7 +63,7 @@ fn a_long_term_on_the_line_is_refused(rt: HostRuntime) -> Result<(), Fail> {
     let long = " ".repeat(alloc, 1_048_577)?;
     let asked = Asked::One {
         file: written(alloc, &long)?,
-        command: OnOne::Steps { most: 9 },
+        command: leftmost(9),
     };
     let row = (Status::Refused, "", "limit bytes 1048576\n");
     assert_asked(&rt, alloc, &asked, row)

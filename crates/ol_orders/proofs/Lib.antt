@@ -1,5 +1,3 @@
-pub mod Named
-pub mod Walks
 pub mod OneSubject
 pub mod Traced
 pub mod ActivePairs

@@ -1,5 +1,4 @@
 -- What clauses of public functions rest on.
-pub mod Steps
 pub mod Tables
 pub mod Rounds
 pub mod Laws

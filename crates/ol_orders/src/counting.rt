@@ -7,13 +7,13 @@ ghost use Rattle.ol_orders.specs.Tables.{at_right, cell_digits, end_of, in_row, 
 ghost use Rattle.ol_orders.specs.Counted.{IsOfNet, IsOfTerm};
 ghost use Rattle.ol_limits.specs.Limits.{most_net_bytes, most_nodes, most_term_bytes};
 
-use crate::stepping::is_within;
 use ol_beta::{BetaFault, beta, redex};
 use ol_demand::{Demanded, demand};
 use ol_limits::{Fuel, Heads};
 use ol_memory::NoMemory;
 use ol_net::Net;
 use ol_rules::{Counts, Ended, counts, run};
+use ol_steps::is_within;
 use ol_subjects::{
     Answer, End, NetRead, Subject, TermRead, put, put_number, read_subject, read_term,
 };

@@ -2,8 +2,8 @@ use Rattle.std.proofs.Common.{◌<◌, ◌≤◌, ◌⊎◌, inl, inr, refl, sym
 use Rattle.std.proofs.lemmas.Bool.{cases_lt}
 use Rattle.ol_term.specs.Trees.{tree_of, term_size, depth}
 use Rattle.ol_beta.specs.Beta.{IsPast}
-use Rattle.ol_orders.specs.Steps.{IsStepsOf, steps, too_large}
-use Rattle.ol_orders.proofs.stepping.of_file.Goals as goal
+use Rattle.ol_steps.specs.Steps.{IsStepsOf, steps, too_large}
+use Rattle.ol_steps.proofs.stepping.of_file.Goals as goal
 
 pub returns-in_ok-answer : goal.returns-in_ok-answer
 returns-in_ok-answer c = λ bytes i. steps i (c.if-is_within.ensures.0 refl) c.in_ok-answer.ensures
@@ -11,7 +11,7 @@ returns-in_ok-answer c = λ bytes i. steps i (c.if-is_within.ensures.0 refl) c.i
 pub returns-in_ok-answer-2 : goal.returns-in_ok-answer-2
 returns-in_ok-answer-2 c = λ bytes i.
     let t = tree_of c.args.file.term in
-    subst (λ e. IsStepsOf bytes c.args.most c.in_ok-answer-2.answer.text.items e) (sym c.in_ok-answer-2.ensures.no)
+    subst (λ e. IsStepsOf bytes c.args.how c.args.most c.in_ok-answer-2.answer.text.items e) (sym c.in_ok-answer-2.ensures.no)
     (too_large i (go (cases_lt 100000 (term_size t)) (cases_lt 1000 (depth t))) c.in_ok-answer-2.ensures.text)
   where
     go : (100000 < term_size (tree_of c.args.file.term))

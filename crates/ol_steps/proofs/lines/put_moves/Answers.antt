@@ -2,7 +2,7 @@ use Rattle.std.proofs.Common.{◌≡◌, suc, ◌+◌, ◌++◌, append_assoc, t
 use Rattle.std.specs.Fmt.{decimal}
 use Rattle.std.specs.List.{flat_map}
 use Rattle.ol_beta.proofs.Moves.{moves_on}
-use Rattle.ol_orders.proofs.stepping.put_moves.Goals as goal
+use Rattle.ol_steps.proofs.lines.put_moves.Goals as goal
 
 pub loop-k-preserved : goal.loop-k-preserved
 loop-k-preserved c =

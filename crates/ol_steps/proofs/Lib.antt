@@ -1,0 +1,5 @@
+pub mod Named
+pub mod Keeping
+pub mod Walks
+pub mod WeakHeads
+pub mod Returns

@@ -1,0 +1,5 @@
+-- What clauses of public functions rest on.
+pub mod Steps
+pub mod Laws
+-- What only contracts of private functions and proofs cite.
+pub mod Kept

@@ -1,0 +1,12 @@
+//! Laws of terms that come back: no code, only what follows from the definitions.
+
+ghost use Rattle.ol_steps.specs.Laws.{ReturnIsEndless, ReturnHasNone};
+
+/// Where a term of an order's walk is that of an earlier step, the order has no end: each term that
+/// it leads to from the first has a next redex. So the first term has no normal form, if the order
+/// is leftmost; no head normal form, if it is head reduction; and no weak head normal form, if it
+/// is weak head reduction.
+pub fn returns_are_endless()
+    ensures endless { ReturnIsEndless }
+    ensures none { ReturnHasNone }
+{}

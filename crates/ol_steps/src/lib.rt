@@ -1,0 +1,17 @@
+//! Reduction of a term in an order, term by term: the command `steps`.
+//!
+//! - `stepping`: the terms of a file's reduction, up to where it ends or a term comes back
+//! - `earlier`: the terms of earlier steps
+//! - `finding`: whether a term is that of an earlier step
+//! - `lines`: the lines of an answer
+//! - `laws`: what a term that comes back says
+#![tactic(auto)]
+
+mod earlier;
+mod finding;
+mod laws;
+mod lines;
+mod stepping;
+
+pub use laws::returns_are_endless;
+pub use stepping::{Shown, is_within, steps};

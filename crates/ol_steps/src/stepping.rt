@@ -1,0 +1,151 @@
+//! The terms of a file's reduction, one after another.
+
+ghost use Rattle.std.specs.Prelude.{◌≡◌, ℕ, List, ◌<◌, ◌≤◌, ◌^◌, ◌↔◌, length, true, IfOk, IsTrue};
+ghost use Rattle.ol_term.specs.declared.translations.Translation.TheVariants.{Two};
+ghost use Rattle.ol_term.specs.Trees.{tree_of, is_below, is_named_below, term_size, depth};
+ghost use Rattle.ol_beta.specs.Beta.{IsWithin};
+ghost use Rattle.ol_limits.specs.Limits.{most_term_bytes};
+ghost use Rattle.ol_subjects.specs.Subjects.{IsTerm};
+ghost use Rattle.ol_steps.specs.Steps.{past_line, Tells, IsStepsOf};
+
+use crate::earlier::Earlier;
+use crate::finding::step_of;
+use crate::lines::{
+    past_line, put_address, put_last, put_term, reached_end, reached_words, return_line,
+};
+use ol_beta::{BetaFault, beta};
+use ol_limits::{MOST_DEPTH, MOST_SIZE};
+use ol_memory::NoMemory;
+use ol_strategies::{Order, reached, redex};
+use ol_subjects::{Answer, End, TermRead, put, read_term};
+use ol_term::{Names, Term, TermFile, Translation, depth, size};
+use std::alloc::Global;
+use std::mem;
+
+/// How reduction is shown.
+#[derive(Clone, Copy, Debug, PartialEq, Eq)]
+pub struct Shown {
+    /// Which redex is contracted next.
+    pub order: Order,
+}
+
+/// Whether a term is one that steps are made from: it has at most 100,000 constructors, at most
+/// 1,000 of them one within another.
+pub fn is_within(term: &Term) -> bool
+    requires few { term_size (tree_of term.now) < 2 ^ 64 }
+    ensures { IsTrue result ↔ IsWithin (tree_of term.now) }
+{
+    size(term) <= MOST_SIZE as u64 && depth(term) <= MOST_DEPTH as u64
+}
+
+// The terms from one that is within bounds, by at most so many steps.
+fn walk(alloc: Global, term: Term, names: &Names, how: Shown, most: u32) -> Result<Answer, NoMemory>
+    requires bound { is_below 0 (tree_of term) ≡ true }
+    requires named { is_named_below (length names.now) (tree_of term) ≡ true }
+    requires within { IsWithin (tree_of term) }
+    ensures { IfOk result (λ a. Tells how names.now most (tree_of term) a.text.items a.end) }
+{
+    let mut text = Vec::new(alloc);
+    let mut kept: Vec<Earlier> = Vec::new(alloc);
+    let mut here = term;
+    loop {
+        let made = kept.len();
+        put_term(alloc, &mut text, &here, names)?;
+        if let Some(earlier) = step_of(&kept, &here) {
+            let line = return_line(alloc, how.order, made, earlier)?;
+            put(&mut text, &line)?;
+            let end = End::No;
+            return Ok(Answer { text, end });
+        }
+        let Some(at) = redex(alloc, how.order, &here)? else {
+            let word = reached(how.order, &here);
+            put_last(alloc, &mut text, reached_words(word).as_bytes(), made)?;
+            let end = reached_end(word);
+            return Ok(Answer { text, end });
+        };
+        put_address(alloc, &mut text, &at)?;
+        if made == most as usize {
+            put_last(alloc, &mut text, b"a redex is left", made)?;
+            let end = End::No;
+            return Ok(Answer { text, end });
+        }
+        match beta(alloc, &here, &at) {
+            Ok(next) => {
+                let before = mem::replace(&mut here, next);
+                kept.push(Earlier::of(before))?;
+            }
+            Err(fault) => match fault {
+                BetaFault::Past { size, depth } => {
+                    let line = past_line(alloc, made + 1, size, depth)?;
+                    put(&mut text, &line)?;
+                    let end = End::No;
+                    return Ok(Answer { text, end });
+                }
+                BetaFault::NotRedex => unreachable!(),
+                BetaFault::NoMemory => return Err(NoMemory),
+            },
+        }
+    }
+}
+
+// The answer where the term itself is out of bounds.
+fn too_large(alloc: Global, term: &Term) -> Result<Answer, NoMemory>
+    requires few { term_size (tree_of term.now) < 2 ^ 64 }
+    ensures text { IfOk result (λ a. a.text.items
+        ≡ past_line 0 (term_size (tree_of term.now)) (depth (tree_of term.now))) }
+    ensures no { IfOk result (λ a. a.end ≡ End.No) }
+{
+    let text = past_line(alloc, 0, size(term), depth(term))?;
+    let end = End::No;
+    Ok(Answer { text, end })
+}
+
+// The answer for the term of a file.
+fn of_file(alloc: Global, file: TermFile, how: Shown, most: u32) -> Result<Answer, NoMemory>
+    requires few { term_size (tree_of file.term) < 2 ^ 64 }
+    ensures { IfOk result (λ a. (bytes : List ℕ) →
+        IsTerm Two bytes (tree_of file.term) file.names
+        → IsStepsOf bytes how most a.text.items a.end) }
+{
+    if is_within(&file.term) {
+        let answer = walk(alloc, file.term, &file.names, how, most)?;
+        Ok(answer)
+    } else {
+        let answer = too_large(alloc, &file.term)?;
+        Ok(answer)
+    }
+}
+
+/// The terms of reduction in an order, one under another, each with the address of the redex that
+/// comes next, by at most `most` steps. The file has a term that `ol` takes by translation 2, in at
+/// most 1,048,576 bytes. Step 0 is the term itself.
+///
+/// - `Yes`: the last term is what the order ends in, and the last line has the order's word for it:
+///   a normal form, for leftmost and applicative order; a head normal form; a weak head normal form;
+///   for call-by-value a value.
+/// - `No`: call-by-value is stuck at a free name; or the term of the last step is that of an earlier
+///   one; or all steps were made and a redex is left; or the next step would give a term of more than
+///   100,000 constructors or of more than 1,000 of them one within another, whose size and depth are
+///   told.
+/// - `Refused`: `ol` refuses the file, by this line.
+///
+/// A term that comes back ends the answer at the first step whose term is that of an earlier step.
+/// Then the order has no end, and the last line says what the source hasn't got
+/// (`returns_are_endless`).
+///
+/// `NoMemory`: no memory was found.
+pub fn steps(alloc: Global, bytes: &[u8], how: Shown, most: u32) -> Result<Answer, NoMemory>
+    requires short { length bytes.now ≤ most_term_bytes }
+    ensures { IfOk result (λ a. IsStepsOf bytes.now how most a.text.items a.end) }
+{
+    match read_term(alloc, bytes, Translation::Two)? {
+        TermRead::Refused(text) => {
+            let end = End::Refused;
+            Ok(Answer { text, end })
+        }
+        TermRead::Term { file, .. } => {
+            let answer = of_file(alloc, file, how, most)?;
+            Ok(answer)
+        }
+    }
+}
