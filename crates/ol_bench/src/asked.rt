@@ -11,7 +11,7 @@ use ol_explain::{after, explained};
 use ol_limits::{Fuel, Heads, MOST_JOURNAL_BYTES};
 use ol_memory::NoMemory;
 use ol_orders::{Bounds, Order, counted, journal};
-use ol_places::{stop, whereabouts};
+use ol_places::{free_names, stop, whereabouts};
 use ol_same::same;
 use ol_steps::{Shown, steps};
 use ol_subjects::{Answer, Subject, most_bytes};
@@ -59,6 +59,8 @@ pub enum OnOne {
     },
     /// Where a text stops being a term, and what is wanted there.
     Stop,
+    /// Where names stand free in a text.
+    Free,
     /// Reduction of a term in an order, by at most `most` steps: any number.
     Steps {
         how: Shown,
@@ -88,6 +90,7 @@ impl OnOne {
         match self {
             OnOne::Where { .. } => Content::Journal,
             OnOne::Stop => Content::Subject(TERM),
+            OnOne::Free => Content::Subject(TERM),
             OnOne::Steps { .. } => Content::Subject(TERM),
             OnOne::Counts { subject, .. } => Content::Subject(subject),
             OnOne::Journal { subject, .. } => Content::Subject(subject),
@@ -107,6 +110,10 @@ impl OnOne {
             }
             OnOne::Stop => {
                 let answer = stop(alloc, bytes)?;
+                Ok(answer)
+            }
+            OnOne::Free => {
+                let answer = free_names(alloc, bytes)?;
                 Ok(answer)
             }
             OnOne::Steps { how, most } => {

@@ -188,6 +188,11 @@ fn places<'a>(alloc: Global) -> Result<Command<'a>, AllocError> {
         .arg(byte)
 }
 
+fn free<'a>(alloc: Global) -> Result<Command<'a>, AllocError> {
+    let command = Command::new(alloc, "free").about("Where names stand free in a term");
+    of_term(alloc, command, OF_TERM)
+}
+
 fn same<'a>(alloc: Global) -> Result<Command<'a>, AllocError> {
     let help = "a file with a net, `-` for standard input";
     Command::new(alloc, "same")
@@ -209,7 +214,8 @@ fn command<'a>(alloc: Global) -> Result<Command<'a>, AllocError> {
         .subcommand(steps(alloc)?)?
         .subcommand(counts(alloc)?)?
         .subcommand(same(alloc)?)?
-        .subcommand(places(alloc)?)
+        .subcommand(places(alloc)?)?
+        .subcommand(free(alloc)?)
 }
 
 // The number of an option: what it is by itself where it isn't given, and one of its ends where it
@@ -328,6 +334,7 @@ fn on_one(name: &str, found: &ArgMatches) -> OnOne
             fuel,
             heads,
         },
+        "free" => OnOne::Free,
         _ => place_of(found),
     }
 }

@@ -23,7 +23,8 @@ fn texts_stop_where_something_is_wanted(rt: HostRuntime) -> Result<(), Fail> {
     let bracket = "line 1, column 7\n(\\x. x\n      ^\nwanted: ) or more\n";
     let further = "line 1, column 8\n(\\x. x))\n       ^\nwanted: the end or more\n";
     let arrow = "line 2, column 4\n\\x -> x\n   ^\nwanted: . or a name\n";
-    let key = "line 1, column 4\n\\in. in\n   ^\nwanted: a longer word, since let and in are keywords\n";
+    let key =
+        "line 1, column 4\n\\in. in\n   ^\nwanted: a longer word, since let and in are keywords\n";
     let half = "line 1, column 4\nf \u{3b1} x\n   ^\nwanted: the second byte of \u{3bb}\n";
     let rows: [(&[u8], End, &str); 10] = [
         (b"\\x. x", End::Yes, "a term\n"),
@@ -31,9 +32,21 @@ fn texts_stop_where_something_is_wanted(rt: HostRuntime) -> Result<(), Fail> {
         (b"(\\x. x", End::No, bracket),
         (b"(\\x. x))", End::No, further),
         (b"# one\n\\x -> x\n", End::No, arrow),
-        (b"let", End::No, "line 1, column 4\nlet\n   ^\nwanted: a name\n"),
-        (b"let x", End::No, "line 1, column 6\nlet x\n     ^\nwanted: =\n"),
-        (b"let y = x", End::No, "line 1, column 10\nlet y = x\n         ^\nwanted: in or more\n"),
+        (
+            b"let",
+            End::No,
+            "line 1, column 4\nlet\n   ^\nwanted: a name\n",
+        ),
+        (
+            b"let x",
+            End::No,
+            "line 1, column 6\nlet x\n     ^\nwanted: =\n",
+        ),
+        (
+            b"let y = x",
+            End::No,
+            "line 1, column 10\nlet y = x\n         ^\nwanted: in or more\n",
+        ),
         (b"\\in. in", End::No, key),
         (b"f \xce\xb1 x", End::No, half),
     ];

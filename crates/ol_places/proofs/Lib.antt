@@ -1,2 +1,5 @@
 pub mod Blanks
 pub mod Stops
+pub mod Marks
+pub mod Lines
+pub mod Notes

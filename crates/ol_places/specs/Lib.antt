@@ -1,3 +1,4 @@
 -- What clauses of public functions rest on.
 pub mod Places
 pub mod Wanted
+pub mod Free
