@@ -152,14 +152,22 @@ fn steps<'a>(alloc: Global) -> Result<Command<'a>, AllocError> {
         .value_parser(["leftmost", "head", "weak-head", "applicative", "value"].as_slice())
         .help("which redex comes next, by itself the leftmost one");
     let command = Command::new(alloc, "steps")
-        .about("The terms of reduction in an order, one under another, with the address of each redex")
+        .about(
+            "The terms of reduction in an order, one under another, with the address of each redex",
+        )
         .arg(flag(
             alloc,
             "leftmost",
             "the leftmost redex comes first, as it does by itself",
         ))?
         .arg(order)?
-        .arg(number(alloc, "most", 0, MOST_STEPS as i64, "the most steps, by itself 100"))?;
+        .arg(number(
+            alloc,
+            "most",
+            0,
+            MOST_STEPS as i64,
+            "the most steps, by itself 100",
+        ))?;
     of_term(alloc, command, OF_TERM)
 }
 
