@@ -28,8 +28,6 @@ mod fakes;
 #[cfg(test)]
 mod frees;
 #[cfg(test)]
-mod frees;
-#[cfg(test)]
 mod limits;
 #[cfg(test)]
 mod outside;
