@@ -1,6 +1,6 @@
 //! The command `after`: the net after the first lines of a journal.
 
-ghost use Rattle.std.specs.Prelude.{◌≡◌, ◌≤◌, length, IfOk};
+ghost use Rattle.std.specs.Prelude.{◌≡◌, ◌+◌, ◌≤◌, length, IfOk};
 ghost use Rattle.ol_view.specs.Laws.{IsTable};
 ghost use Rattle.ol_explain.specs.Afters.{IsAfter, IsAfterOf, line_with, shown_text};
 ghost use Rattle.ol_replay.specs.Replays.{names_of};
