@@ -18,6 +18,7 @@ use Rattle.ol_places.specs.Places.{IsWhere}
 use Rattle.ol_places.specs.Wanted.{IsStop}
 use Rattle.ol_places.specs.Free.{IsFree}
 use Rattle.ol_steps.specs.Steps.{IsStepsOf}
+use Rattle.ol_derivations.specs.Derivations.{IsDerivation}
 use Rattle.ol_orders.specs.Tables.{IsCounted}
 use Rattle.ol_orders.specs.Orders.{IsJournal}
 use Rattle.ol_explain.specs.Afters.{IsAfter}
@@ -31,6 +32,7 @@ abbrev pub content_of : OnOne → Content
 content_of (one.Where byte) = Journal
 content_of one.Stop = Subject (subject.Term translation.Two)
 content_of one.Free = Subject (subject.Term translation.Two)
+content_of one.Derivation = Subject (subject.Term translation.Two)
 content_of (one.Steps how most) = Subject (subject.Term translation.Two)
 content_of (one.Counts s bounds) = Subject s
 content_of (one.Journal s order fuel heads) = Subject s
@@ -40,6 +42,7 @@ abbrev pub IsOneWithin : OnOne → Type 0
 IsOneWithin (one.Where byte) = Unit {0}
 IsOneWithin one.Stop = Unit {0}
 IsOneWithin one.Free = Unit {0}
+IsOneWithin one.Derivation = Unit {0}
 IsOneWithin (one.Steps how most) = Unit {0}
 IsOneWithin (one.Counts s bounds) = Unit {0}
 IsOneWithin (one.Journal s order fuel heads) = Unit {0}
@@ -49,6 +52,7 @@ abbrev pub IsAnswerToOne : OnOne → List ℕ → List ℕ → End → Type 0
 IsAnswerToOne (one.Where byte) bytes text e = IsWhere bytes byte text e
 IsAnswerToOne one.Stop bytes text e = IsStop bytes text e
 IsAnswerToOne one.Free bytes text e = IsFree bytes text e
+IsAnswerToOne one.Derivation bytes text e = IsDerivation bytes text e
 IsAnswerToOne (one.Steps how most) bytes text e = IsStepsOf bytes how most text e
 IsAnswerToOne (one.Counts s bounds) bytes text e = IsCounted bytes bounds text s e
 IsAnswerToOne (one.Journal s order fuel heads) bytes text e =

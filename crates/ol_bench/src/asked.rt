@@ -7,6 +7,7 @@ ghost use Rattle.std.specs.Prelude.{◌≡◌, ◌≤◌, length, IfOk};
 ghost use Rattle.ol_bench.specs.Inputs.{most_of};
 ghost use Rattle.ol_bench.specs.Commands.{IsOneWithin, IsTwoWithin, IsAnswerToOne, IsAnswerToTwo, content_of, contents_of};
 
+use ol_derivations::derivation;
 use ol_explain::{after, explained};
 use ol_limits::{Fuel, Heads, MOST_JOURNAL_BYTES};
 use ol_memory::NoMemory;
@@ -61,6 +62,8 @@ pub enum OnOne {
     Stop,
     /// Where names stand free in a text.
     Free,
+    /// What is said of a derivation: terms, one a line, each by the one before it.
+    Derivation,
     /// Reduction of a term in an order, by at most `most` steps: any number.
     Steps {
         how: Shown,
@@ -91,6 +94,7 @@ impl OnOne {
             OnOne::Where { .. } => Content::Journal,
             OnOne::Stop => Content::Subject(TERM),
             OnOne::Free => Content::Subject(TERM),
+            OnOne::Derivation => Content::Subject(TERM),
             OnOne::Steps { .. } => Content::Subject(TERM),
             OnOne::Counts { subject, .. } => Content::Subject(subject),
             OnOne::Journal { subject, .. } => Content::Subject(subject),
@@ -114,6 +118,10 @@ impl OnOne {
             }
             OnOne::Free => {
                 let answer = free_names(alloc, bytes)?;
+                Ok(answer)
+            }
+            OnOne::Derivation => {
+                let answer = derivation(alloc, bytes)?;
                 Ok(answer)
             }
             OnOne::Steps { how, most } => {

@@ -201,6 +201,13 @@ fn free<'a>(alloc: Global) -> Result<Command<'a>, AllocError> {
     of_term(alloc, command, OF_TERM)
 }
 
+fn derivation<'a>(alloc: Global) -> Result<Command<'a>, AllocError> {
+    let help = "the file with one term a line, `-` for standard input";
+    Command::new(alloc, "derivation")
+        .about("Whether each term of a derivation is one beta step from the one before it")
+        .arg(file(alloc, "name", help).required(true))
+}
+
 fn same<'a>(alloc: Global) -> Result<Command<'a>, AllocError> {
     let help = "a file with a net, `-` for standard input";
     Command::new(alloc, "same")
@@ -223,7 +230,8 @@ fn command<'a>(alloc: Global) -> Result<Command<'a>, AllocError> {
         .subcommand(counts(alloc)?)?
         .subcommand(same(alloc)?)?
         .subcommand(places(alloc)?)?
-        .subcommand(free(alloc)?)
+        .subcommand(free(alloc)?)?
+        .subcommand(derivation(alloc)?)
 }
 
 // The number of an option: what it is by itself where it isn't given, and one of its ends where it
@@ -343,6 +351,7 @@ fn on_one(name: &str, found: &ArgMatches) -> OnOne
             heads,
         },
         "free" => OnOne::Free,
+        "derivation" => OnOne::Derivation,
         _ => place_of(found),
     }
 }

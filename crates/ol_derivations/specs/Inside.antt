@@ -1,0 +1,39 @@
+-- Private: what is found on the way to an answer.
+use Rattle.std.specs.Prelude.{◌≡◌, ℕ, ◌+◌, ◌<◌, true, false, List, Option, Some, None, reverse}
+use Rattle.std.specs.Option.{option_map}
+use Rattle.std.specs.declared.vec.Vec.{Vec}
+use Rattle.std.specs.declared.alloc.Global.{Global}
+use Rattle.ol_term.specs.Trees.{Tree, tree_of, term_size}
+use Rattle.ol_derivations.specs.Steps.{IsFirstStep, IsNoStep}
+use Rattle.ol_derivations.specs.Lines.{is_left_out}
+use Rattle.ol_derivations.specs.Derivations.{Terms, IsTermLine, IsNoTermLine}
+use Rattle.ol_derivations.specs.declared.lines.Read as reads
+use Rattle.ol_derivations.specs.declared.lines.Read.TheVariants as read
+use Rattle.ol_derivations.specs.declared.holding.Last.{Last}
+use Rattle.ol_derivations.specs.declared.holding.Sofar.{Sofar}
+
+-- the first address at which contraction gives u, where there is one
+abbrev pub IsStepFound : (t u : Tree) → Option (List ℕ) → Type 0
+IsStepFound t u None = IsNoStep t u
+IsStepFound t u (Some at) = IsFirstStep t u at
+
+-- an address whose moves are kept last first
+abbrev pub address_of : Option (Vec ℕ Global) → Option (List ℕ)
+address_of found = option_map (λ moves. reverse moves.items) found
+
+-- what a line has
+abbrev pub IsRead : List ℕ → reads.Read → Type 0
+IsRead line read.LeftOut = is_left_out line ≡ true
+IsRead line (read.NoTerm words) = (is_left_out line ≡ false) × IsNoTermLine line words.items
+IsRead line (read.Term file) = (is_left_out line ≡ false) × IsTermLine line (tree_of file.term) file.names
+
+-- how many constructors more a term may have, or that it has too many
+abbrev pub IsLeft : ℕ → Tree → Option ℕ → Type 0
+IsLeft most t None = most < term_size t
+IsLeft most t (Some left) = left + term_size t ≡ most
+
+abbrev pub last_of : Option Last → Option (ℕ × Tree)
+last_of last = option_map (λ l. (l.line, tree_of l.term)) last
+
+abbrev pub terms_of : Sofar → Terms
+terms_of sofar = record { table = sofar.table; last = last_of sofar.last }

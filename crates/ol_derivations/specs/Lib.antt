@@ -1,0 +1,8 @@
+-- What clauses of public functions rest on.
+pub mod Lines
+pub mod Tables
+pub mod Steps
+pub mod Verdicts
+pub mod Derivations
+-- What only contracts of private functions and proofs cite.
+pub mod Inside

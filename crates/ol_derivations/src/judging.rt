@@ -1,0 +1,90 @@
+//! The verdict on a term of a derivation, by the one before it.
+
+ghost use Rattle.std.specs.Prelude.{◌≡◌, ◌↔◌, ◌≤◌, true, Some, IfOk};
+ghost use Rattle.ol_term.specs.Trees.{tree_of};
+ghost use Rattle.ol_beta.specs.Beta.{IsWithin};
+ghost use Rattle.ol_beta.specs.Leftmost.{leftmost};
+ghost use Rattle.ol_derivations.specs.Verdicts.{IsVerdict, is_fine};
+
+use crate::stepping::step_found;
+use ol_beta::{Address, redex};
+use ol_memory::NoMemory;
+use ol_term::{Term, alpha_eq};
+use std::alloc::Global;
+
+/// What is said of a term, by the one before it. The first that fits is the verdict.
+#[derive(Debug, Drop)]
+pub enum Verdict {
+    /// One beta step leads to it, at the address with these moves: 0 leads into the body of an
+    /// abstraction, 1 into a function, 2 into an argument. Where several redexes give the term, it
+    /// is the first address in preorder. It is told whether this is the leftmost redex.
+    Step { at: Vec<u8>, leftmost: bool },
+    /// It is the same term, up to the names of binders.
+    Same,
+    /// No beta step leads to it.
+    NoStep,
+}
+
+impl Verdict {
+    /// Whether a derivation may go on so: by one beta step, or with the same term.
+    pub fn is_fine(&self) -> bool
+        ensures { result ≡ is_fine self.now }
+    {
+        match self {
+            Verdict::Step { .. } => true,
+            Verdict::Same => true,
+            Verdict::NoStep => false,
+        }
+    }
+}
+
+// The moves of an address.
+fn moves_of(alloc: Global, at: &Address) -> Result<Vec<u8>, NoMemory>
+    ensures { IfOk result (λ moves. moves.items ≡ at.now) }
+{
+    let mut moves: Vec<u8> = Vec::new(alloc);
+    for k in 0..at.len() {
+        let Some(to) = at.get(k) else { unreachable!() };
+        moves.push(to)?;
+    }
+    Ok(moves)
+}
+
+// Whether an address is that of the leftmost redex of a term.
+fn is_leftmost(alloc: Global, t: &Term, at: &[u8]) -> Result<bool, NoMemory>
+    requires within { IsWithin (tree_of t.now) }
+    ensures { IfOk result (λ r. (r ≡ true) ↔ (leftmost (tree_of t.now) ≡ Some at.now)) }
+{
+    match redex(alloc, t)? {
+        None => Ok(false),
+        Some(first) => {
+            let moves = moves_of(alloc, &first)?;
+            Ok(moves.as_slice() == at)
+        }
+    }
+}
+
+/// The verdict on u, by the term t before it.
+///
+/// Of t, at most 1,000 constructors stand one within another, and it has at most 100,000.
+/// `NoMemory`: no memory was found.
+pub fn judge(alloc: Global, t: &Term, u: &Term) -> Result<Verdict, NoMemory>
+    requires within { IsWithin (tree_of t.now) }
+    ensures { IfOk result (IsVerdict (tree_of t.now) (tree_of u.now)) }
+{
+    match step_found(alloc, t, u)? {
+        Some(found) => {
+            let mut at = found;
+            at.reverse();
+            let leftmost = is_leftmost(alloc, t, &at)?;
+            Ok(Verdict::Step { at, leftmost })
+        }
+        None => {
+            if alpha_eq(t, u) {
+                Ok(Verdict::Same)
+            } else {
+                Ok(Verdict::NoStep)
+            }
+        }
+    }
+}
