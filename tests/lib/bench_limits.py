@@ -19,13 +19,13 @@ import summing
 import which_ol
 
 JOURNAL, NET = 402_653_184, 33_554_432
-YES, NO, REFUSED = 0, 1, 3
+YES, REFUSED, BAD_TEXT = 0, 3, 12
 TERM, WIRE = rb"(\x. x) (\y. y)", b"ol net 1\nfree 2\nlink f0 f1\n"
 TOO_LONG_JOURNAL, TOO_LONG_NET = "limit journal 402653184", "limit net 33554432"
 
 # What is run, the status, and how the first line begins, on standard output or on standard error.
 ROWS = [
-    ("a journal of 402,653,184 line feeds", ["explain", "term", "journal"], NO, "bad text at line 1"),
+    ("a journal of 402,653,184 line feeds", ["explain", "term", "journal"], BAD_TEXT, "bad text at line 1"),
     ("one more", ["explain", "term", "longer journal"], REFUSED, TOO_LONG_JOURNAL),
     ("one more, for after", ["after", "1", "term", "longer journal"], REFUSED, TOO_LONG_JOURNAL),
     ("a text of 402,653,184 bytes", ["where", "journal", "402653184"], YES, "line 402653185, column 1"),

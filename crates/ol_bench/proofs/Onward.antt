@@ -1,5 +1,5 @@
 -- What comes of a file that gives no bytes, and what is written of an answer.
-use Rattle.std.proofs.Common.{◌≡◌, ℕ, ◌<◌, ◌≤◌, ◌↔◌, ◌⊎◌, inl, inr, List, Option, length}
+use Rattle.std.proofs.Common.{◌≡◌, ℕ, ◌<◌, ◌≤◌, ◌↔◌, ◌⊎◌, inl, inr, Bool, List, Option, length}
 use Rattle.std.proofs.Common.{refl, subst, sym, Vec, Global, Result, Ok, Err, IfOk, arith}
 use Rattle.std.specs.Result.{IsErrOf}
 use Rattle.ol_io.specs.declared.calls.ReadAll.{ReadAll}
@@ -20,7 +20,7 @@ use Rattle.ol_bench.specs.Commands.{IsAnswerToOne, IsAnswerToTwo, IsCauseOfOne, 
 use Rattle.ol_bench.specs.Commands.{content_of, contents_of}
 use Rattle.ol_bench.specs.Inputs.{ComesOf, Files, IsAllWithin, fault, too_long, of_bytes, most_of, after_taking, told_of}
 use Rattle.ol_bench.specs.Taking.{IsReadOnce, IsRefusal}
-use Rattle.ol_bench.specs.Writing.{Change, GoesTo, Told, WritesAnswer, status_of, told}
+use Rattle.ol_bench.specs.Writing.{Change, GoesTo, Told, WritesAnswer, is_shown, status_of, told}
 
 -- all bytes that were read are no more than were asked for
 pub is_short : (bytes : Vec ℕ Global) (given asked : ℕ) → length bytes.items ≡ given →
@@ -117,11 +117,14 @@ parts (given.Text text) files tells old mid new e h k = (
 
 -- An answer of this text and end was told to the sink to which it goes.
 pub told_to : {Cause : List ℕ → End → Type 0} {out errors : Change} {result : Status}
-    {text text' : List ℕ} {e : End} (e' : End) → Cause text e → text' ≡ text → e ≡ e' →
-    GoesTo e' out errors (Told text' (status_of e') result) → WritesAnswer Cause out errors result
-told_to {out = out} {errors = errors} {result = result} {text = text} {e = e} e' c t i goes =
-    told text e c (subst (λ e. GoesTo e out errors (Told text (status_of e) result)) (sym i)
-    (subst (λ text. GoesTo e' out errors (Told text (status_of e') result)) t goes))
+    {text text' : List ℕ} {e : End} (e' : End) (shown : Bool) (st : Status) → Cause text e →
+    text' ≡ text → e ≡ e' → is_shown e' ≡ shown → st ≡ status_of e' →
+    GoesTo shown out errors (Told text' st result) → WritesAnswer Cause out errors result
+told_to {out = out} {errors = errors} {result = result} {text = text} {e = e} e' shown st c t i s k goes =
+    told text e c (subst (λ e. GoesTo (is_shown e) out errors (Told text (status_of e) result)) (sym i)
+    (subst (λ shown. GoesTo shown out errors (Told text (status_of e') result)) (sym s)
+    (subst (λ st. GoesTo shown out errors (Told text st result)) k
+    (subst (λ text. GoesTo shown out errors (Told text st result)) t goes))))
 
 -- all bytes that were read are all of what is given, and no more than so many
 pub whole_within : (file of_name : Option (List ℕ)) (most asked given : ℕ)

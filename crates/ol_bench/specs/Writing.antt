@@ -1,5 +1,5 @@
 -- What is written of an answer, to which sink, and with which status.
-use Rattle.std.specs.Prelude.{◌≡◌, ℕ, ◌<◌, List, length, take, Option, ◌⊎◌}
+use Rattle.std.specs.Prelude.{◌≡◌, ℕ, ◌<◌, Bool, true, false, List, length, take, Option, ◌⊎◌}
 use Rattle.ol_io.specs.Outside.{Rose, Appended}
 use Rattle.ol_subjects.specs.declared.answers.End.{End}
 use Rattle.ol_subjects.specs.declared.answers.End.TheVariants as end
@@ -48,21 +48,28 @@ status_of end.Yes = status.Yes
 status_of end.No = status.No
 status_of end.Nothing = status.No
 status_of end.Refused = status.Refused
+status_of end.Run = status.Run
+status_of end.NotARun = status.NotARun
+status_of end.BadText = status.BadText
 
--- The answer goes to the sink of answers, or to that of errors where there is nothing to show or a
--- file is refused: this holds of the one, and the other was left alone.
-abbrev pub GoesTo : End → (out errors : Change) → (Change → Type 0) → Type 0
-GoesTo end.Yes out errors P = P out × IsLeft errors
-GoesTo end.No out errors P = P out × IsLeft errors
-GoesTo end.Nothing out errors P = P errors × IsLeft out
-GoesTo end.Refused out errors P = P errors × IsLeft out
+-- there is something to show, and no file is refused
+abbrev pub is_shown : End → Bool
+is_shown end.Nothing = false
+is_shown end.Refused = false
+is_shown _ = true
+
+-- What is shown goes to the sink of answers, and else to that of errors: this holds of the one, and
+-- the other was left alone.
+abbrev pub GoesTo : Bool → (out errors : Change) → (Change → Type 0) → Type 0
+GoesTo true out errors P = P out × IsLeft errors
+GoesTo false out errors P = P errors × IsLeft out
 
 -- What is written, and with which status: an answer that has a cause, to the sink to which it goes;
 -- or nothing, where memory ran out.
 pub data WritesAnswer (Cause : List ℕ → End → Type 0) (out errors : Change) (result : Status)
     : Type 0 where
   told : (text : List ℕ) (e : End) → Cause text e →
-      GoesTo e out errors (Told text (status_of e) result) →
+      GoesTo (is_shown e) out errors (Told text (status_of e) result) →
       WritesAnswer Cause out errors result
   no_memory : result ≡ status.NoMemory → IsLeft out → IsLeft errors →
       WritesAnswer Cause out errors result

@@ -8,7 +8,7 @@ ghost use Rattle.ol_bench.specs.Inputs.{most_of};
 ghost use Rattle.ol_bench.specs.Commands.{IsOneWithin, IsTwoWithin, IsAnswerToOne, IsAnswerToTwo, content_of, contents_of};
 
 use ol_derivations::derivation;
-use ol_explain::{after, explained};
+use ol_explain::{after, explained, judged};
 use ol_limits::{Fuel, Heads, MOST_JOURNAL_BYTES};
 use ol_memory::NoMemory;
 use ol_orders::{Bounds, Order, counted, journal};
@@ -151,6 +151,9 @@ pub enum OnTwo {
     /// The net after the first `lines` lines of a journal, from 1, its first line, which tells its
     /// form, to 8,000,001. The first file has the term or the net, the second one the journal.
     After { subject: Subject, lines: u32 },
+    /// What a journal is found to be. The first file has the term or the net, the second one the
+    /// journal.
+    Check { subject: Subject },
     /// What a journal is found to be, and why. The first file has the term or the net, the second
     /// one the journal.
     Explain { subject: Subject },
@@ -165,6 +168,7 @@ impl OnTwo {
     {
         match self {
             OnTwo::After { subject, .. } => (Content::Subject(subject), Content::Journal),
+            OnTwo::Check { subject } => (Content::Subject(subject), Content::Journal),
             OnTwo::Explain { subject } => (Content::Subject(subject), Content::Journal),
             OnTwo::Same => (
                 Content::Subject(Subject::Net),
@@ -183,6 +187,10 @@ impl OnTwo {
         match self {
             OnTwo::After { subject, lines } => {
                 let answer = after(alloc, bytes, more, subject, lines)?;
+                Ok(answer)
+            }
+            OnTwo::Check { subject } => {
+                let answer = judged(alloc, bytes, more, subject)?;
                 Ok(answer)
             }
             OnTwo::Explain { subject } => {

@@ -5,7 +5,7 @@ ghost use Rattle.ol_io.specs.Readings.{AreOfSince};
 ghost use Rattle.ol_bench.specs.Inputs.{IsNamed, most_of};
 ghost use Rattle.ol_bench.specs.Commands.{IsCause, IsCauseOfOne, IsCauseOfTwo, IsCauseOnward, IsOneWithin, IsTwoWithin, IsWithinBounds, Names, contents_of};
 ghost use Rattle.ol_bench.specs.Statuses.{status_number};
-ghost use Rattle.ol_bench.specs.Writing.{Told, WritesAnswer, change_of};
+ghost use Rattle.ol_bench.specs.Writing.{Told, WritesAnswer, change_of, is_shown, status_of};
 
 use crate::asked::{Asked, Given, OnOne, OnTwo};
 use crate::taking::{bytes_of, refusal};
@@ -32,6 +32,15 @@ pub enum Status {
     WriteFault,
     /// Memory ran out, and neither sink has taken anything.
     NoMemory,
+    /// A journal is one of a run that isn't complete, and this was asked. The answer was written to
+    /// the sink of answers.
+    Run,
+    /// A line of a journal isn't the next one of a run, and this was asked. The answer was written
+    /// to the sink of answers.
+    NotARun,
+    /// A line of a journal isn't in the grammar, and this was asked. The answer was written to the
+    /// sink of answers.
+    BadText,
 }
 
 impl Status {
@@ -45,6 +54,9 @@ impl Status {
             Status::Refused => 3,
             Status::WriteFault => 5,
             Status::NoMemory => 6,
+            Status::Run => 10,
+            Status::NotARun => 11,
+            Status::BadText => 12,
         }
     }
 }
@@ -157,6 +169,32 @@ fn answer<S: Source>(alloc: Global, asked: &Asked, src: &mut S) -> Result<Answer
     }
 }
 
+// The status of an answer that is written whole.
+fn status_of(end: End) -> Status
+    ensures { result ≡ status_of end }
+{
+    match end {
+        End::Yes => Status::Yes,
+        End::No => Status::No,
+        End::Nothing => Status::No,
+        End::Refused => Status::Refused,
+        End::Run => Status::Run,
+        End::NotARun => Status::NotARun,
+        End::BadText => Status::BadText,
+    }
+}
+
+// Whether the answer goes to the sink of answers.
+fn is_shown(end: End) -> bool
+    ensures { result ≡ is_shown end }
+{
+    match end {
+        End::Nothing => false,
+        End::Refused => false,
+        _ => true,
+    }
+}
+
 // Writes a text. This status is told where the sink takes all of it.
 fn told<W: Sink>(sink: &mut W, text: &[u8], status: Status) -> Status
     ensures { Told text.now status result (change_of W.faults W.taken sink.old sink.new) }
@@ -179,6 +217,8 @@ fn told<W: Sink>(sink: &mut W, text: &[u8], status: Status) -> Status
 /// - `No`: the answer is no. It was written to `out`; or, where there is nothing to show, the line
 ///   that says why to `errors`: that a journal has fewer lines than were asked for, or a bad one
 ///   among these.
+/// - `Run`, `NotARun`, `BadText`: of a journal it was asked what it is found to be, and it isn't one
+///   of a complete run. The answer was written to `out`.
 /// - `Refused`: a line was written to `errors`, and nothing to `out`. The line is `read fault`
 ///   where the source failed; `limit bytes 1048576`, `limit net 33554432` or
 ///   `limit journal 402653184` where a file has more bytes than that; or the one by which `ol`
@@ -213,10 +253,9 @@ pub fn bench<S: Source, W: Sink, E: Sink>(
     let Ok(Answer { text, end }) = answer(alloc, asked, src) else {
         return Status::NoMemory;
     };
-    match end {
-        End::Yes => told(out, &text, Status::Yes),
-        End::No => told(out, &text, Status::No),
-        End::Nothing => told(errors, &text, Status::No),
-        End::Refused => told(errors, &text, Status::Refused),
+    if is_shown(end) {
+        told(out, &text, status_of(end))
+    } else {
+        told(errors, &text, status_of(end))
     }
 }

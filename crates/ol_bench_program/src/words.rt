@@ -138,6 +138,12 @@ fn after<'a>(alloc: Global) -> Result<Command<'a>, AllocError> {
     of_journal(alloc, command.arg(lines)?)
 }
 
+fn check<'a>(alloc: Global) -> Result<Command<'a>, AllocError> {
+    let command = Command::new(alloc, "check")
+        .about("What a journal is found to be, as `ol check` tells it, with a status for each");
+    of_journal(alloc, command)
+}
+
 fn explain<'a>(alloc: Global) -> Result<Command<'a>, AllocError> {
     let command = Command::new(alloc, "explain").about(
         "What a journal is found to be; pairs left, what bad text wants, why a line is wrong",
@@ -224,6 +230,7 @@ fn command<'a>(alloc: Global) -> Result<Command<'a>, AllocError> {
         .about("Answers for those who look closer at a term, a net or a journal of `ol`")
         .subcommand_required(true)
         .subcommand(journal(alloc)?)?
+        .subcommand(check(alloc)?)?
         .subcommand(explain(alloc)?)?
         .subcommand(after(alloc)?)?
         .subcommand(steps(alloc)?)?
@@ -366,6 +373,7 @@ fn on_two(name: &str, found: &ArgMatches) -> Option<OnTwo>
             subject,
             lines: number_of(found, "lines", 1, MOST_FUEL + 1, 1),
         }),
+        "check" => Some(OnTwo::Check { subject }),
         "explain" => Some(OnTwo::Explain { subject }),
         "same" => Some(OnTwo::Same),
         _ => None,

@@ -1,6 +1,6 @@
 //! Rows of `explain` over the fakes.
 ghost use Rattle.std.specs.Prelude.{IfOk};
-ghost use Rattle.ol_bench.specs.Commands.{IsWithinBounds};
+ghost use Rattle.ol_bench.specs.Commands.{IsTwoWithin, IsWithinBounds};
 
 use crate::fakes::{file, named};
 use ol_bench::{Asked, OnTwo, Status, bench};
@@ -31,26 +31,29 @@ const JOURNAL: &str =
     "ol trace 2\nbeta 1 0 1\ncross-croissant 2 2 3\ncross-croissant 3 4 1.1\ncroissant 4 1.0 2.0\n";
 
 // What is asked of the file and a journal.
-fn asked(alloc: Global, subject: Subject) -> Result<Asked, AllocError>
+fn asked(alloc: Global, command: OnTwo) -> Result<Asked, AllocError>
+    requires within { IsTwoWithin command }
     ensures { IfOk result IsWithinBounds }
 {
     Ok(Asked::Two {
         file: named(alloc, "file")?,
         other: named(alloc, "journal")?,
-        command: OnTwo::Explain { subject },
+        command,
     })
 }
 
 // Asserts the status of a journal, and what is written.
-fn assert_explained(
+fn assert_told(
     rt: &impl Abort,
     alloc: Global,
-    of: (Subject, &str),
+    command: OnTwo,
+    text: &str,
     row: (&str, Status, &str),
-) -> Result<(), Fail> {
-    let (subject, text) = of;
+) -> Result<(), Fail>
+    requires within { IsTwoWithin command }
+{
     let (journal, status, wanted) = row;
-    let asked = asked(alloc, subject)?;
+    let asked = asked(alloc, command)?;
     let mut files = Vec::new(alloc);
     files.push(file(alloc, "file", text)?)?;
     files.push(file(alloc, "journal", journal)?)?;
@@ -72,78 +75,100 @@ fn assert_explained(
     Ok(())
 }
 
+// The same, of `explain`.
+fn assert_explained(
+    rt: &impl Abort,
+    alloc: Global,
+    of: (Subject, &str),
+    row: (&str, Status, &str),
+) -> Result<(), Fail> {
+    let (subject, text) = of;
+    assert_told(rt, alloc, OnTwo::Explain { subject }, text, row)
+}
+
+// The same, of `check` of a term.
+fn assert_judged(
+    rt: &impl Abort,
+    alloc: Global,
+    text: &str,
+    row: (&str, Status, &str),
+) -> Result<(), Fail> {
+    let subject = Subject::Term(Translation::Two);
+    assert_told(rt, alloc, OnTwo::Check { subject }, text, row)
+}
+
 #[test]
 fn causes_are_told(rt: HostRuntime) -> Result<(), Fail> {
     let rows: [(&str, Status, &str); 15] = [
         (JOURNAL, Status::Yes, "complete\n"),
         (
             "ol trace 1\n0 1\n",
-            Status::Yes,
+            Status::Run,
             "run 1\ncross-croissant 2 2 3\n",
         ),
         (
             "ol trace 1\n3 2\n",
-            Status::No,
+            Status::BadText,
             "bad text at line 2\nbyte 13: wanted a name greater than 3\n",
         ),
         (
             "ol trace 3\n",
-            Status::No,
+            Status::BadText,
             "bad text at line 1\nbyte 9: wanted 1 or 2\n",
         ),
         (
             "ol trace 2\nbeta 01 0 1\n",
-            Status::No,
+            Status::BadText,
             "bad text at line 2\nbyte 17: wanted a space\n",
         ),
         (
             "ol trace 2\ncross-fon 1 0 1\n",
-            Status::No,
+            Status::BadText,
             "bad text at line 2\nbyte 18: wanted a\n",
         ),
         (
             "ol trace 1\n0 1",
-            Status::No,
+            Status::BadText,
             "bad text at line 2\nbyte 14: wanted a line feed or a dot or a digit\n",
         ),
         (
             "ol trace 1\n0 5.0\n",
-            Status::No,
+            Status::NotARun,
             "not a run at line 2\n5.0 isn't born yet\n",
         ),
         (
             "ol trace 1\n0 1\n1 2\n",
-            Status::No,
+            Status::NotARun,
             "not a run at line 3\n1 is gone, by line 2\n",
         ),
         (
             "ol trace 1\n0 1\n2 0.0\n",
-            Status::No,
+            Status::NotARun,
             "not a run at line 3\nline 2 made no 0.0\n",
         ),
         (
             "ol trace 1\n0 9\n",
-            Status::No,
+            Status::NotARun,
             "not a run at line 2\nthe net has no node 9\n",
         ),
         (
             "ol trace 1\n0 2\n",
-            Status::No,
+            Status::NotARun,
             "not a run at line 2\n0 faces slot 0 of 1\n",
         ),
         (
             "ol trace 1\n0 1\n2 3\n4 1.1\n1.2 2.0\n",
-            Status::No,
+            Status::NotARun,
             "not a run at line 5\n1.2 faces free port 0\n",
         ),
         (
             "ol trace 2\nfan 1 0 1\n",
-            Status::No,
+            Status::NotARun,
             "not a run at line 2\nthe rule is beta\n",
         ),
         (
             "ol trace 2\nbeta 2 0 1\n",
-            Status::No,
+            Status::NotARun,
             "not a run at line 2\nthe wave is 1\n",
         ),
     ];
@@ -161,7 +186,7 @@ fn causes_are_told(rt: HostRuntime) -> Result<(), Fail> {
         (Subject::Net, NET),
         (
             "ol trace 1\n0 1\n",
-            Status::No,
+            Status::NotARun,
             "not a run at line 2\n0 and 1 have no rule\n",
         ),
     )
@@ -178,7 +203,7 @@ fn pairs_that_are_left_are_told(rt: HostRuntime) -> Result<(), Fail> {
             &rt,
             rt.alloc(),
             (Subject::Net, net),
-            (journal, Status::Yes, wanted),
+            (journal, Status::Run, wanted),
         )?;
     }
     assert_explained(
@@ -187,7 +212,7 @@ fn pairs_that_are_left_are_told(rt: HostRuntime) -> Result<(), Fail> {
         (Subject::Term(Translation::Two), TERM),
         (
             "ol trace 2\nbeta 1 0 1\ncross-croissant 2 2 3\n",
-            Status::Yes,
+            Status::Run,
             "run 2\ncross-croissant 3 4 1.1\n",
         ),
     )
@@ -199,10 +224,10 @@ fn a_cause_is_one_of_the_translation(rt: HostRuntime) -> Result<(), Fail> {
     let journal = "ol trace 2\nbeta 1 0 1\ncross-croissant 2 3 4\n";
     let faces = "not a run at line 3\n3 faces slot 0 of 6\n";
     let first = (Subject::Term(Translation::One), text);
-    assert_explained(&rt, rt.alloc(), first, (journal, Status::No, faces))?;
+    assert_explained(&rt, rt.alloc(), first, (journal, Status::NotARun, faces))?;
     let left = "run 2\nbeta 3 2 1.2\ncross-croissant 3 5 1.1\n";
     let second = (Subject::Term(Translation::Two), text);
-    assert_explained(&rt, rt.alloc(), second, (journal, Status::Yes, left))
+    assert_explained(&rt, rt.alloc(), second, (journal, Status::Run, left))
 }
 
 #[test]
@@ -216,4 +241,20 @@ fn a_file_is_refused_before_its_journal(rt: HostRuntime) -> Result<(), Fail> {
     )?;
     let net = ("", Status::Refused, "bad net at line 1\n");
     assert_explained(&rt, rt.alloc(), (Subject::Net, "x"), net)
+}
+
+#[test]
+fn each_verdict_has_a_status(rt: HostRuntime) -> Result<(), Fail> {
+    let rows: [(&str, Status, &str); 5] = [
+        (JOURNAL, Status::Yes, "complete\n"),
+        ("ol trace 1\n0 1\n", Status::Run, "run 1\n"),
+        ("ol trace 1\n0 2\n", Status::NotARun, "not a run at line 2\n"),
+        ("ol trace 1\n2 0\n", Status::BadText, "bad text at line 2\n"),
+        ("", Status::BadText, "bad text at line 1\n"),
+    ];
+    for row in rows {
+        assert_judged(&rt, rt.alloc(), TERM, row)?;
+    }
+    let refused = (JOURNAL, Status::Refused, "syntax at byte 2\n");
+    assert_judged(&rt, rt.alloc(), "(x", refused)
 }

@@ -12,7 +12,7 @@ use Rattle.ol_view.specs.declared.line_reading.Line.{Line}
 use Rattle.ol_view.specs.LineReading.{TellsOf}
 use Rattle.ol_view.specs.Checks.{start_net_of_graph, BeginsWithRun, IsFound, IsReadAgain}
 use Rattle.ol_view.proofs.FoundCases as found
-use Rattle.ol_subjects.specs.declared.answers.End.TheVariants.{No}
+use Rattle.ol_subjects.specs.declared.answers.End.TheVariants as end
 use Rattle.ol_explain.specs.declared.following.Stop.TheVariants as stop
 use Rattle.ol_replay.specs.declared.replaying.Replay.{Replay}
 use Rattle.ol_explain.specs.Explained.{cause_words, IsExplainedOf, not_a_run}
@@ -50,7 +50,7 @@ module _ (old : Graph) (text : List ℕ) (most : ℕ) (r : Replay) (at : ℕ) wh
 
   -- the cause that was found is that of the line
   pub explains : (line : Line) (made : Option Rewritten) → Stops old text most r at (stop.Otherwise line made) →
-      (out : List ℕ) → IsOffBy r line made out → IsExplainedOf old text out No
+      (out : List ℕ) → IsOffBy r line made out → IsExplainedOf old text out end.NotARun
   explains line made (otherwise {form = form} {waves = waves} t b f o) out off =
       not_a_run f (record {
         form = form;

@@ -18,7 +18,7 @@ use Rattle.ol_view.specs.RuleNames.{rule_text}
 use Rattle.ol_view.specs.Forms.{BeginsWithEntry}
 use Rattle.ol_view.specs.Checks.{start_net_of_graph, IsRunTold, BeginsWithRun, IsFound}
 use Rattle.ol_subjects.specs.declared.answers.End.{End}
-use Rattle.ol_subjects.specs.declared.answers.End.TheVariants.{Yes, No, Refused}
+use Rattle.ol_subjects.specs.declared.answers.End.TheVariants as end
 use Rattle.ol_subjects.specs.declared.subjects.Subject.{Subject}
 use Rattle.ol_subjects.specs.Subjects.{IsSubject, Refuses}
 use Rattle.ol_explain.specs.Afters.{line_with}
@@ -121,21 +121,21 @@ pub record IsOffLine (g : Graph) (journal : List ℕ) (line : ℕ) (words : List
 -- one of a run, its cause.
 pub data IsExplainedOf (g : Graph) (journal text : List ℕ) : End → Type 0 where
   complete : IsFound (start_net_of_graph g) journal Complete → text ≡ codes "complete\n" →
-      IsExplainedOf g journal text Yes
+      IsExplainedOf g journal text end.Yes
   run : {k : ℕ} {left : List ℕ} → IsFound (start_net_of_graph g) journal (Run k) →
       TellsLeft g journal left → text ≡ line_with (codes "run ") k ++ left →
-      IsExplainedOf g journal text Yes
+      IsExplainedOf g journal text end.Run
   bad_text : {line : ℕ} {words : List ℕ} → IsFound (start_net_of_graph g) journal (BadText line) →
       IsBadLine g journal line words →
       text ≡ line_with (codes "bad text at line ") line ++ words ++ codes "\n" →
-      IsExplainedOf g journal text No
+      IsExplainedOf g journal text end.BadText
   not_a_run : {line : ℕ} {words : List ℕ} → IsFound (start_net_of_graph g) journal (NotARun line) →
       IsOffLine g journal line words →
       text ≡ line_with (codes "not a run at line ") line ++ words ++ codes "\n" →
-      IsExplainedOf g journal text No
+      IsExplainedOf g journal text end.NotARun
 
 -- The answer to a file with a term or a net, and to one with a journal.
 pub data IsExplained (bytes journal text : List ℕ) : Subject → End → Type 0 where
-  refused : {subject : Subject} → Refuses subject bytes text → IsExplained bytes journal text subject Refused
+  refused : {subject : Subject} → Refuses subject bytes text → IsExplained bytes journal text subject end.Refused
   answered : {subject : Subject} {g : Graph} {e : End} → IsSubject subject bytes g →
       IsExplainedOf g journal text e → IsExplained bytes journal text subject e

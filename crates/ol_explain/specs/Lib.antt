@@ -4,6 +4,7 @@ pub mod Afters
 pub mod Left
 pub mod Wanted
 pub mod Explained
+pub mod Judged
 pub mod Tallies
 -- What only contracts of private functions and proofs cite.
 pub mod Followed

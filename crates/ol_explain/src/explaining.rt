@@ -1,9 +1,8 @@
 //! The command `explain`: what a journal is found to be, which pairs are left after a run, what is
 //! wanted in bad text, and of a line that isn't one of a run why.
 
-ghost use Rattle.std.specs.Prelude.{◌≡◌, ◌≤◌, ◌<◌, length, codes, IfOk, IfSome};
+ghost use Rattle.std.specs.Prelude.{◌≡◌, ◌≤◌, ◌<◌, length, IfOk, IfSome};
 ghost use Rattle.ol_view.specs.LineReading.{TellsOf};
-ghost use Rattle.ol_explain.specs.Afters.{line_with};
 ghost use Rattle.ol_explain.specs.Found.{IsToldBy};
 ghost use Rattle.ol_explain.specs.Reasons.{IsReplayed, IsOffBy};
 ghost use Rattle.ol_replay.specs.Replays.{IsReplay};
@@ -13,6 +12,7 @@ ghost use Rattle.ol_limits.specs.Limits.{most_fuel, most_nodes};
 
 use crate::causes::{cause_of, put_cause};
 use crate::following::{Stop, follow};
+use crate::judging::complete;
 use crate::left::run_and_left;
 use crate::naming::{put, put_number};
 use crate::wanting::{bad_header, bad_line, past_the_end};
@@ -25,31 +25,6 @@ use ol_subjects::{Answer, End, NetRead, Subject, read_subject};
 use ol_view::{Check, Line, check};
 use std::alloc::Global;
 
-// The answer of these words and a number.
-fn line_of(alloc: Global, words: &str, number: u32, end: End) -> Result<Answer, NoMemory>
-    ensures text { IfOk result (λ a. a.text.items ≡ line_with words.now number) }
-    ensures end { IfOk result (λ a. a.end ≡ end) }
-{
-    let mut text = String::new(alloc);
-    put(&mut text, words)?;
-    put_number(&mut text, number)?;
-    put(&mut text, "\n")?;
-    let text = text.into_bytes();
-    Ok(Answer { text, end })
-}
-
-// The answer that no pair is left.
-fn complete(alloc: Global) -> Result<Answer, NoMemory>
-    ensures text { IfOk result (λ a. a.text.items ≡ codes "complete\n") }
-    ensures end { IfOk result (λ a. a.end ≡ End.Yes) }
-{
-    let mut text = String::new(alloc);
-    put(&mut text, "complete\n")?;
-    let text = text.into_bytes();
-    let end = End::Yes;
-    Ok(Answer { text, end })
-}
-
 // The answer of a line that isn't the next one of a run.
 fn off(
     alloc: Global,
@@ -61,7 +36,7 @@ fn off(
     requires replay { IsReplayed replay.now }
     requires wrong { IfSome made (λ of. TellsOf line.told of.rule of.wave → ⊥) }
     ensures text { IfOk result (λ a. IsOffBy replay.now line made a.text.items) }
-    ensures end { IfOk result (λ a. a.end ≡ End.No) }
+    ensures end { IfOk result (λ a. a.end ≡ End.NotARun) }
 {
     let cause = cause_of(replay, line, made);
     let mut text = String::new(alloc);
@@ -71,7 +46,7 @@ fn off(
     put_cause(&mut text, line.first, line.second, cause)?;
     put(&mut text, "\n")?;
     let text = text.into_bytes();
-    let end = End::No;
+    let end = End::NotARun;
     Ok(Answer { text, end })
 }
 
@@ -131,16 +106,18 @@ fn of_net(alloc: Global, net: &Net, journal: &[u8]) -> Result<Answer, NoMemory>
 /// of a run that isn't complete, the pairs that are left, of bad text, what is wanted at which
 /// byte, and of a line that isn't the next one of a run, why it isn't.
 ///
-/// - `Yes`: `complete`, or `run` with the number of entries, and the lines with which the journal
-///   could go on: of each active pair its rule, its wave and its two names. There are at most 20 of
-///   them, in the order of their first names, and a last line tells how many more there are.
-/// - `No`: the number of the first bad line. Where that is none of the grammar, the byte from which
+/// - `Yes`: `complete`.
+/// - `Run`: `run` with the number of entries, and the lines with which the journal could go on: of
+///   each active pair its rule, its wave and its two names. There are at most 20 of them, in the
+///   order of their first names, and a last line tells how many more there are.
+/// - `BadText`: the number of the first bad line, which is none of the grammar; the byte from which
 ///   on no text is, and what is wanted there; where only its names aren't in order, that a greater
 ///   one is; and where it comes behind as many lines as a journal may have, the byte at which it
-///   begins, and that `the end, after 8000000 entries` is wanted. Where it is a line of the
-///   grammar, its cause: a name of a node that isn't born yet, that is gone, with the line by which
-///   it went, or that never was one; what the first node faces, where it isn't the second one; that
-///   the two have no rule; or which rule or which wave is the pair's, where the line tells another.
+///   begins, and that `the end, after 8000000 entries` is wanted.
+/// - `NotARun`: the number of the first bad line, which is one of the grammar, and its cause: a name
+///   of a node that isn't born yet, that is gone, with the line by which it went, or that never was
+///   one; what the first node faces, where it isn't the second one; that the two have no rule; or
+///   which rule or which wave is the pair's, where the line tells another.
 /// - `Refused`: `ol` refuses the file with the term or the net, by this line.
 ///
 /// The file has at most 1,048,576 bytes with a term, and 33,554,432 with a net. `NoMemory`: no

@@ -194,7 +194,7 @@ pub fn run_and_left(
     requires replay { IsReplay net.now replay.old }
     ensures text { IfOk result (λ a. (left : List ℕ) × IsLeftText net.now replay.old left
         × (a.text.items ≡ line_with (codes "run ") entries ++ left)) }
-    ensures end { IfOk result (λ a. a.end ≡ End.Yes) }
+    ensures end { IfOk result (λ a. a.end ≡ End.Run) }
 {
     let mut text = String::new(alloc);
     put(&mut text, "run ")?;
@@ -202,6 +202,6 @@ pub fn run_and_left(
     put(&mut text, "\n")?;
     put_left(alloc, &mut text, net, replay)?;
     let text = text.into_bytes();
-    let end = End::Yes;
+    let end = End::Run;
     Ok(Answer { text, end })
 }

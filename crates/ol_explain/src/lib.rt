@@ -3,6 +3,7 @@
 //! - `following`: a journal, followed line by line
 //! - `pausing`: the command `after`: the net after the first lines of a journal
 //! - `explaining`: the command `explain`: what a journal is found to be, and why
+//! - `judging`: the command `check`: what a journal is found to be, as a line
 //! - `tallying`: what a journal is found to be, by its value, and how often each rule stands in its run
 //! - `causes`: why a line of a journal isn't one of a run
 //! - `left`: the pairs that are left after a run
@@ -13,6 +14,7 @@
 mod causes;
 mod explaining;
 mod following;
+mod judging;
 mod left;
 mod naming;
 mod pausing;
@@ -20,5 +22,6 @@ mod tallying;
 mod wanting;
 
 pub use explaining::explained;
+pub use judging::judged;
 pub use pausing::after;
 pub use tallying::{Finding, Tally, checked, tallied};

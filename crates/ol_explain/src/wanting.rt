@@ -425,14 +425,14 @@ fn cut(
     requires { start ≤ length text.now }
     ensures text { IfOk result (λ a. (form : Option Form) (at : ℕ) →
         IsCut form text.now at field end start → IsBrokenBy form text.now at line a.text.items) }
-    ensures end { IfOk result (λ a. a.end ≡ End.No) }
+    ensures end { IfOk result (λ a. a.end ≡ End.BadText) }
 {
     let to = beginning(field, text, start);
     let bytes = wanted(alloc, field, end, &text[start..to])?;
     let mut text = begun(alloc, line, to)?;
     put_choices(&mut text, &bytes)?;
     put(&mut text, b"\n")?;
-    let end = End::No;
+    let end = End::BadText;
     Ok(Answer { text, end })
 }
 
@@ -440,7 +440,7 @@ fn cut(
 fn unordered(alloc: Global, line: u32, start: usize, first: NodeName) -> Result<Answer, NoMemory>
     ensures text { IfOk result (λ a. a.text.items
         ≡ line_with (codes "bad text at line ") line ++ greater_at start first ++ codes "\n") }
-    ensures end { IfOk result (λ a. a.end ≡ End.No) }
+    ensures end { IfOk result (λ a. a.end ≡ End.BadText) }
 {
     let mut words = String::new(alloc);
     put_words(&mut words, " a name greater than ")?;
@@ -448,7 +448,7 @@ fn unordered(alloc: Global, line: u32, start: usize, first: NodeName) -> Result<
     let mut text = begun(alloc, line, start)?;
     put(&mut text, words.as_bytes())?;
     put(&mut text, b"\n")?;
-    let end = End::No;
+    let end = End::BadText;
     Ok(Answer { text, end })
 }
 
@@ -456,7 +456,7 @@ fn unordered(alloc: Global, line: u32, start: usize, first: NodeName) -> Result<
 pub fn bad_header(alloc: Global, text: &[u8]) -> Result<Answer, NoMemory>
     requires none { (form : Form) (rest : List ℕ) → text.now ≢ header_of form ++ rest }
     ensures text { IfOk result (λ a. IsBrokenBy None text.now 0 1 a.text.items) }
-    ensures end { IfOk result (λ a. a.end ≡ End.No) }
+    ensures end { IfOk result (λ a. a.end ≡ End.BadText) }
 {
     let answer = cut(alloc, text, 1, Field::Header, b'\n', 0)?;
     Ok(answer)
@@ -475,7 +475,7 @@ pub fn bad_line(
     requires at { at ≤ length text.now }
     requires none { HasNoLine form (drop at text.now) }
     ensures text { IfOk result (λ a. IsBadBy form text.now at line a.text.items) }
-    ensures end { IfOk result (λ a. a.end ≡ End.No) }
+    ensures end { IfOk result (λ a. a.end ≡ End.BadText) }
 {
     match fault_of(form, text, at) {
         Fault::Cut { field, end, start } => {
@@ -494,11 +494,11 @@ pub fn bad_line(
 pub fn past_the_end(alloc: Global, at: usize) -> Result<Answer, NoMemory>
     ensures text { IfOk result (λ a. a.text.items
         ≡ line_with (codes "bad text at line ") (most_fuel + 2) ++ end_at at ++ codes "\n") }
-    ensures end { IfOk result (λ a. a.end ≡ End.No) }
+    ensures end { IfOk result (λ a. a.end ≡ End.BadText) }
 {
     let mut text = begun(alloc, MOST_FUEL + 2, at)?;
     put(&mut text, b" the end, after 8000000 entries")?;
     put(&mut text, b"\n")?;
-    let end = End::No;
+    let end = End::BadText;
     Ok(Answer { text, end })
 }

@@ -11,6 +11,12 @@ pub enum End {
     Nothing,
     /// A file was refused: the text says why.
     Refused,
+    /// A journal is one of a run that isn't complete: some pair is active after it.
+    Run,
+    /// A line of a journal isn't the next one of a run.
+    NotARun,
+    /// A line of a journal isn't in the grammar.
+    BadText,
 }
 
 /// A text, and how the command ended.
