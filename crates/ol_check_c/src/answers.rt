@@ -54,18 +54,19 @@ pub fn verdict_of(finding: Finding) -> Verdict
 pub fn counts_told(counts: Option<Counts>) -> RuleCounts
     ensures { result ≡ counts_told counts }
 {
-    match counts {
-        None => no_counts(),
-        Some(told) => RuleCounts {
-            beta: told.beta,
-            fan: told.fan,
-            croissant: told.croissant,
-            bracket: told.bracket,
-            cross_fan: told.cross_fan,
-            cross_croissant: told.cross_croissant,
-            cross_bracket: told.cross_bracket,
-            erase: told.erase,
-        },
+    let told = match counts {
+        None => ol_rules::no_counts(),
+        Some(told) => told,
+    };
+    RuleCounts {
+        beta: told.beta,
+        fan: told.fan,
+        croissant: told.croissant,
+        bracket: told.bracket,
+        cross_fan: told.cross_fan,
+        cross_croissant: told.cross_croissant,
+        cross_bracket: told.cross_bracket,
+        erase: told.erase,
     }
 }
 
@@ -73,14 +74,5 @@ pub fn counts_told(counts: Option<Counts>) -> RuleCounts
 pub fn no_counts() -> RuleCounts
     ensures { result ≡ no_counts }
 {
-    RuleCounts {
-        beta: 0,
-        fan: 0,
-        croissant: 0,
-        bracket: 0,
-        cross_fan: 0,
-        cross_croissant: 0,
-        cross_bracket: 0,
-        erase: 0,
-    }
+    counts_told(None)
 }

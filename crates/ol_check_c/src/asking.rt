@@ -1,12 +1,14 @@
 //! The answers, over slices.
 
-ghost use Rattle.std.specs.Prelude.{◌≡◌, ◌<◌, ◌^◌, length, IfSome, IfNone};
+ghost use Rattle.std.specs.Prelude.{◌≡◌, ◌<◌, ◌^◌, length, IfSome, IfNone, IfOk, IfErr};
 ghost use Rattle.ol_check_c.specs.Verdicts.{too_long, no_memory, no_translation};
 ghost use Rattle.ol_check_c.specs.Asked.{subject_of, AreTooLong, AreShort, IsVerdict, IsCounted, IsWritten, IsWrittenOut};
+ghost use Rattle.ol_check_c.specs.Found.{IsFoundVerdict, AreFoundCounts, IsToldOut};
 
 use crate::answers::{RuleCounts, Verdict, counts_told, no_counts, verdict_of, verdict_with};
 use ol_explain::{checked, explained, tallied};
 use ol_limits::MOST_JOURNAL_BYTES;
+use ol_memory::NoMemory;
 use ol_subjects::{Subject, most_bytes};
 use ol_term::Translation;
 use std::alloc::Global;
@@ -62,16 +64,52 @@ fn limit(subject: Subject, bytes: &[u8], journal: &[u8]) -> Option<Verdict>
     None
 }
 
+// What the journal is found to be. `NoMemory`: no memory was found, and neither file is too long.
+fn find(
+    alloc: Global,
+    subject: Subject,
+    bytes: &[u8],
+    journal: &[u8],
+) -> Result<Verdict, NoMemory>
+    ensures found { IfOk result (IsFoundVerdict subject bytes.now journal.now) }
+    ensures short { IfErr result (λ _. AreShort subject bytes.now journal.now) }
+{
+    if let Some(long) = limit(subject, bytes, journal) {
+        return Ok(long);
+    }
+    match checked(alloc, bytes, journal, subject) {
+        Ok(finding) => Ok(verdict_of(finding)),
+        Err(_) => Err(NoMemory),
+    }
+}
+
 /// What the journal is found to be.
 pub fn found(alloc: Global, subject: Subject, bytes: &[u8], journal: &[u8]) -> Verdict
     ensures { IsVerdict subject bytes.now journal.now result }
 {
-    if let Some(long) = limit(subject, bytes, journal) {
-        return long;
-    }
-    match checked(alloc, bytes, journal, subject) {
-        Ok(finding) => verdict_of(finding),
+    match find(alloc, subject, bytes, journal) {
+        Ok(verdict) => verdict,
         Err(_) => no_memory(),
+    }
+}
+
+// What the journal is found to be, and how often each rule stands in it. `NoMemory`: no memory was
+// found, and neither file is too long.
+fn count(
+    alloc: Global,
+    subject: Subject,
+    bytes: &[u8],
+    journal: &[u8],
+) -> Result<(Verdict, RuleCounts), NoMemory>
+    ensures counted { IfOk result (λ r. AreFoundCounts subject bytes.now journal.now r.0 r.1) }
+    ensures short { IfErr result (λ _. AreShort subject bytes.now journal.now) }
+{
+    if let Some(long) = limit(subject, bytes, journal) {
+        return Ok((long, no_counts()));
+    }
+    match tallied(alloc, bytes, journal, subject) {
+        Ok(tally) => Ok((verdict_of(tally.finding), counts_told(tally.counts))),
+        Err(_) => Err(NoMemory),
     }
 }
 
@@ -84,11 +122,8 @@ pub fn counted(
 ) -> (Verdict, RuleCounts)
     ensures { IsCounted subject bytes.now journal.now result.0 result.1 }
 {
-    if let Some(long) = limit(subject, bytes, journal) {
-        return (long, no_counts());
-    }
-    match tallied(alloc, bytes, journal, subject) {
-        Ok(tally) => (verdict_of(tally.finding), counts_told(tally.counts)),
+    match count(alloc, subject, bytes, journal) {
+        Ok(counted) => counted,
         Err(_) => (no_memory(), no_counts()),
     }
 }
@@ -103,16 +138,34 @@ fn write(text: &[u8], room: &mut [u8]) -> usize
     text.len()
 }
 
+// The explanation of what the journal is found to be: its front, as far as there is room, and how
+// many bytes it has. `NoMemory`: no memory was found, and nothing was written.
+fn tell(
+    alloc: Global,
+    subject: Subject,
+    bytes: &[u8],
+    journal: &[u8],
+    room: &mut [u8],
+) -> Result<usize, NoMemory>
+    ensures told { IfOk result (λ n. IsToldOut subject bytes.now journal.now room.old n room.new) }
+    ensures unwritten { IfErr result (λ _. room.new ≡ room.old) }
+{
+    if let Some(_) = limit(subject, bytes, journal) {
+        return Ok(0);
+    }
+    match explained(alloc, bytes, journal, subject) {
+        Ok(answer) => Ok(write(&answer.text, room)),
+        Err(_) => Err(NoMemory),
+    }
+}
+
 /// The explanation of what the journal is found to be: its front, as far as there is room, and how
 /// many bytes it has.
 pub fn told(alloc: Global, subject: Subject, bytes: &[u8], journal: &[u8], room: &mut [u8]) -> usize
     ensures { IsWrittenOut subject bytes.now journal.now room.old result room.new }
 {
-    if let Some(_) = limit(subject, bytes, journal) {
-        return 0;
-    }
-    match explained(alloc, bytes, journal, subject) {
-        Ok(answer) => write(&answer.text, room),
+    match tell(alloc, subject, bytes, journal, room) {
+        Ok(count) => count,
         Err(_) => 0,
     }
 }
