@@ -65,12 +65,7 @@ fn limit(subject: Subject, bytes: &[u8], journal: &[u8]) -> Option<Verdict>
 }
 
 // What the journal is found to be. `NoMemory`: no memory was found, and neither file is too long.
-fn find(
-    alloc: Global,
-    subject: Subject,
-    bytes: &[u8],
-    journal: &[u8],
-) -> Result<Verdict, NoMemory>
+fn find(alloc: Global, subject: Subject, bytes: &[u8], journal: &[u8]) -> Result<Verdict, NoMemory>
     ensures found { IfOk result (IsFoundVerdict subject bytes.now journal.now) }
     ensures short { IfErr result (λ _. AreShort subject bytes.now journal.now) }
 {
