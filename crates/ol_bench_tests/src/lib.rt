@@ -4,6 +4,7 @@
 //!
 //! - `commands`: rows of each command over the fakes
 //! - `after`: rows of `after` over the fakes
+//! - `costs`: rows of what terms cost
 //! - `explain`: rows of `explain` over the fakes
 //! - `texts`: rows of commands on a term that stands on the command line
 //! - `fakes`: files in memory, and their names; leftmost reduction of a term
@@ -21,6 +22,8 @@ mod after;
 mod commands;
 #[cfg(test)]
 mod comparing;
+#[cfg(test)]
+mod costs;
 #[cfg(test)]
 mod explain;
 #[cfg(test)]
