@@ -5,11 +5,11 @@ use Rattle.ol_explain.proofs.judging.judged.Goals as goal
 
 pub returns-in-Refused : goal.returns-in-Refused
 returns-in-Refused c = refused (subst
-    (IsSubjectRead c.args.subject c.args.bytes.now) c.in-Refused.is c.in_ok-read_subject.ensures)
+    (IsSubjectRead c.args.subject c.args.bytes.now) c.in-Refused.is c.in_ok-text.ensures)
 
 pub returns-in_ok-answer-in-Net : goal.returns-in_ok-answer-in-Net
 returns-in_ok-answer-in-Net c =
-    let r = subst (IsSubjectRead c.args.subject c.args.bytes.now) c.in-Net.is c.in_ok-read_subject.ensures in
+    let r = subst (IsSubjectRead c.args.subject c.args.bytes.now) c.in-Net.is c.in_ok-text.ensures in
     let a = c.in_ok-answer-in-Net in
     subst (λ e. IsJudged c.args.bytes.now c.args.journal.now a.answer.text.items c.args.subject e) (sym a.ensures.end)
     (found c.in_ok-found-in-Net.found r.0 c.in_ok-found-in-Net.ensures.exact a.ensures.text)
