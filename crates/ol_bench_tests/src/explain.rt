@@ -248,7 +248,11 @@ fn each_verdict_has_a_status(rt: HostRuntime) -> Result<(), Fail> {
     let rows: [(&str, Status, &str); 5] = [
         (JOURNAL, Status::Yes, "complete\n"),
         ("ol trace 1\n0 1\n", Status::Run, "run 1\n"),
-        ("ol trace 1\n0 2\n", Status::NotARun, "not a run at line 2\n"),
+        (
+            "ol trace 1\n0 2\n",
+            Status::NotARun,
+            "not a run at line 2\n",
+        ),
         ("ol trace 1\n2 0\n", Status::BadText, "bad text at line 2\n"),
         ("", Status::BadText, "bad text at line 1\n"),
     ];

@@ -5,6 +5,7 @@
 //! - `commands`: rows of each command over the fakes
 //! - `after`: rows of `after` over the fakes
 //! - `costs`: rows of what terms cost
+//! - `derivations`: rows of `derivation`
 //! - `explain`: rows of `explain` over the fakes
 //! - `texts`: rows of commands on a term that stands on the command line
 //! - `fakes`: files in memory, and their names; leftmost reduction of a term
@@ -24,6 +25,8 @@ mod commands;
 mod comparing;
 #[cfg(test)]
 mod costs;
+#[cfg(test)]
+mod derivations;
 #[cfg(test)]
 mod explain;
 #[cfg(test)]
