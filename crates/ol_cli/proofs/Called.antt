@@ -2,7 +2,7 @@
 use Rattle.std.proofs.Common.{◌≡◌, ◌∙◌, ap, ℕ, List, Option, None, String, Global, Result, Ok, Err}
 use Rattle.std.proofs.Common.{IfOk, inl, inr, refl, sym, subst}
 use Rattle.ol_memory.specs.declared.NoMemory as no_memory
-use Rattle.ol_words.specs.declared.jobs.Job.{Job as Asked}
+use Rattle.ol_words.specs.declared.jobs.Job.{Job}
 use Rattle.ol_cli.specs.declared.answer.Answer.{Answer}
 use Rattle.ol_cli.specs.declared.top.Outcome.{Outcome}
 use Rattle.ol_cli.specs.declared.status.Status.TheVariants.{Done, WriteFault, NoMemory}
@@ -50,10 +50,10 @@ module _ (words : List (String Global)) (s : Seen) (g g' : ℕ) (old new : Optio
   ]
 
 -- what a job comes to is what the words come to that ask for it
-pub words_come : (words : List (String Global)) (s : Seen) (asked : Asked) (a : Answer) →
-    AskFor words asked → ComesOf asked s a → ComesOfWords words s a
-words_come words s asked a j h = record {
-  caused = job_cause words s asked a.status a.text.items j h.caused;
-  read = words_read words (s.contents 0) asked a.status a.text.items j h.read;
-  closed = words_hand words asked s a.status a.text.items a.closed j h.closed;
+pub words_come : (words : List (String Global)) (s : Seen) (job : Job) (a : Answer) →
+    AskFor words job → ComesOf job s a → ComesOfWords words s a
+words_come words s job a j h = record {
+  caused = job_cause words s job a.status a.text.items j h.caused;
+  read = words_read words (s.contents 0) job a.status a.text.items j h.read;
+  closed = words_hand words job s a.status a.text.items a.closed j h.closed;
 }

@@ -1,14 +1,14 @@
 -- The cause of a status, by its words and case by case: the two are one.
 use Rattle.std.proofs.Common.{◌≡◌, ◌≢◌, ℕ, zero, suc, ◌<◌, ◌≤◌, true, false, List, [], ◌∷◌, length, Option, None, Some}
 use Rattle.std.proofs.Common.{inl, inr, refl, sym, ◌∙◌, subst, arith, String, Global}
-use Rattle.ol_io.specs.Outside.{Rose, Appended, IsAllOf, IsLonger}
+use Rattle.ol_io.specs.Outside.{Rose, IsAllOf, IsLonger}
 use Rattle.ol_words.specs.Texts.{Text}
-use Rattle.ol_words.specs.declared.jobs.Job.{Job as Asked}
+use Rattle.ol_words.specs.declared.jobs.Job.{Job}
 use Rattle.ol_words.specs.declared.jobs.Job.TheVariants as jobs
 use Rattle.ol_term.specs.Generated.{doubled_text}
 use Rattle.ol_cli.specs.declared.status.Status.{Status}
-use Rattle.ol_cli.specs.declared.status.Status.TheVariants.{Done, Usage, Syntax, Spent, ReadFault}
-use Rattle.ol_cli.specs.declared.status.Status.TheVariants.{WriteFault, NoMemory, Limit, BadNet}
+use Rattle.ol_cli.specs.declared.status.Status.TheVariants.{Usage, ReadFault}
+use Rattle.ol_cli.specs.declared.status.Status.TheVariants.{NoMemory, Limit}
 use Rattle.ol_cli.specs.Answers.{AnswerOf, Ends, Gave, HasCause, Seen}
 use Rattle.ol_cli.specs.Cases.{Cause, CauseOf, FileAnswer, FileCause, GaveWithin, JobCause, failed, past, given, on_second}
 use Rattle.ol_cli.specs.Cases.{by_file, by_journal, by_making, by_net_file, by_first, by_second, by_both}
@@ -61,24 +61,17 @@ module _ (s : Seen) (most : ℕ) (limit : List ℕ) (name : Text) (A : List ℕ 
 -- ---- a job
 
 module _ (s : Seen) (st : Status) (text : List ℕ) where
-  of_long : (asked : Asked) (bytes : List ℕ) → 1048576 < length bytes → st ≡ Limit →
-      text ≡ bytes_text → FileAnswer asked bytes st text
-  of_long asked bytes l is e = subst (λ st. FileAnswer asked bytes st text) (sym is) (inl (l, e))
+  of_long : (job : Job) (bytes : List ℕ) → 1048576 < length bytes → st ≡ Limit →
+      text ≡ bytes_text → FileAnswer job bytes st text
+  of_long job bytes l is e = subst (λ st. FileAnswer job bytes st text) (sym is) (inl (l, e))
 
   module _ (isnt : st ≢ ReadFault) where
-    of_file : (asked : Asked) → FileCause asked s st text → (s.faults' ≡ s.faults)
-        × ((bytes : List ℕ) × Gave s 0 (file_name asked) 1048576 bytes × FileAnswer asked bytes st text)
-    of_file asked c = file_gave s _ _ _ (FileAnswer asked) st text isnt (of_long asked) c
+    of_file : (job : Job) → FileCause job s st text → (s.faults' ≡ s.faults)
+        × ((bytes : List ℕ) × Gave s 0 (file_name job) 1048576 bytes × FileAnswer job bytes st text)
+    of_file job c = file_gave s _ _ _ (FileAnswer job) st text isnt (of_long job) c
 
-    pub job_gave : (asked : Asked) → JobCause s st text asked → (s.faults' ≡ s.faults)
-        × AnswerOf (λ name. IsAllOf (s.contents 0 name)) (Gave s) asked st text
-    job_gave (jobs.Run tr w f q name) (by_file has c) = of_file (jobs.Run tr w f q name) c
-    job_gave (jobs.Walk tr g q name) (by_file has c) = of_file (jobs.Walk tr g q name) c
-    job_gave (jobs.View tr k name) (by_file has c) = of_file (jobs.View tr k name) c
-    job_gave (jobs.Trace tr w f name) (by_file has c) = of_file (jobs.Trace tr w f name) c
-    job_gave (jobs.Demand tr f q name) (by_file has c) = of_file (jobs.Demand tr f q name) c
-    job_gave (jobs.Certify tr b w f q name) (by_file has c) = of_file (jobs.Certify tr b w f q name) c
-    job_gave (jobs.Net tr true w f name) (by_file has c) = of_file (jobs.Net tr true w f name) c
+    pub job_gave : (job : Job) → JobCause s st text job → (s.faults' ≡ s.faults)
+        × AnswerOf (λ name. IsAllOf (s.contents 0 name)) (Gave s) job st text
     job_gave (jobs.Net tr false w f name) (by_file has c) = absurd has
     job_gave (jobs.Net tr false w f name) (by_net_file c) =
         file_gave s _ _ _ (NetFileAnswer f) st text isnt (λ bytes l is e. net_answers.long l is e) c
@@ -108,11 +101,12 @@ module _ (s : Seen) (st : Status) (text : List ℕ) where
         inr (y, is, k),
       ),
     )
+    job_gave job (by_file has c) = of_file job c
 
 -- the text of a fault, and that it comes of a file
-job_failed : (s : Seen) (text : List ℕ) (asked : Asked) → JobCause s ReadFault text asked → text ≡ fault_text
-job_failed s text asked (by_file has c) =
-    file_failed s _ _ _ (FileAnswer asked) ReadFault text refl (file_no_fault asked text) c
+job_failed : (s : Seen) (text : List ℕ) (job : Job) → JobCause s ReadFault text job → text ≡ fault_text
+job_failed s text job (by_file has c) =
+    file_failed s _ _ _ (FileAnswer job) ReadFault text refl (file_no_fault job text) c
 job_failed s text _ (by_journal {translation = tr} {t = t} {names = names} whole i c) =
     file_failed (on_second s) _ _ _ (JournalAnswer tr t names) ReadFault text refl (λ bytes h. h) c
 job_failed s text _ (by_making {runs = false} same m) = let e = m.0 in absurd (cc)
@@ -128,7 +122,7 @@ job_failed s text _ (by_second {translation = tr} {workers = w} {fuel = f} {head
     (file_no_fault (jobs.Run tr w f q b) text) c
 job_failed s text _ (by_both same whole x gave y is k) = absurd (cc)
 
-has_file : (s : Seen) (text : List ℕ) (asked : Asked) → JobCause s ReadFault text asked → HasFile asked
+has_file : (s : Seen) (text : List ℕ) (job : Job) → JobCause s ReadFault text job → HasFile job
 has_file s text (jobs.Gen tr runs k) (by_file has c) = absurd has
 has_file s text (jobs.Gen tr false k) (by_making same m) = let e = m.0 in absurd (cc)
 has_file s text (jobs.Gen tr true k) (by_making same m) =
@@ -139,33 +133,20 @@ has_file s text _ c = tt
 
 module _ (words : List (String Global)) (s : Seen) where
   by_job : (st : Status) (text : List ℕ) → st ≢ ReadFault →
-      (asked : Asked) × AskFor words asked × JobCause s st text asked → (s.faults' ≡ s.faults)
-      × ((asked : Asked) × AskFor words asked × AnswerOf (λ name. IsAllOf (s.contents 0 name)) (Gave s) asked st text)
+      (job : Job) × AskFor words job × JobCause s st text job → (s.faults' ≡ s.faults)
+      × ((job : Job) × AskFor words job × AnswerOf (λ name. IsAllOf (s.contents 0 name)) (Gave s) job st text)
   by_job st text isnt c = let g = job_gave s st text isnt c.0 c.2 in (g.0, (c.0, c.1, g.1))
 
   pub cause_by : (st : Status) (text : List ℕ) → Cause words s st text → HasCause words s st text
   cause_by Usage text c = (c.1, c.0, c.2)
   cause_by ReadFault text c =
       (job_fault c.0 s text c.2, job_failed s text c.0 c.2, (c.0, c.1, has_file s text c.0 c.2))
-  cause_by Done text c = by_job Done text (λ e. absurd (cc)) c
-  cause_by Syntax text c = by_job Syntax text (λ e. absurd (cc)) c
-  cause_by Spent text c = by_job Spent text (λ e. absurd (cc)) c
-  cause_by WriteFault text c = by_job WriteFault text (λ e. absurd (cc)) c
-  cause_by NoMemory text c = by_job NoMemory text (λ e. absurd (cc)) c
-  cause_by Limit text c = by_job Limit text (λ e. absurd (cc)) c
-  cause_by BadNet text c = by_job BadNet text (λ e. absurd (cc)) c
+  cause_by st text c = by_job st text (λ e. absurd (cc)) c
 
   pub ends_by : (g g' : ℕ) (old new : Option (List ℕ)) (r : Status) →
       Ends (Cause words s) r g g' old new → Ends (HasCause words s) r g g' old new
   ends_by g g' old new NoMemory e = e
-  ends_by g g' old new Usage e = (e.0, e.1, cause_by e.0 e.1 e.2, e.3)
-  ends_by g g' old new ReadFault e = (e.0, e.1, cause_by e.0 e.1 e.2, e.3)
-  ends_by g g' old new Done e = (e.0, e.1, cause_by e.0 e.1 e.2, e.3)
-  ends_by g g' old new Syntax e = (e.0, e.1, cause_by e.0 e.1 e.2, e.3)
-  ends_by g g' old new Spent e = (e.0, e.1, cause_by e.0 e.1 e.2, e.3)
-  ends_by g g' old new WriteFault e = (e.0, e.1, cause_by e.0 e.1 e.2, e.3)
-  ends_by g g' old new Limit e = (e.0, e.1, cause_by e.0 e.1 e.2, e.3)
-  ends_by g g' old new BadNet e = (e.0, e.1, cause_by e.0 e.1 e.2, e.3)
+  ends_by g g' old new _ e = (e.0, e.1, cause_by e.0 e.1 e.2, e.3)
 
 -- ---- and back
 
@@ -191,15 +172,15 @@ gave_within s most name bytes short (whole, inl (counted, within, to_end)) =
     record { whole = whole; counted = counted; within = within; to_end = to_end }
 gave_within s most name bytes short (whole, inr (gave_more, longer)) = absurd (omega (arith, short, longer))
 
-long_of_file : (asked : Asked) (st : Status) (text bytes : List ℕ) → 1048576 < length bytes →
-    OfFile asked bytes st text → (st ≡ Limit) × (text ≡ bytes_text)
-long_of_file asked st text bytes l (too_long l' h) = (h.0, h.1)
-long_of_file asked st text bytes l (refused l' at r h) = absurd (omega arith)
-long_of_file asked st text bytes l (has_term l' t names f h) = absurd (omega arith)
+long_of_file : (job : Job) (st : Status) (text bytes : List ℕ) → 1048576 < length bytes →
+    OfFile job bytes st text → (st ≡ Limit) × (text ≡ bytes_text)
+long_of_file job st text bytes l (too_long l' h) = (h.0, h.1)
+long_of_file job st text bytes l (refused l' at r h) = absurd (omega arith)
+long_of_file job st text bytes l (has_term l' t names f h) = absurd (omega arith)
 
-long_file : (asked : Asked) (st : Status) (text bytes : List ℕ) → 1048576 < length bytes →
-    FileAnswer asked bytes st text → (st ≡ Limit) × (text ≡ bytes_text)
-long_file asked st text bytes l h = long_of_file asked st text bytes l (of_file_answer asked bytes st text h)
+long_file : (job : Job) (st : Status) (text bytes : List ℕ) → 1048576 < length bytes →
+    FileAnswer job bytes st text → (st ≡ Limit) × (text ≡ bytes_text)
+long_file job st text bytes l h = long_of_file job st text bytes l (of_file_answer job bytes st text h)
 
 long_of_journal : (tr : Translation) (t : Tree) (names : List (List ℕ)) (st : Status) (text bytes : List ℕ) →
     402653184 < length bytes → OfJournal tr t names bytes st text → (st ≡ Limit) × (text ≡ journal_text)
@@ -213,22 +194,13 @@ long_net fuel st text bytes l (net_answers.bad l' f h isnt is e) = absurd (omega
 long_net fuel st text bytes l (net_answers.of_net i h) = let short = i.short in absurd (omega (arith, short))
 
 module _ (s : Seen) (st : Status) (text : List ℕ) (same : s.faults' ≡ s.faults) where
-  term_cause : (asked : Asked) (bytes : List ℕ) → Gave s 0 (file_name asked) 1048576 bytes →
-      FileAnswer asked bytes st text → FileCause asked s st text
-  term_cause asked bytes g h =
-      file_cause s _ _ (file_name asked) (FileAnswer asked) st text same (long_file asked st text) bytes g h
+  term_cause : (job : Job) (bytes : List ℕ) → Gave s 0 (file_name job) 1048576 bytes →
+      FileAnswer job bytes st text → FileCause job s st text
+  term_cause job bytes g h =
+      file_cause s _ _ (file_name job) (FileAnswer job) st text same (long_file job st text) bytes g h
 
-  pub job_caused : (asked : Asked) → AnswerOf (λ name. IsAllOf (s.contents 0 name)) (Gave s) asked st text →
-      JobCause s st text asked
-  job_caused (jobs.Run tr w f q name) (bytes, g, h) = by_file tt (term_cause (jobs.Run tr w f q name) bytes g h)
-  job_caused (jobs.Walk tr e q name) (bytes, g, h) = by_file tt (term_cause (jobs.Walk tr e q name) bytes g h)
-  job_caused (jobs.View tr k name) (bytes, g, h) = by_file tt (term_cause (jobs.View tr k name) bytes g h)
-  job_caused (jobs.Trace tr w f name) (bytes, g, h) = by_file tt (term_cause (jobs.Trace tr w f name) bytes g h)
-  job_caused (jobs.Demand tr f q name) (bytes, g, h) = by_file tt (term_cause (jobs.Demand tr f q name) bytes g h)
-  job_caused (jobs.Certify tr b w f q name) (bytes, g, h) =
-      by_file tt (term_cause (jobs.Certify tr b w f q name) bytes g h)
-  job_caused (jobs.Net tr true w f name) (bytes, g, h) =
-      by_file tt (term_cause (jobs.Net tr true w f name) bytes g h)
+  pub job_caused : (job : Job) → AnswerOf (λ name. IsAllOf (s.contents 0 name)) (Gave s) job st text →
+      JobCause s st text job
   job_caused (jobs.Net tr false w f name) (bytes, g, h) =
       by_net_file (file_cause s _ _ name (NetFileAnswer f) st text same (long_net f st text) bytes g h)
   job_caused (jobs.Gen tr runs k) m = by_making same m
@@ -244,10 +216,11 @@ module _ (s : Seen) (st : Status) (text : List ℕ) (same : s.faults' ≡ s.faul
       (long_file (jobs.Run tr w f q b) st text) bytes' g h)
   job_caused (jobs.Equal tr w f q a b) (inr (bytes, bytes', whole, x, g, inr (y, is, k))) =
       by_both same whole x (gave_within (on_second s) 1048576 b bytes' y.file.short g) y is k
+  job_caused job h = by_file tt (term_cause job h.0 h.1 h.2)
 
 -- the source failed at the file of a job that has one
-failed_job : (s : Seen) (text : List ℕ) (asked : Asked) → HasFile asked → Rose s.faults s.faults' →
-    text ≡ fault_text → JobCause s ReadFault text asked
+failed_job : (s : Seen) (text : List ℕ) (job : Job) → HasFile job → Rose s.faults s.faults' →
+    text ≡ fault_text → JobCause s ReadFault text job
 failed_job s text (jobs.Gen tr runs k) has rose e = absurd has
 failed_job s text (jobs.Net tr false w f name) has rose e = by_net_file (failed rose refl e)
 failed_job s text (jobs.Equal tr w f q a b) has rose e = by_first (λ e. absurd (cc)) (failed rose refl e)
@@ -256,11 +229,5 @@ failed_job s text _ has rose e = by_file tt (failed rose refl e)
 pub cause_cases : (words : List (String Global)) (s : Seen) (st : Status) (text : List ℕ) →
     HasCause words s st text → Cause words s st text
 cause_cases words s Usage text (same, lacks, e) = (lacks, same, e)
-cause_cases words s ReadFault text (rose, e, (asked, j, has)) = (asked, j, failed_job s text asked has rose e)
-cause_cases words s Done text (same, (asked, j, h)) = (asked, j, job_caused s Done text same asked h)
-cause_cases words s Syntax text (same, (asked, j, h)) = (asked, j, job_caused s Syntax text same asked h)
-cause_cases words s Spent text (same, (asked, j, h)) = (asked, j, job_caused s Spent text same asked h)
-cause_cases words s WriteFault text (same, (asked, j, h)) = (asked, j, job_caused s WriteFault text same asked h)
-cause_cases words s NoMemory text (same, (asked, j, h)) = (asked, j, job_caused s NoMemory text same asked h)
-cause_cases words s Limit text (same, (asked, j, h)) = (asked, j, job_caused s Limit text same asked h)
-cause_cases words s BadNet text (same, (asked, j, h)) = (asked, j, job_caused s BadNet text same asked h)
+cause_cases words s ReadFault text (rose, e, (job, j, has)) = (job, j, failed_job s text job has rose e)
+cause_cases words s st text h = (h.1.0, h.1.1, job_caused s st text h.0 h.1.0 h.1.2)

@@ -16,7 +16,7 @@ use Rattle.ol_law_lines.proofs.Counts.{times, times_append}
 use Rattle.ol_law_lines.proofs.Printed.{decimal_none, feed}
 use Rattle.ol_law_lines.proofs.Lines.{line_of}
 use Rattle.ol_cli.specs.Jobs.{Files}
-use Rattle.ol_words.specs.declared.jobs.Job.TheVariants.{Equal as equal}
+use Rattle.ol_words.specs.declared.jobs.Job.TheVariants as jobs
 use Rattle.ol_cli.specs.SourceLaws.{WritesOfSources}
 use Rattle.ol_cli.specs.NormalForms.{SaysOfTwo, LineSaysOfTwo}
 use Rattle.ol_cli.proofs.NormalLines.{file_of}
@@ -67,7 +67,7 @@ pub writes_of_two : (words : List (String Global)) (files : Files)
     LineSaysOfTwo words files old new
 writes_of_two words files old new w tr k fuel heads a b ask m n e f t u i j =
     let r =
-    w (equal tr k fuel heads a b) ask m n e f (number t) (number u) (names_of t) (names_of u)
+    w (jobs.Equal tr k fuel heads a b) ask m n e f (number t) (number u) (names_of t) (names_of u)
     (file_of i) (file_of j) in
     record {
       line = compared_text r.compared;

@@ -1,8 +1,7 @@
 -- What the lines of counts say: no pair is stuck, and no way of contracting families at once has fewer steps than `demand`.
 use Rattle.std.proofs.Common.{◌≡◌, ℕ, List, Option, String, Global, ◌⊎◌, inl, inr, sym, ap, ◌∙◌, subst}
-use Rattle.std.specs.Prelude.{[], ◌∷◌, length, true, false}
+use Rattle.std.specs.Prelude.{[], ◌∷◌, length, true}
 use Rattle.ol_beta.specs.Leftmost.{IsNormal}
-use Rattle.ol_demand.specs.Demands.{IsDemandRun}
 use Rattle.ol_law_families.proofs.Labelling.{leftmost_is_labelled}
 use Rattle.ol_io.specs.Outside.{Appended}
 use Rattle.ol_law_levy.proofs.Demanding.{is_no_longer, is_as_short}
@@ -29,10 +28,7 @@ use Rattle.ol_translate.specs.Names.{HasNames}
 use Rattle.ol_translate.specs.Translation.{translation_of}
 use Rattle.ol_law_unstuck.proofs.Names.{count_is_none}
 use Rattle.ol_law_unstuck.proofs.TermRuns.{no_pair_is_stuck_in_order}
-use Rattle.ol_words.specs.declared.jobs.Job.{Job as Asked}
-use Rattle.ol_words.specs.declared.jobs.Job.TheVariants.{Run as run, Walk as walk, View as view}
-use Rattle.ol_words.specs.declared.jobs.Job.TheVariants.{Trace as trace, Check as check, Gen as gen}
-use Rattle.ol_words.specs.declared.jobs.Job.TheVariants.{Demand as demand, Certify as certify}
+use Rattle.ol_words.specs.declared.jobs.Job.{Job}
 use Rattle.ol_words.specs.declared.jobs.Job.TheVariants as jobs
 use Rattle.ol_cli.proofs.DemandRuns.{is_start}
 use Rattle.ol_cli.proofs.NormalLines.{run_printed, demand_printed, file_of}
@@ -94,25 +90,18 @@ module _ {bytes : List ℕ} {source : Named} (is : IsText bytes source) {transla
 
 module _ {bytes : List ℕ} {source : Named} (is : IsText bytes source) (old new : Option (List ℕ))
     (text : List ℕ) (a : Appended old text new) where
-  none_of : (asked : Asked) → PrintsCounts asked → TellsTree asked (number source) (names_of source) text →
+  none_of : (job : Job) → PrintsCounts job → TellsTree job (number source) (names_of source) text →
       CountsSay (λ line beta. Unit {0}) old new
-  none_of (run tr w f q name) k h = run_counts is old new a h
-  none_of (walk tr e q name) k h = absurd k
-  none_of (view tr n name) k h = absurd k
-  none_of (trace tr w f name) k h = absurd k
-  none_of (check tr first second) k h = absurd k
-  none_of (gen tr true n) k h = run_counts is old new a h
-  none_of (gen tr false n) k h = absurd k
-  none_of (demand tr f q name) k h = demand_counts is old new a h (λ line beta. Unit {0}) tt
-  none_of (certify tr b w f q name) k h = absurd k
-  none_of (jobs.Net tr from w f name) k h = absurd k
-  none_of (jobs.Equal tr w f q first second) k h = absurd k
+  none_of (jobs.Run tr w f q name) k h = run_counts is old new a h
+  none_of (jobs.Gen tr true n) k h = run_counts is old new a h
+  none_of (jobs.Demand tr f q name) k h = demand_counts is old new a h (λ line beta. Unit {0}) tt
+  none_of _ k h = absurd k
 
 pub writes_no_stuck : (words : List (String Global)) (bytes : List ℕ) (old new : Option (List ℕ)) →
     WritesTree words bytes old new → NoneIsStuck words bytes old new
-writes_no_stuck words bytes old new w asked j k source is =
-    let r = w asked (number source) (names_of source) j (file_of is) in
-    none_of is old new r.0 r.2 asked k r.1
+writes_no_stuck words bytes old new w job j k source is =
+    let r = w job (number source) (names_of source) j (file_of is) in
+    none_of is old new r.0 r.2 job k r.1
 
 -- ---- the fewest steps
 
@@ -155,7 +144,7 @@ pub writes_fewest : (words : List (String Global)) (bytes : List ℕ) (old new :
     WritesTree words bytes old new → BetasAreFewest words bytes old new
 unfolding demand_printed
 writes_fewest words bytes old new w translation fuel heads name j source is =
-    let r = w (demand translation fuel heads name) (number source) (names_of source) j (file_of is) in
+    let r = w (jobs.Demand translation fuel heads name) (number source) (names_of source) j (file_of is) in
     demand_counts is old new r.2 r.1 (AreFewest source)
     (fewest translation source fuel heads r.0 (names_good bytes source is) (has_names is) r.1.demands
     (line_is_normal_form is (demand_printed r.1)))

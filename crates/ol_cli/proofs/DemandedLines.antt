@@ -20,10 +20,7 @@ use Rattle.ol_readback.specs.declared.answers.ReadNode.{ReadNode}
 use Rattle.ol_law_completeness.specs.Complete.{HaveInversions}
 use Rattle.ol_law_completeness.proofs.Levelled.{normal_form_is_read}
 use Rattle.ol_law_confluence.proofs.LeftmostEnds.{leftmost_finds}
-use Rattle.ol_words.specs.declared.jobs.Job.{Job as Asked}
-use Rattle.ol_words.specs.declared.jobs.Job.TheVariants.{Run as run, Walk as walk, View as view}
-use Rattle.ol_words.specs.declared.jobs.Job.TheVariants.{Trace as trace, Check as check, Gen as gen}
-use Rattle.ol_words.specs.declared.jobs.Job.TheVariants.{Demand as demand, Certify as certify}
+use Rattle.ol_words.specs.declared.jobs.Job.{Job}
 use Rattle.ol_words.specs.declared.jobs.Job.TheVariants as jobs
 use Rattle.ol_law_lines.specs.NormalForms.{IsNormalFormOf}
 use Rattle.ol_law_lines.proofs.Read.{read_line, line_is_normal_form}
@@ -128,30 +125,24 @@ found {tr} {bytes} {source} {fuel} {heads} {text} is d v r n few =
 
 module _ {bytes : List ℕ} {source : Named} (is : IsText bytes source) (old new : Option (List ℕ))
     (text : List ℕ) (a : Appended old text new) where
-  found_of : (asked : Asked) → PrintsTerm asked →
-      TellsTree asked (number source) (names_of source) text →
-      FirstLine (IsFoundOnDemand asked source) old new
+  found_of : (job : Job) → PrintsTerm job →
+      TellsTree job (number source) (names_of source) text →
+      FirstLine (IsFoundOnDemand job source) old new
   unfolding demand_printed
-  found_of (run tr w f q name) k h =
-      first_line is (run_printed h) (IsFoundOnDemand (run tr w f q name) source) old new a tt
-  found_of (walk tr e q name) k h =
-      first_line is (walk_printed h) (IsFoundOnDemand (walk tr e q name) source) old new a tt
-  found_of (view tr n name) k h = absurd k
-  found_of (trace tr w f name) k h = absurd k
-  found_of (check tr first second) k h = absurd k
-  found_of (gen tr true n) k h =
-      first_line is (run_printed h) (IsFoundOnDemand (gen tr true n) source) old new a tt
-  found_of (gen tr false n) k h = absurd k
-  found_of (demand tr f q name) k h =
-      first_line is (demand_printed h) (IsFoundOnDemand (demand tr f q name) source) old new a
+  found_of (jobs.Run tr w f q name) k h =
+      first_line is (run_printed h) (IsFoundOnDemand (jobs.Run tr w f q name) source) old new a tt
+  found_of (jobs.Walk tr e q name) k h =
+      first_line is (walk_printed h) (IsFoundOnDemand (jobs.Walk tr e q name) source) old new a tt
+  found_of (jobs.Gen tr true n) k h =
+      first_line is (run_printed h) (IsFoundOnDemand (jobs.Gen tr true n) source) old new a tt
+  found_of (jobs.Demand tr f q name) k h =
+      first_line is (demand_printed h) (IsFoundOnDemand (jobs.Demand tr f q name) source) old new a
       (found is h)
-  found_of (certify tr b w f q name) k h = absurd k
-  found_of (jobs.Net tr from w f name) k h = absurd k
-  found_of (jobs.Equal tr w f q first second) k h = absurd k
+  found_of _ k h = absurd k
 
 pub writes_demanded : (words : List (String Global)) (bytes : List ℕ)
     (old new : Option (List ℕ)) → WritesTree words bytes old new →
     LineSays IsFoundOnDemand words bytes old new
-writes_demanded words bytes old new w asked j k source is =
-    let r = w asked (number source) (names_of source) j (file_of is) in
-    found_of is old new r.0 r.2 asked k r.1
+writes_demanded words bytes old new w job j k source is =
+    let r = w job (number source) (names_of source) j (file_of is) in
+    found_of is old new r.0 r.2 job k r.1

@@ -1,3 +1,5 @@
+mod Statuses
+mod TermLaws
 mod Causes
 mod Views
 mod Exact

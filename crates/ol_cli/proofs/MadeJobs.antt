@@ -2,7 +2,7 @@
 use Rattle.std.proofs.Common.{◌≡◌, ℕ, List, None, true, false, subst}
 use Rattle.ol_term.specs.declared.translations.Translation.{Translation}
 use Rattle.ol_term.specs.Generated.{doubled_text}
-use Rattle.ol_words.specs.declared.jobs.Job.TheVariants.{Gen as gen}
+use Rattle.ol_words.specs.declared.jobs.Job.TheVariants as jobs
 use Rattle.ol_cli.specs.declared.answer.Answer.{Answer}
 use Rattle.ol_cli.specs.declared.status.Status.TheVariants.{Done}
 use Rattle.ol_cli.specs.Answers.{Seen}
@@ -18,7 +18,7 @@ use Rattle.ol_cli.proofs.ReadAgain.{made_read}
 
 pub made_comes : (tr : Translation) (k : ℕ) (s : Seen) → s.faults' ≡ s.faults → (a : Answer) →
     a.status ≡ Done → a.text.items ≡ doubled_text k → a.closed ≡ None →
-    ComesOf (gen tr false k) s a
+    ComesOf (jobs.Gen tr false k) s a
 made_comes tr k s same a is e none = record {
   caused = by_making same (is, e);
   read = λ bytes told t names f done. tt;
@@ -30,7 +30,7 @@ pub run_comes : (tr : Translation) (k : ℕ) (s : Seen) → s.faults' ≡ s.faul
     FileAnswer (plain_run tr) bytes a.status a.text.items →
     FileIsReadAgain (plain_run tr) bytes a.status a.text.items →
     WhereEnded a.status a.closed (FileHands (plain_run tr) bytes a.status a.text.items a.closed) →
-    ComesOf (gen tr true k) s a
+    ComesOf (jobs.Gen tr true k) s a
 run_comes tr k s same a bytes e h read closed = record {
   caused =
       by_making same

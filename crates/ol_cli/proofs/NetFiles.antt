@@ -23,11 +23,11 @@ use Rattle.ol_term.specs.declared.translations.Translation.{Translation}
 use Rattle.ol_translate.proofs.Indexes.{top_is_low}
 use Rattle.ol_wire.specs.Sizes.{IsSmallNet}
 use Rattle.ol_words.specs.Texts.{Text}
-use Rattle.ol_words.specs.declared.jobs.Job.{Job as Asked}
+use Rattle.ol_words.specs.declared.jobs.Job.{Job}
 use Rattle.ol_words.specs.declared.jobs.Job.TheVariants as jobs
 use Rattle.ol_cli.specs.declared.status.Status.{Status}
-use Rattle.ol_cli.specs.declared.status.Status.TheVariants.{Done, Usage, Syntax, Spent, ReadFault}
-use Rattle.ol_cli.specs.declared.status.Status.TheVariants.{WriteFault, NoMemory, Limit, BadNet}
+use Rattle.ol_cli.specs.declared.status.Status.TheVariants.{Done, Spent}
+use Rattle.ol_cli.specs.declared.status.Status.TheVariants.{Limit, BadNet}
 use Rattle.ol_cli.specs.Laws.{HaveOneText}
 use Rattle.ol_cli.specs.Texts.{line, counts_text}
 use Rattle.ol_cli.specs.RefusalTexts.{nodes_text, spent_text}
@@ -93,11 +93,7 @@ net_status net fuel Done text h = tt
 net_status net fuel Spent text h = tt
 net_status net fuel Limit text h = tt
 net_status net fuel BadNet text h = tt
-net_status net fuel Usage text h = h
-net_status net fuel Syntax text h = h
-net_status net fuel ReadFault text h = h
-net_status net fuel WriteFault text h = h
-net_status net fuel NoMemory text h = h
+net_status net fuel _ text h = h
 
 pub net_file_status : (fuel : ℕ) (bytes : List ℕ) (st : Status) (text : List ℕ) →
     NetFileAnswer fuel bytes st text → IsOfNet st
@@ -108,13 +104,13 @@ net_file_status fuel bytes st text (of_net {net = net} i h) = net_status net fue
 -- ---- one answer
 
 -- one status, and one text as far as this job tells one
-abbrev pub Alike : Asked → Status → Status → List ℕ → List ℕ → Type 0
-Alike asked s s' x x' = (s ≡ s') × HaveOneText asked s x x'
+abbrev pub Alike : Job → Status → Status → List ℕ → List ℕ → Type 0
+Alike job s s' x x' = (s ≡ s') × HaveOneText job s x x'
 
 -- two answers of one status
-pub alike_by : (asked : Asked) (s s' u : Status) (x x' : List ℕ) → s ≡ u → s' ≡ u →
-    HaveOneText asked u x x' → Alike asked s s' x x'
-alike_by asked s s' u x x' e e' h = (e ∙ sym e', subst (λ s. HaveOneText asked s x x') (sym e) h)
+pub alike_by : (job : Job) (s s' u : Status) (x x' : List ℕ) → s ≡ u → s' ≡ u →
+    HaveOneText job u x x' → Alike job s s' x x'
+alike_by job s s' u x x' e e' h = (e ∙ sym e', subst (λ s. HaveOneText job s x x') (sym e) h)
 
 -- what a net is answered, by cases
 data OfNet (net : Graph) (fuel : ℕ) : Status → List ℕ → Type 0 where
@@ -127,12 +123,7 @@ of_net_answer : (net : Graph) (fuel : ℕ) (st : Status) (text : List ℕ) →
 of_net_answer net fuel Spent text h = runs_out h.0 h.1
 of_net_answer net fuel Limit text h = large (h.0, h.1.0) h.1.1
 of_net_answer net fuel Done text h = printed h
-of_net_answer net fuel BadNet text h = absurd h
-of_net_answer net fuel Usage text h = absurd h
-of_net_answer net fuel Syntax text h = absurd h
-of_net_answer net fuel ReadFault text h = absurd h
-of_net_answer net fuel WriteFault text h = absurd h
-of_net_answer net fuel NoMemory text h = absurd h
+of_net_answer net fuel _ text h = absurd h
 
 module _ (net : Graph) (is_net : IsNet (net_of net)) (fuel : ℕ) where
   -- the net that is left is large or not

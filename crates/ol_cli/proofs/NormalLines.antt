@@ -8,10 +8,7 @@ use Rattle.ol_parse.specs.Texts.{IsText}
 use Rattle.ol_parse.specs.Numbered.{names_of, number}
 use Rattle.ol_parse.specs.Parsed.{IsFileOf}
 use Rattle.ol_rules.specs.Counting.{counts_of}
-use Rattle.ol_words.specs.declared.jobs.Job.{Job as Asked}
-use Rattle.ol_words.specs.declared.jobs.Job.TheVariants.{Run as run, Walk as walk, View as view}
-use Rattle.ol_words.specs.declared.jobs.Job.TheVariants.{Trace as trace, Check as check, Gen as gen}
-use Rattle.ol_words.specs.declared.jobs.Job.TheVariants.{Demand as demand, Certify as certify}
+use Rattle.ol_words.specs.declared.jobs.Job.{Job}
 use Rattle.ol_words.specs.declared.jobs.Job.TheVariants as jobs
 use Rattle.ol_law_lines.proofs.Read.{IsPrinted, one_line, line_is_normal_form, lost_has_no_normal_form}
 use Rattle.ol_cli.specs.Texts.{counts_text}
@@ -76,10 +73,10 @@ module _ {source : Named} {b : Bool} {text bytes : List ℕ} (is : IsText bytes 
     says = says;
   }
 
-  normal_line : (asked : Asked) (old new : Option (List ℕ)) → Appended old text new →
-      FirstLine (IsItsNormalForm asked source) old new
-  normal_line asked old new a =
-      first_line (IsItsNormalForm asked source) old new a (line_is_normal_form is p)
+  normal_line : (job : Job) (old new : Option (List ℕ)) → Appended old text new →
+      FirstLine (IsItsNormalForm job source) old new
+  normal_line job old new a =
+      first_line (IsItsNormalForm job source) old new a (line_is_normal_form is p)
 
 pub file_of : {bytes : List ℕ} {source : Named} → IsText bytes source →
     IsFileOf bytes (number source) (names_of source)
@@ -92,56 +89,44 @@ file_of {source = source} is = record {
 
 module _ {bytes : List ℕ} {source : Named} (is : IsText bytes source) (old new : Option (List ℕ))
     (text : List ℕ) (a : Appended old text new) where
-  normal_of : (asked : Asked) → PrintsTerm asked →
-      TellsTree asked (number source) (names_of source) text →
-      FirstLine (IsItsNormalForm asked source) old new
-  normal_of (run tr w f q name) k h = normal_line is (run_printed h) (run tr w f q name) old new a
-  normal_of (walk tr e q name) k h = normal_line is (walk_printed h) (walk tr e q name) old new a
-  normal_of (view tr n name) k h = absurd k
-  normal_of (trace tr w f name) k h = absurd k
-  normal_of (check tr term journal) k h = absurd k
-  normal_of (gen tr true n) k h = normal_line is (run_printed h) (gen tr true n) old new a
-  normal_of (gen tr false n) k h = absurd k
-  normal_of (demand tr f q name) k h =
-      normal_line is (demand_printed h) (demand tr f q name) old new a
-  normal_of (certify tr b w f q name) k h = absurd k
-  normal_of (jobs.Net tr from w f name) k h = absurd k
-  normal_of (jobs.Equal tr w f q first second) k h = absurd k
+  normal_of : (job : Job) → PrintsTerm job →
+      TellsTree job (number source) (names_of source) text →
+      FirstLine (IsItsNormalForm job source) old new
+  normal_of (jobs.Run tr w f q name) k h = normal_line is (run_printed h) (jobs.Run tr w f q name) old new a
+  normal_of (jobs.Walk tr e q name) k h = normal_line is (walk_printed h) (jobs.Walk tr e q name) old new a
+  normal_of (jobs.Gen tr true n) k h = normal_line is (run_printed h) (jobs.Gen tr true n) old new a
+  normal_of (jobs.Demand tr f q name) k h =
+      normal_line is (demand_printed h) (jobs.Demand tr f q name) old new a
+  normal_of _ k h = absurd k
 
-  lost_of : (asked : Asked) → PrintsTerm asked →
-      TellsTree asked (number source) (names_of source) text →
-      FirstLine (TellsOfNone asked source) old new
-  lost_of (run tr w f q name) k h =
+  lost_of : (job : Job) → PrintsTerm job →
+      TellsTree job (number source) (names_of source) text →
+      FirstLine (TellsOfNone job source) old new
+  lost_of (jobs.Run tr w f q name) k h =
       let p = run_printed h in
-      first_line is p (TellsOfNone (run tr w f q name) source) old new a
+      first_line is p (TellsOfNone (jobs.Run tr w f q name) source) old new a
       (lost_has_no_normal_form is p)
-  lost_of (walk tr e q name) k h =
-      first_line is (walk_printed h) (TellsOfNone (walk tr e q name) source) old new a tt
-  lost_of (view tr n name) k h = absurd k
-  lost_of (trace tr w f name) k h = absurd k
-  lost_of (check tr term journal) k h = absurd k
-  lost_of (gen tr true n) k h =
+  lost_of (jobs.Walk tr e q name) k h =
+      first_line is (walk_printed h) (TellsOfNone (jobs.Walk tr e q name) source) old new a tt
+  lost_of (jobs.Gen tr true n) k h =
       let p = run_printed h in
-      first_line is p (TellsOfNone (gen tr true n) source) old new a (lost_has_no_normal_form is p)
-  lost_of (gen tr false n) k h = absurd k
-  lost_of (demand tr f q name) k h =
+      first_line is p (TellsOfNone (jobs.Gen tr true n) source) old new a (lost_has_no_normal_form is p)
+  lost_of (jobs.Demand tr f q name) k h =
       let p = demand_printed h in
-      first_line is p (TellsOfNone (demand tr f q name) source) old new a
+      first_line is p (TellsOfNone (jobs.Demand tr f q name) source) old new a
       (lost_has_no_normal_form is p)
-  lost_of (certify tr b w f q name) k h = absurd k
-  lost_of (jobs.Net tr from w f name) k h = absurd k
-  lost_of (jobs.Equal tr w f q first second) k h = absurd k
+  lost_of _ k h = absurd k
 
 pub writes_normal_form : (words : List (String Global)) (bytes : List ℕ)
     (old new : Option (List ℕ)) → WritesTree words bytes old new →
     LineSays IsItsNormalForm words bytes old new
-writes_normal_form words bytes old new w asked j k source is =
-    let r = w asked (number source) (names_of source) j (file_of is) in
-    normal_of is old new r.0 r.2 asked k r.1
+writes_normal_form words bytes old new w job j k source is =
+    let r = w job (number source) (names_of source) j (file_of is) in
+    normal_of is old new r.0 r.2 job k r.1
 
 pub writes_no_normal_form : (words : List (String Global)) (bytes : List ℕ)
     (old new : Option (List ℕ)) → WritesTree words bytes old new →
     LineSays TellsOfNone words bytes old new
-writes_no_normal_form words bytes old new w asked j k source is =
-    let r = w asked (number source) (names_of source) j (file_of is) in
-    lost_of is old new r.0 r.2 asked k r.1
+writes_no_normal_form words bytes old new w job j k source is =
+    let r = w job (number source) (names_of source) j (file_of is) in
+    lost_of is old new r.0 r.2 job k r.1

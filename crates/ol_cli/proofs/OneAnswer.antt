@@ -1,9 +1,7 @@
 -- Words that ask for one job, but for the number of its workers, have with the same files one status, and one text as
 -- far as the job tells one.
 use Rattle.std.proofs.Common.{◌≡◌, ◌≢◌, ℕ, ◌<◌, ◌≤◌, Bool, true, false, List, length, Option, Some}
-use Rattle.ol_cli.proofs.AnyRun.{any_run_ends, any_run_runs_out}
 use Rattle.ol_cli.proofs.Views.{answer_cases}
-use Rattle.ol_cli.specs.Trace.{Traces}
 use Rattle.std.proofs.Common.{inl, inr, refl, sym, ap, ◌∙◌, subst, arith, String, Global}
 use Rattle.ol_term.specs.declared.translations.Translation.{Translation}
 use Rattle.ol_term.specs.Trees.{Tree, depth}
@@ -19,39 +17,24 @@ use Rattle.ol_translate.specs.Names.{HasNames}
 use Rattle.ol_translate.specs.Sizes.{size_of_translation}
 use Rattle.ol_translate.specs.Translation.{translation_of}
 use Rattle.ol_translate.proofs.Whole.{translation_net}
-use Rattle.ol_net.specs.Numbered.{net_of}
-use Rattle.ol_netfile.specs.Written.{net_text}
-use Rattle.ol_netfile.proofs.OneGraph.{one_graph}
-use Rattle.ol_rules.proofs.Relation.{same_sym, same_trans}
-use Rattle.ol_readback.specs.declared.answers.ReadNode.{ReadNode}
 use Rattle.ol_equal.specs.Comparing.{TreeWithNames, IsComparison}
 use Rattle.ol_equal.specs.Texts.{compared_text}
 use Rattle.ol_equal.proofs.Alone.{comparison_is_one}
-use Rattle.ol_view.proofs.ShownAlike.{live_alike}
 use Rattle.ol_view.specs.declared.answers.Check.{Check}
 use Rattle.ol_view.specs.Checks.{OnlyIsFound}
 use Rattle.ol_words.specs.Texts.{Text}
-use Rattle.ol_words.specs.declared.jobs.Job.{Job as Asked}
-use Rattle.ol_words.specs.declared.jobs.Job.TheVariants.{Run as run, Walk as walk, View as view}
-use Rattle.ol_words.specs.declared.jobs.Job.TheVariants.{Trace as trace, Check as check, Gen as gen}
-use Rattle.ol_words.specs.declared.jobs.Job.TheVariants.{Demand as demand, Certify as certify}
+use Rattle.ol_words.specs.declared.jobs.Job.{Job}
 use Rattle.ol_words.specs.declared.jobs.Job.TheVariants as jobs
 use Rattle.ol_cli.specs.declared.status.Status.{Status}
-use Rattle.ol_cli.specs.declared.status.Status.TheVariants.{Done, Usage, Syntax, Spent, ReadFault}
-use Rattle.ol_cli.specs.declared.status.Status.TheVariants.{WriteFault, NoMemory, Limit, BadNet}
-use Rattle.ol_cli.specs.Jobs.{Files, AskFor, AskForNothing, file_name, translation_in}
+use Rattle.ol_cli.specs.declared.status.Status.TheVariants.{Done, Limit, Syntax, Usage}
+use Rattle.ol_cli.specs.Jobs.{EndsWithinFuel, Files, AskFor, AskForNothing, file_name, translation_in}
 use Rattle.ol_cli.specs.Laws.{HaveOneText}
 use Rattle.ol_cli.specs.Texts.{line, usage_text}
 use Rattle.ol_cli.specs.RefusalTexts.{bytes_text, depth_text, nodes_text, journal_text}
-use Rattle.ol_cli.specs.RefusalTexts.{syntax_text, spent_text}
+use Rattle.ol_cli.specs.RefusalTexts.{syntax_text}
 use Rattle.ol_cli.specs.Check.{found_text}
-use Rattle.ol_cli.specs.Run.{start_net_of_term, RunsOut, RunEnds, Prints, ReadsLast}
-use Rattle.ol_cli.specs.Walk.{Walks}
-use Rattle.ol_cli.specs.View.{Views}
-use Rattle.ol_cli.specs.Certify.{Certifies}
-use Rattle.ol_cli.specs.Demand.{Demands}
-use Rattle.ol_cli.specs.Cases.{DemandRunsOut}
-use Rattle.ol_cli.specs.Net.{WritesNet, NetFileAnswer}
+use Rattle.ol_cli.specs.Run.{start_net_of_term, ReadsLast}
+use Rattle.ol_cli.specs.Net.{NetFileAnswer}
 use Rattle.ol_cli.specs.TermFiles.{IsTermFile}
 use Rattle.ol_cli.specs.Cases.{TermAnswer, FileAnswer}
 use Rattle.ol_cli.specs.Check.{JournalAnswer}
@@ -60,9 +43,8 @@ use Rattle.ol_cli.specs.Answers.{IsAnswer}
 use Rattle.ol_cli.specs.Cases.{of_second, of_both}
 use Rattle.ol_cli.specs.Equal.{HasTree, Compares}
 use Rattle.ol_cli.specs.Generate.{Makes, plain_run}
-use Rattle.ol_cli.proofs.OnePrint.{ends_or_not, ends_or_runs_out, reads_or_runs_out, one_last_tree}
-use Rattle.ol_cli.proofs.OnePrint.{one_print, one_walk, one_view, one_certified}
-use Rattle.ol_cli.proofs.DemandRuns.{one_demanded, demand_ends_or_not}
+use Rattle.ol_cli.proofs.OnePrint.{one_last_tree}
+use Rattle.ol_cli.proofs.TermLaws.{done_by_laws, laws, one_by_laws}
 use Rattle.ol_cli.proofs.NetFiles.{Alike, alike_by, one_net_file}
 
 abbrev pub Same : Status → Status → List ℕ → List ℕ → Type 0
@@ -73,23 +55,14 @@ pub same_as : (s s' u : Status) (x x' y : List ℕ) → Same s u x y → Same s'
 same_as s s' u x x' y h h' = (h.0 ∙ sym h'.0, h.1 ∙ sym h'.1)
 
 -- refusals have one text, whatever the job is
-refused_texts : (asked : Asked) (x x' : List ℕ) → x ≡ x' → HaveOneText asked Limit x x' × HaveOneText asked Syntax x x'
-refused_texts (run tr w f q name) x x' e = (e, e)
-refused_texts (walk tr g q name) x x' e = (e, e)
-refused_texts (view tr k name) x x' e = (e, e)
-refused_texts (trace tr w f name) x x' e = (e, e)
-refused_texts (check tr term journal) x x' e = (e, e)
-refused_texts (gen tr runs k) x x' e = (e, e)
-refused_texts (demand tr f q name) x x' e = (e, e)
-refused_texts (certify tr b w f q name) x x' e = (e, e)
+refused_texts : (job : Job) (x x' : List ℕ) → x ≡ x' → HaveOneText job Limit x x' × HaveOneText job Syntax x x'
 refused_texts (jobs.Net tr true w f name) x x' e = (e, e)
-refused_texts (jobs.Net tr false w f name) x x' e = (e, e)
-refused_texts (jobs.Equal tr w f q first second) x x' e = (e, e)
+refused_texts _ x x' e = (e, e)
 
 -- two answers of a job that are each this limit
-alike_as : (asked : Asked) (s s' : Status) (x x' y : List ℕ) → Same s Limit x y →
-    Same s' Limit x' y → Alike asked s s' x x'
-alike_as asked s s' x x' y h h' = alike_by asked s s' Limit x x' h.0 h'.0 (refused_texts asked x x' (h.1 ∙ sym h'.1)).0
+alike_as : (job : Job) (s s' : Status) (x x' y : List ℕ) → Same s Limit x y →
+    Same s' Limit x' y → Alike job s s' x x'
+alike_as job s s' x x' y h h' = alike_by job s s' Limit x x' h.0 h'.0 (refused_texts job x x' (h.1 ∙ sym h'.1)).0
 
 -- ---- a term
 
@@ -106,259 +79,97 @@ pub file_net : (tr : Translation) (bytes : List ℕ) (t : Tree) (names : List (L
     IsFileOf bytes t names → IsNet (translation_of tr t (length names))
 file_net tr bytes t names f = translation_net tr t (length names) (file_names bytes t names f)
 
--- a trace of a complete run within the fuel, or of one that is as long and goes on, tells how the
--- one-thread run ends
-module _ (tr : Translation) (t : Tree) (names : List (List ℕ)) (fuel : ℕ)
-    (n : IsNet (translation_of tr t (length names))) (x : List ℕ) where
-  pub trace_ends : Traces tr t names fuel Done x → RunEnds (start_net_of_term tr t names) fuel
-  trace_ends h = any_run_ends tr t names fuel n h.journal h.net h.run h.ends.0 h.ends.1
-
-  pub trace_runs_out : Traces tr t names fuel Spent x → RunsOut (start_net_of_term tr t names) fuel
-  trace_runs_out h = any_run_runs_out tr t names fuel n h.journal h.net h.run (inr (h.ends.1, h.ends.0))
-
--- what a job answers to a term, by cases
-pub data OfTerm (t : Tree) (names : List (List ℕ)) : Asked → Status → List ℕ → Type 0 where
-  spent : {tr : Translation} {w fuel heads : ℕ} {name x : List ℕ} → RunsOut (start_net_of_term tr t names) fuel →
-      x ≡ spent_text fuel → OfTerm t names (run tr w fuel heads name) Spent x
-  printed : {tr : Translation} {w fuel heads : ℕ} {name x : List ℕ} →
-      Prints tr t names fuel heads x → OfTerm t names (run tr w fuel heads name) Done x
-  walked : {tr : Translation} {edges heads : ℕ} {name x : List ℕ} → Walks tr t names edges heads x →
-      OfTerm t names (walk tr edges heads name) Done x
-  viewed : {tr : Translation} {after : ℕ} {name x : List ℕ} → Views tr t names after x →
-      OfTerm t names (view tr after name) Done x
-  traced : {tr : Translation} {w fuel : ℕ} {name x : List ℕ} → Traces tr t names fuel Done x →
-      OfTerm t names (trace tr w fuel name) Done x
-  demanded : {tr : Translation} {fuel heads : ℕ} {name x : List ℕ} →
-      Demands tr t names fuel heads x → OfTerm t names (demand tr fuel heads name) Done x
-  undemanded : {tr : Translation} {fuel heads : ℕ} {name x : List ℕ} →
-      DemandRunsOut tr t names fuel heads → x ≡ spent_text fuel → OfTerm t names (demand tr fuel heads name) Spent x
-  certified : {tr : Translation} {b w fuel heads : ℕ} {name x : List ℕ} →
-      Certifies tr t names b fuel heads x → OfTerm t names (certify tr b w fuel heads name) Done x
-  uncertified : {tr : Translation} {b w fuel heads : ℕ} {name x : List ℕ} →
-      RunsOut (start_net_of_term tr t names) fuel → x ≡ spent_text fuel →
-      OfTerm t names (certify tr b w fuel heads name) Spent x
-  stopped : {tr : Translation} {w fuel : ℕ} {name x : List ℕ} → Traces tr t names fuel Spent x →
-      OfTerm t names (trace tr w fuel name) Spent x
-  netted : {tr : Translation} {w fuel : ℕ} {name x : List ℕ} → WritesNet tr t names x →
-      OfTerm t names (jobs.Net tr true w fuel name) Done x
-
-pub of_term : (t : Tree) (names : List (List ℕ)) (a : Asked) (s : Status) (x : List ℕ) →
-    TermAnswer a t names s x → OfTerm t names a s x
-of_term t names (run tr w fuel heads name) Spent x h = spent h.0 h.1
-of_term t names (run tr w fuel heads name) Done x h = printed h
-of_term t names (run tr w fuel heads name) Usage x h = absurd h
-of_term t names (run tr w fuel heads name) Syntax x h = absurd h
-of_term t names (run tr w fuel heads name) ReadFault x h = absurd h
-of_term t names (run tr w fuel heads name) WriteFault x h = absurd h
-of_term t names (run tr w fuel heads name) NoMemory x h = absurd h
-of_term t names (run tr w fuel heads name) Limit x h = absurd h
-of_term t names (run tr w fuel heads name) BadNet x h = absurd h
-of_term t names (walk tr edges heads name) Spent x h = absurd h
-of_term t names (walk tr edges heads name) Done x h = walked h
-of_term t names (walk tr edges heads name) Usage x h = absurd h
-of_term t names (walk tr edges heads name) Syntax x h = absurd h
-of_term t names (walk tr edges heads name) ReadFault x h = absurd h
-of_term t names (walk tr edges heads name) WriteFault x h = absurd h
-of_term t names (walk tr edges heads name) NoMemory x h = absurd h
-of_term t names (walk tr edges heads name) Limit x h = absurd h
-of_term t names (walk tr edges heads name) BadNet x h = absurd h
-of_term t names (view tr k name) Done x h = viewed h
-of_term t names (view tr k name) Spent x h = absurd h
-of_term t names (view tr k name) Usage x h = absurd h
-of_term t names (view tr k name) Syntax x h = absurd h
-of_term t names (view tr k name) ReadFault x h = absurd h
-of_term t names (view tr k name) WriteFault x h = absurd h
-of_term t names (view tr k name) NoMemory x h = absurd h
-of_term t names (view tr k name) Limit x h = absurd h
-of_term t names (view tr k name) BadNet x h = absurd h
-of_term t names (trace tr w f name) Done x h = traced h
-of_term t names (trace tr w f name) Spent x h = stopped h
-of_term t names (trace tr w f name) Usage x h = absurd h.ends
-of_term t names (trace tr w f name) Syntax x h = absurd h.ends
-of_term t names (trace tr w f name) ReadFault x h = absurd h.ends
-of_term t names (trace tr w f name) WriteFault x h = absurd h.ends
-of_term t names (trace tr w f name) NoMemory x h = absurd h.ends
-of_term t names (trace tr w f name) Limit x h = absurd h.ends
-of_term t names (trace tr w f name) BadNet x h = absurd h.ends
-of_term t names (check tr term journal) s x h = absurd h
-of_term t names (gen tr runs k) s x h = absurd h
-of_term t names (demand tr fuel heads name) Spent x h = undemanded h.0 h.1
-of_term t names (demand tr fuel heads name) Done x h = demanded h
-of_term t names (demand tr fuel heads name) Usage x h = absurd h
-of_term t names (demand tr fuel heads name) Syntax x h = absurd h
-of_term t names (demand tr fuel heads name) ReadFault x h = absurd h
-of_term t names (demand tr fuel heads name) WriteFault x h = absurd h
-of_term t names (demand tr fuel heads name) NoMemory x h = absurd h
-of_term t names (demand tr fuel heads name) Limit x h = absurd h
-of_term t names (demand tr fuel heads name) BadNet x h = absurd h
-of_term t names (certify tr b w fuel heads name) Spent x h = uncertified h.0 h.1
-of_term t names (certify tr b w fuel heads name) Done x h = certified h
-of_term t names (certify tr b w fuel heads name) Usage x h = absurd h
-of_term t names (certify tr b w fuel heads name) Syntax x h = absurd h
-of_term t names (certify tr b w fuel heads name) ReadFault x h = absurd h
-of_term t names (certify tr b w fuel heads name) WriteFault x h = absurd h
-of_term t names (certify tr b w fuel heads name) NoMemory x h = absurd h
-of_term t names (certify tr b w fuel heads name) Limit x h = absurd h
-of_term t names (certify tr b w fuel heads name) BadNet x h = absurd h
-of_term t names (jobs.Net tr true w f name) Done x h = netted h
-of_term t names (jobs.Net tr true w f name) Spent x h = absurd h
-of_term t names (jobs.Net tr true w f name) Usage x h = absurd h
-of_term t names (jobs.Net tr true w f name) Syntax x h = absurd h
-of_term t names (jobs.Net tr true w f name) ReadFault x h = absurd h
-of_term t names (jobs.Net tr true w f name) WriteFault x h = absurd h
-of_term t names (jobs.Net tr true w f name) NoMemory x h = absurd h
-of_term t names (jobs.Net tr true w f name) Limit x h = absurd h
-of_term t names (jobs.Net tr true w f name) BadNet x h = absurd h
-of_term t names (jobs.Net tr false w f name) s x h = absurd h
-of_term t names (jobs.Equal tr w f q first second) s x h = absurd h
-
--- the net of a term has one text
-one_net_text : (tr : Translation) (t : Tree) (names : List (List ℕ)) (x x' : List ℕ) →
-    WritesNet tr t names x → WritesNet tr t names x' → x ≡ x'
-one_net_text tr t names x x' w w' =
-    let N = translation_of tr t (length names) in
-    let same = same_trans (net_of w.net) N (net_of w'.net) w.same (same_sym (net_of w'.net) N w'.same) in
-    let size : length w.net.nodes ≡ length w'.net.nodes = sym w.whole ∙ live_alike w.net w'.net same ∙ w'.whole in
-    w.written ∙ ap net_text (one_graph w.net w'.net w.tabled w'.tabled same size) ∙ sym w'.written
-
-one_of_term : (t : Tree) (names : List (List ℕ)) → (a : Asked) →
-    IsNet (translation_of (translation_in a) t (length names)) → (s s' : Status) (x x' : List ℕ) →
-    OfTerm t names a s x → OfTerm t names a s' x' → Alike a s s' x x'
-one_of_term t names a n s s' x x' (spent r e) (spent r' e') = (refl, e ∙ sym e')
-one_of_term t names a n s s' x x' (spent {tr = tr} {fuel = fuel} {heads = heads} r e)
-    (printed p) = absurd (ends_or_not tr t names n fuel heads x' r p)
-one_of_term t names a n s s' x x' (printed {tr = tr} {fuel = fuel} {heads = heads} p)
-    (spent r e) = absurd (ends_or_not tr t names n fuel heads x r p)
-one_of_term t names a n s s' x x' (printed {tr = tr} {fuel = fuel} {heads = heads} p)
-    (printed p') = (refl, one_print tr t names n fuel heads x x' p p')
-one_of_term t names a n s s' x x' (walked {tr = tr} {edges = edges} {heads = heads} w)
-    (walked w') = (refl, one_walk tr t names n edges heads x x' w w')
-one_of_term t names a n s s' x x' (traced e) (traced e') = (refl, tt)
-one_of_term t names a n s s' x x' (traced {tr = tr} {fuel = fuel} e) (stopped r) = absurd
-    (ends_or_runs_out tr t names n fuel (trace_runs_out tr t names fuel n x' r) (trace_ends tr t names fuel n x e))
-one_of_term t names a n s s' x x' (stopped {tr = tr} {fuel = fuel} r) (traced e) = absurd
-    (ends_or_runs_out tr t names n fuel (trace_runs_out tr t names fuel n x r) (trace_ends tr t names fuel n x' e))
-one_of_term t names a n s s' x x' (stopped r) (stopped r') = (refl, tt)
-one_of_term t names a n s s' x x' (netted {tr = tr} w) (netted w') = (refl, one_net_text tr t names x x' w w')
-one_of_term t names a n s s' x x' (undemanded r e) (undemanded r' e') = (refl, e ∙ sym e')
-one_of_term t names a n s s' x x' (undemanded {tr = tr} {fuel = fuel} {heads = heads} r e)
-    (demanded d) = absurd (demand_ends_or_not tr t names n fuel heads r d.ends)
-one_of_term t names a n s s' x x' (demanded {tr = tr} {fuel = fuel} {heads = heads} d)
-    (undemanded r e) = absurd (demand_ends_or_not tr t names n fuel heads r d.ends)
-one_of_term t names a n s s' x x' (demanded {tr = tr} {fuel = fuel} {heads = heads} d)
-    (demanded d') = (refl, one_demanded tr t names n fuel heads x x' d d')
-one_of_term t names a n s s' x x' (uncertified r e) (uncertified r' e') = (refl, e ∙ sym e')
-one_of_term t names a n s s' x x' (uncertified {tr = tr} {fuel = fuel} {heads = heads} r e)
-    (certified c) = absurd (reads_or_runs_out tr t names n fuel heads c.tree r c.last)
-one_of_term t names a n s s' x x' (certified {tr = tr} {fuel = fuel} {heads = heads} c)
-    (uncertified r e) = absurd (reads_or_runs_out tr t names n fuel heads c.tree r c.last)
-one_of_term t names a n s s' x x' (certified {tr = tr} {b = b} {fuel = fuel} {heads = heads} c)
-    (certified c') = (refl, one_certified tr t names n b fuel heads x x' c c')
-one_of_term t names a n s s' x x' (viewed {tr = tr} {after = after} v)
-    (viewed v') = (refl, one_view tr t names n after x x' v v')
-
 -- what a job answers to a tree, by the order of refusals
-pub data OfTree (asked : Asked) (t : Tree) (names : List (List ℕ)) (s : Status) (x : List ℕ) : Type 0 where
-  too_deep : 1000 < depth t → Same s Limit x depth_text → OfTree asked t names s x
-  too_large : depth t ≤ 1000 → 200000 < size_of_translation (translation_in asked) t →
-      Same s Limit x nodes_text → OfTree asked t names s x
-  done : depth t ≤ 1000 → size_of_translation (translation_in asked) t ≤ 200000 →
-      TermAnswer asked t names s x → OfTree asked t names s x
+pub data OfTree (job : Job) (t : Tree) (names : List (List ℕ)) (s : Status) (x : List ℕ) : Type 0 where
+  too_deep : 1000 < depth t → Same s Limit x depth_text → OfTree job t names s x
+  too_large : depth t ≤ 1000 → 200000 < size_of_translation (translation_in job) t →
+      Same s Limit x nodes_text → OfTree job t names s x
+  done : depth t ≤ 1000 → size_of_translation (translation_in job) t ≤ 200000 →
+      TermAnswer job t names s x → OfTree job t names s x
 
-one_of_tree : (asked : Asked) (t : Tree) (names : List (List ℕ)) →
-    IsNet (translation_of (translation_in asked) t (length names)) →
-    (s s' : Status) (x x' : List ℕ) → OfTree asked t names s x → OfTree asked t names s' x' → Alike asked s s' x x'
-one_of_tree asked t names n s s' x x' (too_deep d h) (too_deep d' h') = alike_as asked s s' x x' depth_text h h'
-one_of_tree asked t names n s s' x x' (too_deep d h) (too_large d' z' h') = absurd (omega arith)
-one_of_tree asked t names n s s' x x' (too_deep d h) (done d' z' h') = absurd (omega arith)
-one_of_tree asked t names n s s' x x' (too_large d z h) (too_deep d' h') = absurd (omega arith)
-one_of_tree asked t names n s s' x x' (too_large d z h) (too_large d' z' h') = alike_as asked s s' x x' nodes_text h h'
-one_of_tree asked t names n s s' x x' (too_large d z h) (done d' z' h') = absurd (omega arith)
-one_of_tree asked t names n s s' x x' (done d z h) (too_deep d' h') = absurd (omega arith)
-one_of_tree asked t names n s s' x x' (done d z h) (too_large d' z' h') = absurd (omega arith)
-one_of_tree asked t names n s s' x x' (done d z h)
-    (done d' z' h') = one_of_term t names asked n s s' x x' (of_term t names asked s x h)
-    (of_term t names asked s' x' h')
+one_of_tree : (job : Job) (t : Tree) (names : List (List ℕ)) →
+    IsNet (translation_of (translation_in job) t (length names)) →
+    (s s' : Status) (x x' : List ℕ) → OfTree job t names s x → OfTree job t names s' x' → Alike job s s' x x'
+one_of_tree job t names n s s' x x' (too_deep d h) (too_deep d' h') = alike_as job s s' x x' depth_text h h'
+one_of_tree job t names n s s' x x' (too_deep d h) (too_large d' z' h') = absurd (omega arith)
+one_of_tree job t names n s s' x x' (too_deep d h) (done d' z' h') = absurd (omega arith)
+one_of_tree job t names n s s' x x' (too_large d z h) (too_deep d' h') = absurd (omega arith)
+one_of_tree job t names n s s' x x' (too_large d z h) (too_large d' z' h') = alike_as job s s' x x' nodes_text h h'
+one_of_tree job t names n s s' x x' (too_large d z h) (done d' z' h') = absurd (omega arith)
+one_of_tree job t names n s s' x x' (done d z h) (too_deep d' h') = absurd (omega arith)
+one_of_tree job t names n s s' x x' (done d z h) (too_large d' z' h') = absurd (omega arith)
+one_of_tree job t names n s s' x x' (done d z h) (done d' z' h') = one_by_laws (laws job t names) n s s' x x' h h'
 
 -- ---- a file
 
 -- what a job answers to a file, by the order of refusals
-pub data OfFile (asked : Asked) (bytes : List ℕ) (s : Status) (x : List ℕ) : Type 0 where
-  too_long : 1048576 < length bytes → Same s Limit x bytes_text → OfFile asked bytes s x
+pub data OfFile (job : Job) (bytes : List ℕ) (s : Status) (x : List ℕ) : Type 0 where
+  too_long : 1048576 < length bytes → Same s Limit x bytes_text → OfFile job bytes s x
   refused : length bytes ≤ 1048576 → (at : ℕ) → IsRefusedAt bytes at →
-      Same s Syntax x (syntax_text at) → OfFile asked bytes s x
+      Same s Syntax x (syntax_text at) → OfFile job bytes s x
   has_term : length bytes ≤ 1048576 → (t : Tree) (names : List (List ℕ)) → IsFileOf bytes t names →
-      OfTree asked t names s x → OfFile asked bytes s x
+      OfTree job t names s x → OfFile job bytes s x
 
-pub of_file_answer : (asked : Asked) (bytes : List ℕ) (s : Status) (x : List ℕ) →
-    FileAnswer asked bytes s x → OfFile asked bytes s x
-of_file_answer asked bytes Limit x (inl (l, e)) = too_long l (refl, e)
-of_file_answer asked bytes Limit x (inr (l, t, names, f, inl (d, e))) = has_term l t names f (too_deep d (refl, e))
-of_file_answer asked bytes Limit x (inr (l, t, names, f, inr (d, (z, e)))) = has_term l t names f
+pub of_file_answer : (job : Job) (bytes : List ℕ) (s : Status) (x : List ℕ) →
+    FileAnswer job bytes s x → OfFile job bytes s x
+of_file_answer job bytes Limit x (inl (l, e)) = too_long l (refl, e)
+of_file_answer job bytes Limit x (inr (l, t, names, f, inl (d, e))) = has_term l t names f (too_deep d (refl, e))
+of_file_answer job bytes Limit x (inr (l, t, names, f, inr (d, (z, e)))) = has_term l t names f
     (too_large d z (refl, e))
-of_file_answer asked bytes Syntax x (at, l, r, e) = refused l at r (refl, e)
-of_file_answer asked bytes Done x (t, names, i, h) = has_term i.short t names i.file (done i.shallow i.small h)
-of_file_answer asked bytes Usage x (t, names, i, h) = has_term i.short t names i.file (done i.shallow i.small h)
-of_file_answer asked bytes Spent x (t, names, i, h) = has_term i.short t names i.file (done i.shallow i.small h)
-of_file_answer asked bytes ReadFault x (t, names, i, h) = has_term i.short t names i.file (done i.shallow i.small h)
-of_file_answer asked bytes WriteFault x (t, names, i, h) = has_term i.short t names i.file (done i.shallow i.small h)
-of_file_answer asked bytes BadNet x (t, names, i, h) = has_term i.short t names i.file (done i.shallow i.small h)
-of_file_answer asked bytes NoMemory x (t, names, i, h) = has_term i.short t names i.file (done i.shallow i.small h)
+of_file_answer job bytes Syntax x (at, l, r, e) = refused l at r (refl, e)
+of_file_answer job bytes _ x h = has_term h.2.short h.0 h.1 h.2.file (done h.2.shallow h.2.small h.3)
 
-one_of_file : (asked : Asked) (bytes : List ℕ) → (s s' : Status) (x x' : List ℕ) →
-    OfFile asked bytes s x → OfFile asked bytes s' x' → Alike asked s s' x x'
-one_of_file asked bytes s s' x x' (too_long l h) (too_long l' h') = alike_as asked s s' x x' bytes_text h h'
-one_of_file asked bytes s s' x x' (too_long l h) (refused l' at' r' h') = absurd (omega arith)
-one_of_file asked bytes s s' x x' (too_long l h) (has_term l' t' names' f' h') = absurd (omega arith)
-one_of_file asked bytes s s' x x' (refused l at r h) (too_long l' h') = absurd (omega arith)
-one_of_file asked bytes s s' x x' (refused l at r h) (refused l' at' r' h') =
+one_of_file : (job : Job) (bytes : List ℕ) → (s s' : Status) (x x' : List ℕ) →
+    OfFile job bytes s x → OfFile job bytes s' x' → Alike job s s' x x'
+one_of_file job bytes s s' x x' (too_long l h) (too_long l' h') = alike_as job s s' x x' bytes_text h h'
+one_of_file job bytes s s' x x' (too_long l h) (refused l' at' r' h') = absurd (omega arith)
+one_of_file job bytes s s' x x' (too_long l h) (has_term l' t' names' f' h') = absurd (omega arith)
+one_of_file job bytes s s' x x' (refused l at r h) (too_long l' h') = absurd (omega arith)
+one_of_file job bytes s s' x x' (refused l at r h) (refused l' at' r' h') =
     let e : at ≡ at' = one_dead_place bytes at at' r.1 r'.1 in
-    alike_by asked s s' Syntax x x' h.0 h'.0 (refused_texts asked x x' (h.1 ∙ ap (λ at. syntax_text at) e ∙ sym h'.1)).1
-one_of_file asked bytes s s' x x' (refused l at r h) (has_term l' t' names' f' h') = absurd (r.0 f'.named f'.text)
-one_of_file asked bytes s s' x x' (has_term l t names f h) (too_long l' h') = absurd (omega arith)
-one_of_file asked bytes s s' x x' (has_term l t names f h) (refused l' at' r' h') = absurd (r'.0 f.named f.text)
-one_of_file asked bytes s s' x x' (has_term l t names f h) (has_term l' t' names' f' h') =
+    alike_by job s s' Syntax x x' h.0 h'.0 (refused_texts job x x' (h.1 ∙ ap (λ at. syntax_text at) e ∙ sym h'.1)).1
+one_of_file job bytes s s' x x' (refused l at r h) (has_term l' t' names' f' h') = absurd (r.0 f'.named f'.text)
+one_of_file job bytes s s' x x' (has_term l t names f h) (too_long l' h') = absurd (omega arith)
+one_of_file job bytes s s' x x' (has_term l t names f h) (refused l' at' r' h') = absurd (r'.0 f.named f.text)
+one_of_file job bytes s s' x x' (has_term l t names f h) (has_term l' t' names' f' h') =
     let e = one_file bytes t' t names' names f' f in
-    one_of_tree asked t names (file_net (translation_in asked) bytes t names f) s s' x x' h
-    (subst (λ t. OfTree asked t names s' x') e.0 (subst (λ names. OfTree asked t' names s' x') e.1 h'))
+    one_of_tree job t names (file_net (translation_in job) bytes t names f) s s' x x' h
+    (subst (λ t. OfTree job t names s' x') e.0 (subst (λ names. OfTree job t' names s' x') e.1 h'))
 
-one_file_answer : (asked : Asked) (bytes : List ℕ) → (s s' : Status) (x x' : List ℕ) →
-    FileAnswer asked bytes s x → FileAnswer asked bytes s' x' → Alike asked s s' x x'
-one_file_answer asked bytes s s' x x' h h' = one_of_file asked bytes s s' x x'
-    (of_file_answer asked bytes s x h) (of_file_answer asked bytes s' x' h')
+one_file_answer : (job : Job) (bytes : List ℕ) → (s s' : Status) (x x' : List ℕ) →
+    FileAnswer job bytes s x → FileAnswer job bytes s' x' → Alike job s s' x x'
+one_file_answer job bytes s s' x x' h h' = one_of_file job bytes s s' x x'
+    (of_file_answer job bytes s x h) (of_file_answer job bytes s' x' h')
+
+-- ---- a file within the limits
+
+module _ (job : Job) (bytes : List ℕ) (t : Tree) (names : List (List ℕ))
+    (i : IsTermFile (translation_in job) bytes t names) (ends : EndsWithinFuel job t names) where
+  done_tree : (u : Tree) (others : List (List ℕ)) → IsFileOf bytes u others →
+      (s : Status) (x : List ℕ) → OfTree job u others s x → s ≡ Done
+  done_tree u others f s x (too_deep d h) = let b = i.shallow in
+      let e = ap depth (one_file bytes t u names others i.file f).0 in absurd (omega arith)
+  done_tree u others f s x (too_large d z h) = let b = i.small in
+      let e = ap (size_of_translation (translation_in job))
+      (one_file bytes t u names others i.file f).0 in absurd (omega arith)
+  done_tree u others f s x (done d z h) =
+      let same = one_file bytes t u names others i.file f in
+      let ends' = subst (λ t. EndsWithinFuel job t others) same.0
+      (subst (λ names. EndsWithinFuel job t names) same.1 ends) in
+      done_by_laws (laws job u others) (file_net (translation_in job) bytes u others f) ends' s x h
+
+  pub done_file : (s : Status) (x : List ℕ) → OfFile job bytes s x → s ≡ Done
+  done_file s x (too_long l h) = let b = i.short in absurd (omega arith)
+  done_file s x (refused l at r h) = absurd (r.0 i.file.named i.file.text)
+  done_file s x (has_term l u others f h) = done_tree u others f s x h
 
 -- ---- two files
 
 -- what `run` answers to a file whose term is read back is Done
-read_term : (tr : Translation) (w fuel heads : ℕ) (name : Text) (t : Tree) (names : List (List ℕ))
-    (tree : List ReadNode) → IsNet (translation_of tr t (length names)) → ReadsLast tr t names fuel heads tree →
-    (s : Status) (x : List ℕ) → OfTerm t names (run tr w fuel heads name) s x → s ≡ Done
-read_term tr w fuel heads name t names tree n last s x (spent r e) = absurd
-    (reads_or_runs_out tr t names n fuel heads tree r last)
-read_term tr w fuel heads name t names tree n last s x (printed p) = refl
-
-read_tree : (tr : Translation) (w fuel heads : ℕ) (name : Text) (bytes : List ℕ)
-    (h : HasTree tr bytes fuel heads) (u : Tree) (others : List (List ℕ)) → IsFileOf bytes u others →
-    (s : Status) (x : List ℕ) → OfTree (run tr w fuel heads name) u others s x → s ≡ Done
-read_tree tr w fuel heads name bytes h u others f s x (too_deep d e) =
-    let b = h.file.shallow in let is = ap depth
-    (one_file bytes h.term u h.names others h.file.file f).0 in absurd (omega arith)
-read_tree tr w fuel heads name bytes h u others f s x (too_large d z e) =
-    let b = h.file.small in let is = ap (size_of_translation tr)
-    (one_file bytes h.term u h.names others h.file.file f).0 in absurd (omega arith)
-read_tree tr w fuel heads name bytes h u others f s x (done d z a) =
-    let same = one_file bytes h.term u h.names others h.file.file f in
-    let last = subst (λ t. ReadsLast tr t others fuel heads h.tree) same.0
-    (subst (λ names. ReadsLast tr h.term names fuel heads h.tree) same.1 h.read) in
-    read_term tr w fuel heads name u others h.tree (file_net tr bytes u others f) last s x
-    (of_term u others (run tr w fuel heads name) s x a)
-
 pub read_file : (tr : Translation) (w fuel heads : ℕ) (name : Text) (bytes : List ℕ) →
-    HasTree tr bytes fuel heads → (s : Status) (x : List ℕ) → OfFile (run tr w fuel heads name) bytes s x → s ≡ Done
-read_file tr w fuel heads name bytes h s x (too_long l e) = let b = h.file.short in absurd (omega arith)
-read_file tr w fuel heads name bytes h s x (refused l at r e) = absurd (r.0 h.file.file.named h.file.file.text)
-read_file tr w fuel heads name bytes h s x
-    (has_term l u others f e) = read_tree tr w fuel heads name bytes h u others f s x e
+    HasTree tr bytes fuel heads → (s : Status) (x : List ℕ) → OfFile (jobs.Run tr w fuel heads name) bytes s x → s ≡ Done
+read_file tr w fuel heads name bytes h s x o =
+    done_file (jobs.Run tr w fuel heads name) bytes h.term h.names h.file h.read.ends s x o
 
 -- one tree is read back of a file, with the same names
 one_read : (tr : Translation) (a b : List ℕ) (fuel heads : ℕ) → a ≡ b →
@@ -393,16 +204,16 @@ one_compared tr a a' b b' fuel heads e f x x' y y' text text' (c, h, is) (c', h'
 -- ---- a job
 
 -- the job is done on one term, that of its one file
-abbrev IsOnTerm : Asked → Type 0
-IsOnTerm (check translation term journal) = ⊥
-IsOnTerm (gen translation runs k) = ⊥
+abbrev IsOnTerm : Job → Type 0
+IsOnTerm (jobs.Check translation term journal) = ⊥
+IsOnTerm (jobs.Gen translation runs k) = ⊥
 IsOnTerm (jobs.Net translation false workers fuel name) = ⊥
 IsOnTerm (jobs.Equal translation workers fuel heads first second) = ⊥
 IsOnTerm _ = Unit {0}
 
 -- a file that is refused has no term within the limits
 pub not_refused : (tr : Translation) (term journal : Text) (bytes : List ℕ) (t : Tree)
-    (names : List (List ℕ)) (s : Status) (x : List ℕ) → OfFile (check tr term journal) bytes s x →
+    (names : List (List ℕ)) (s : Status) (x : List ℕ) → OfFile (jobs.Check tr term journal) bytes s x →
     IsTermFile tr bytes t names → ⊥
 not_refused tr term journal bytes t names s x (too_long l h) i = let b = i.short in omega arith
 not_refused tr term journal bytes t names s x (refused l at r h) i = r.0 i.file.named i.file.text
@@ -411,7 +222,7 @@ not_refused tr term journal bytes t names s x (has_term l u others f h) i = go h
     same : (t ≡ u) × (names ≡ others)
     same = one_file bytes t u names others i.file f
 
-    go : OfTree (check tr term journal) u others s x → ⊥
+    go : OfTree (jobs.Check tr term journal) u others s x → ⊥
     go (too_deep d h) = let b = i.shallow in let e = ap depth same.0 in omega arith
     go (too_large d z h) = let b = i.small in let e = ap (size_of_translation tr) same.0 in omega arith
     go (done d z h) = h
@@ -428,13 +239,7 @@ pub of_journal_answer : (tr : Translation) (t : Tree) (names : List (List ℕ)) 
     (s : Status) (x : List ℕ) → JournalAnswer tr t names journal s x → OfJournal tr t names journal s x
 of_journal_answer tr t names journal Limit x h = past h.0 (refl, h.1)
 of_journal_answer tr t names journal Done x h = found h.0 h.1.0 h.1.1 (refl, h.1.2)
-of_journal_answer tr t names journal Spent x h = absurd h
-of_journal_answer tr t names journal Usage x h = absurd h
-of_journal_answer tr t names journal Syntax x h = absurd h
-of_journal_answer tr t names journal ReadFault x h = absurd h
-of_journal_answer tr t names journal WriteFault x h = absurd h
-of_journal_answer tr t names journal NoMemory x h = absurd h
-of_journal_answer tr t names journal BadNet x h = absurd h
+of_journal_answer tr t names journal _ x h = absurd h
 
 one_journal : (tr : Translation) (t : Tree) (names : List (List ℕ)) (journal : List ℕ)
     (s s' : Status) (x x' : List ℕ) → OfJournal tr t names journal s x →
@@ -458,21 +263,21 @@ one_bytes told a b e f = let z : Some a ≡ Some b = sym e ∙ f in cc
 
 module _ (files : Files) where
   one_checked : (tr : Translation) (term journal : Text) (s s' : Status) (x x' : List ℕ) →
-      JobAnswer files s x (check tr term journal) → JobAnswer files s' x' (check tr term journal) → Same s s' x x'
+      JobAnswer files s x (jobs.Check tr term journal) → JobAnswer files s' x' (jobs.Check tr term journal) → Same s s' x x'
   one_checked tr term journal s s' x x' (of_file {bytes = a} has e h) (of_file {bytes = b} has' e' h') =
-      let k = one_file_answer (check tr term journal) b s s' x x'
-      (subst (λ a. FileAnswer (check tr term journal) a s x) (one_bytes (files 0 term) a b e e') h) h' in
+      let k = one_file_answer (jobs.Check tr term journal) b s s' x x'
+      (subst (λ a. FileAnswer (jobs.Check tr term journal) a s x) (one_bytes (files 0 term) a b e e') h) h' in
       (k.0, k.1)
   one_checked tr term journal s s' x x' (of_file {bytes = a} has e h)
       (of_journal {bytes = b} {t = t} {names = names} e' i f' h') =
       absurd (not_refused tr term journal b t names s x
-      (of_file_answer (check tr term journal) b s x
-      (subst (λ a. FileAnswer (check tr term journal) a s x) (one_bytes (files 0 term) a b e e') h)) i)
+      (of_file_answer (jobs.Check tr term journal) b s x
+      (subst (λ a. FileAnswer (jobs.Check tr term journal) a s x) (one_bytes (files 0 term) a b e e') h)) i)
   one_checked tr term journal s s' x x' (of_journal {bytes = b} {t = t} {names = names} e i f h)
       (of_file {bytes = a} has' e' h') =
       absurd (not_refused tr term journal b t names s' x'
-      (of_file_answer (check tr term journal) b s' x'
-      (subst (λ a. FileAnswer (check tr term journal) a s' x') (one_bytes (files 0 term) a b e' e) h')) i)
+      (of_file_answer (jobs.Check tr term journal) b s' x'
+      (subst (λ a. FileAnswer (jobs.Check tr term journal) a s' x') (one_bytes (files 0 term) a b e' e) h')) i)
   one_checked tr term journal s s' x x'
       (of_journal {bytes = a} {trace = u} {t = t} {names = names} e i f h)
       (of_journal {bytes = b} {trace = v} {t = t'} {names = names'} e' i' f' h') =
@@ -485,41 +290,41 @@ module _ (files : Files) where
       one_journal tr t names u s s' x x' (of_journal_answer tr t names u s x h)
       (of_journal_answer tr t names u s' x' h'')
 
-  one_on_file : (asked : Asked) → IsOnTerm asked → (s s' : Status) (x x' : List ℕ) →
-      JobAnswer files s x asked → JobAnswer files s' x' asked → Alike asked s s' x x'
-  one_on_file asked on s s' x x' (of_file {bytes = a} has e h) (of_file {bytes = b} has' e' h') =
-      one_file_answer asked b s s' x x' (subst (λ a. FileAnswer asked a s x)
-      (one_bytes (files 0 (file_name asked)) a b e e') h) h'
-  one_on_file asked on s s' x x' (of_file has e h) (of_journal e' i f' h') = absurd on
-  one_on_file asked on s s' x x' (of_file has e h) (made m) = absurd on
-  one_on_file asked on s s' x x' (of_journal e' i f' h') k = absurd on
-  one_on_file asked on s s' x x' (made m) k = absurd on
-  one_on_file asked on s s' x x' (of_file has e h) (of_net_file e' h') = absurd on
-  one_on_file asked on s s' x x' (of_file has e h) (of_first e' isnt' h') = absurd on
-  one_on_file asked on s s' x x' (of_file has e h) (of_second e' t' f' isnt' h') = absurd on
-  one_on_file asked on s s' x x' (of_file has e h) (of_both e' t' f' u' is' h') = absurd on
-  one_on_file asked on s s' x x' (of_net_file e h) k = absurd on
-  one_on_file asked on s s' x x' (of_first e isnt h) k = absurd on
-  one_on_file asked on s s' x x' (of_second e t f isnt h) k = absurd on
-  one_on_file asked on s s' x x' (of_both e t f u is h) k = absurd on
+  one_on_file : (job : Job) → IsOnTerm job → (s s' : Status) (x x' : List ℕ) →
+      JobAnswer files s x job → JobAnswer files s' x' job → Alike job s s' x x'
+  one_on_file job on s s' x x' (of_file {bytes = a} has e h) (of_file {bytes = b} has' e' h') =
+      one_file_answer job b s s' x x' (subst (λ a. FileAnswer job a s x)
+      (one_bytes (files 0 (file_name job)) a b e e') h) h'
+  one_on_file job on s s' x x' (of_file has e h) (of_journal e' i f' h') = absurd on
+  one_on_file job on s s' x x' (of_file has e h) (made m) = absurd on
+  one_on_file job on s s' x x' (of_journal e' i f' h') k = absurd on
+  one_on_file job on s s' x x' (made m) k = absurd on
+  one_on_file job on s s' x x' (of_file has e h) (of_net_file e' h') = absurd on
+  one_on_file job on s s' x x' (of_file has e h) (of_first e' isnt' h') = absurd on
+  one_on_file job on s s' x x' (of_file has e h) (of_second e' t' f' isnt' h') = absurd on
+  one_on_file job on s s' x x' (of_file has e h) (of_both e' t' f' u' is' h') = absurd on
+  one_on_file job on s s' x x' (of_net_file e h) k = absurd on
+  one_on_file job on s s' x x' (of_first e isnt h) k = absurd on
+  one_on_file job on s s' x x' (of_second e t f isnt h) k = absurd on
+  one_on_file job on s s' x x' (of_both e t f u is h) k = absurd on
 
   -- what `run` answers to bytes that another file's name has is one answer
   one_of_run : (tr : Translation) (w fuel heads : ℕ) (name : Text) (told : Option (List ℕ))
       (a b : List ℕ) → told ≡ Some a → told ≡ Some b → (s s' : Status) (x x' : List ℕ) →
-      FileAnswer (run tr w fuel heads name) a s x → FileAnswer (run tr w fuel heads name) b s' x' → Same s s' x x'
+      FileAnswer (jobs.Run tr w fuel heads name) a s x → FileAnswer (jobs.Run tr w fuel heads name) b s' x' → Same s s' x x'
   one_of_run tr w fuel heads name told a b e e' s s' x x' h h' =
-      let k = one_file_answer (run tr w fuel heads name) b s s' x x'
-      (subst (λ a. FileAnswer (run tr w fuel heads name) a s x) (one_bytes told a b e e') h) h' in
+      let k = one_file_answer (jobs.Run tr w fuel heads name) b s s' x x'
+      (subst (λ a. FileAnswer (jobs.Run tr w fuel heads name) a s x) (one_bytes told a b e e') h) h' in
       (k.0, k.1)
 
   -- a file whose term is read back is no refusal
   not_read : (tr : Translation) (w fuel heads : ℕ) (name : Text) (told : Option (List ℕ))
       (a b : List ℕ) → told ≡ Some a → told ≡ Some b → HasTree tr a fuel heads → (s : Status) (x : List ℕ) → s ≢ Done →
-      FileAnswer (run tr w fuel heads name) b s x → ⊥
+      FileAnswer (jobs.Run tr w fuel heads name) b s x → ⊥
   not_read tr w fuel heads name told a b e e' t s x isnt h =
       isnt (read_file tr w fuel heads name b
       (subst (λ a. HasTree tr a fuel heads) (one_bytes told a b e e') t) s x
-      (of_file_answer (run tr w fuel heads name) b s x h))
+      (of_file_answer (jobs.Run tr w fuel heads name) b s x h))
 
   one_equal : (tr : Translation) (w fuel heads : ℕ) (a b : Text) (s s' : Status) (x x' : List ℕ) →
       JobAnswer files s x (jobs.Equal tr w fuel heads a b) →
@@ -561,52 +366,39 @@ module _ (files : Files) where
       (subst (λ a. NetFileAnswer fuel a s x) (one_bytes (files 0 name) a b e e') h) h'
 
   one_made : (tr : Translation) (runs : Bool) (k : ℕ) (s s' : Status) (x x' : List ℕ) →
-      JobAnswer files s x (gen tr runs k) → JobAnswer files s' x' (gen tr runs k) → Same s s' x x'
+      JobAnswer files s x (jobs.Gen tr runs k) → JobAnswer files s' x' (jobs.Gen tr runs k) → Same s s' x x'
   one_made tr runs k s s' x x' (of_file has e h) a = absurd has
   one_made tr runs k s s' x x' (made m) (of_file has e h) = absurd has
   one_made tr runs k s s' x x' (made m) (made m') = one_making tr runs k s s' x x' m m'
 
-  pub one_of_job : (asked : Asked) → (s s' : Status) (x x' : List ℕ) → JobAnswer files s x asked →
-      JobAnswer files s' x' asked → Alike asked s s' x x'
-  one_of_job (run tr w f q name) s s' x x' a a' = one_on_file (run tr w f q name) tt s s' x x' a a'
-  one_of_job (walk tr g q name) s s' x x' a a' = one_on_file (walk tr g q name) tt s s' x x' a a'
-  one_of_job (view tr k name) s s' x x' a a' = one_on_file (view tr k name) tt s s' x x' a a'
-  one_of_job (trace tr w f name) s s' x x' a a' = one_on_file (trace tr w f name) tt s s' x x' a a'
-  one_of_job (check tr term journal) s s' x x' a a' = one_checked tr term journal s s' x x' a a'
-  one_of_job (demand tr f q name) s s' x x' a a' = one_on_file (demand tr f q name) tt s s' x x' a a'
-  one_of_job (certify tr b w f q name) s s' x x' a a' = one_on_file (certify tr b w f q name) tt s s' x x' a a'
-  one_of_job (jobs.Net tr true w f name) s s' x x' a a' = one_on_file (jobs.Net tr true w f name) tt s s' x x' a a'
+  pub one_of_job : (job : Job) → (s s' : Status) (x x' : List ℕ) → JobAnswer files s x job →
+      JobAnswer files s' x' job → Alike job s s' x x'
+  one_of_job (jobs.Check tr term journal) s s' x x' a a' = one_checked tr term journal s s' x x' a a'
   one_of_job (jobs.Net tr false w f name) s s' x x' a a' = one_of_net_job tr w f name s s' x x' a a'
   one_of_job (jobs.Equal tr w f q first second) s s' x x' a a' = one_equal tr w f q first second s s' x x' a a'
-  one_of_job (gen tr runs k) s s' x x' a a' = one_made tr runs k s s' x x' a a'
+  one_of_job (jobs.Gen tr runs k) s s' x x' a a' = one_made tr runs k s s' x x' a a'
+  one_of_job job s s' x x' a a' = one_on_file job tt s s' x x' a a'
 
 -- ---- words and files
 
 pub data OfWords (words : List (String Global)) (files : Files) (s : Status) (x : List ℕ) : Type 0 where
   no_job : AskForNothing words → Same s Usage x usage_text → OfWords words files s x
-  job : (asked : Asked) → AskFor words asked → JobAnswer files s x asked → OfWords words files s x
+  of_job : (job : Job) → AskFor words job → JobAnswer files s x job → OfWords words files s x
 
 pub of_words : (words : List (String Global)) (files : Files) (s : Status) (x : List ℕ) →
     IsAnswer words files s x → OfWords words files s x
 of_words words files Usage x a = no_job a.0 (refl, a.1)
-of_words words files Syntax x a = job a.0 a.1 (answer_cases files Syntax x a.0 a.2)
-of_words words files Spent x a = job a.0 a.1 (answer_cases files Spent x a.0 a.2)
-of_words words files Done x a = job a.0 a.1 (answer_cases files Done x a.0 a.2)
-of_words words files ReadFault x a = job a.0 a.1 (answer_cases files ReadFault x a.0 a.2)
-of_words words files WriteFault x a = job a.0 a.1 (answer_cases files WriteFault x a.0 a.2)
-of_words words files NoMemory x a = job a.0 a.1 (answer_cases files NoMemory x a.0 a.2)
-of_words words files Limit x a = job a.0 a.1 (answer_cases files Limit x a.0 a.2)
-of_words words files BadNet x a = job a.0 a.1 (answer_cases files BadNet x a.0 a.2)
+of_words words files s x a = of_job a.0 a.1 (answer_cases files s x a.0 a.2)
 
 -- words ask for one job
-pub one_job : (words : List (String Global)) (a b : Asked) → AskFor words a → AskFor words b → a ≡ b
+pub one_job : (words : List (String Global)) (a b : Job) → AskFor words a → AskFor words b → a ≡ b
 one_job words a b h h' = let e : Some a ≡ Some b = sym h ∙ h' in cc
 
 -- the answer to words that ask for a job is that to the job
-pub own_job : (words : List (String Global)) (files : Files) (asked : Asked) → AskFor words asked →
-    (s : Status) (x : List ℕ) → IsAnswer words files s x → JobAnswer files s x asked
-own_job words files asked j s x a = go (of_words words files s x a)
+pub own_job : (words : List (String Global)) (files : Files) (job : Job) → AskFor words job →
+    (s : Status) (x : List ℕ) → IsAnswer words files s x → JobAnswer files s x job
+own_job words files job j s x a = go (of_words words files s x a)
   where
-    go : OfWords words files s x → JobAnswer files s x asked
+    go : OfWords words files s x → JobAnswer files s x job
     go (no_job j' h) = let e = sym j ∙ j' in absurd (cc)
-    go (job asked' j' h) = subst (λ a. JobAnswer files s x a) (one_job words asked' asked j' j) h
+    go (of_job job' j' h) = subst (λ a. JobAnswer files s x a) (one_job words job' job j' j) h

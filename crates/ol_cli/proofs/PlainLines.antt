@@ -11,9 +11,8 @@ use Rattle.ol_parse.specs.Numbered.{names_of, number}
 use Rattle.ol_words.specs.Texts.{Text}
 use Rattle.ol_words.specs.Lines.{Line, Known, line_from, line_of, is_dashed, is_end, after_option}
 use Rattle.ol_words.specs.Lines.{option_of, with_name}
-use Rattle.ol_words.specs.declared.jobs.Job.{Job as Asked}
-use Rattle.ol_words.specs.declared.jobs.Job.TheVariants.{Run as run, Walk as walk, Demand as demand}
-use Rattle.ol_words.specs.declared.jobs.Job.TheVariants.{Equal as equal}
+use Rattle.ol_words.specs.declared.jobs.Job.{Job}
+use Rattle.ol_words.specs.declared.jobs.Job.TheVariants as jobs
 use Rattle.ol_words.specs.Asked.{run_verb, walk_verb, demand_verb, equal_verb, is_input}
 use Rattle.ol_words.specs.Jobs.{job_of, job_on}
 use Rattle.ol_law_lines.proofs.Read.{line_is_normal_form, lost_has_no_normal_form}
@@ -84,17 +83,17 @@ two_names known a b h k =
     name_first known a (b ∷ []) h ∙ ap (option_map (with_name a)) (one_name known b k)
 
 module _ {words : List (String Global)} {verb name : Text} (p : ArePlain words verb name) where
-  asks_run : verb ≡ codes "run" → AskFor words (run Two 4 200000 4096 name)
+  asks_run : verb ≡ codes "run" → AskFor words (jobs.Run Two 4 200000 4096 name)
   asks_run e =
       ap job_of p.are ∙ ap (λ v. job_of (p.program ∷ v ∷ name ∷ [])) e
       ∙ ap (option_and_then (job_on run_verb)) (one_name _ name p.is_name)
 
-  asks_walk : verb ≡ codes "walk" → AskFor words (walk Two 100000 4096 name)
+  asks_walk : verb ≡ codes "walk" → AskFor words (jobs.Walk Two 100000 4096 name)
   asks_walk e =
       ap job_of p.are ∙ ap (λ v. job_of (p.program ∷ v ∷ name ∷ [])) e
       ∙ ap (option_and_then (job_on walk_verb)) (one_name _ name p.is_name)
 
-  asks_demand : verb ≡ codes "demand" → AskFor words (demand Two 200000 4096 name)
+  asks_demand : verb ≡ codes "demand" → AskFor words (jobs.Demand Two 200000 4096 name)
   asks_demand e =
       ap job_of p.are ∙ ap (λ v. job_of (p.program ∷ v ∷ name ∷ [])) e
       ∙ ap (option_and_then (job_on demand_verb)) (one_name _ name p.is_name)
@@ -113,17 +112,17 @@ both_inputs a b apart = elim (cases_Bool (is_input a)) [
 ]
 
 asks_equal : {words : List (String Global)} {a b : Text} → ArePlainTwo words a b →
-    AskFor words (equal Two 4 200000 4096 a b)
+    AskFor words (jobs.Equal Two 4 200000 4096 a b)
 asks_equal {words} {a} {b} p =
     ap job_of p.are ∙ ap (option_and_then (job_on equal_verb)) (two_names _ a b p.is_first p.is_second)
-    ∙ ap (λ x. cond x None (Some (equal Two 4 200000 4096 a b))) (both_inputs a b p.not_both)
+    ∙ ap (λ x. cond x None (Some (jobs.Equal Two 4 200000 4096 a b))) (both_inputs a b p.not_both)
 
 -- the bytes of the file are those of the job's term
-pub tells_of : (words : List (String Global)) (contents : Text → Option (List ℕ)) (asked : Asked)
+pub tells_of : (words : List (String Global)) (contents : Text → Option (List ℕ)) (job : Job)
     (bytes : List ℕ) →
-    AskFor words asked → term_bytes contents asked ≡ Some bytes → TellsTerm contents words bytes
-tells_of words contents asked bytes j e other k =
-    subst (λ a. term_bytes contents a ≡ Some bytes) (one_job words asked other j k) e
+    AskFor words job → term_bytes contents job ≡ Some bytes → TellsTerm contents words bytes
+tells_of words contents job bytes j e other k =
+    subst (λ a. term_bytes contents a ≡ Some bytes) (one_job words job other j k) e
 
 -- ---- the line
 
@@ -140,24 +139,24 @@ pub plain_writes : (words : List (String Global)) (files : Files)
 plain_writes words files old new w verb name p (inl e) bytes has source is =
     let j = asks_run p e in
     let r =
-    w bytes (tells_of words (files 0) (run Two 4 200000 4096 name) bytes j has)
-    (run Two 4 200000 4096 name) (number source) (names_of source) j (file_of is) in
+    w bytes (tells_of words (files 0) (jobs.Run Two 4 200000 4096 name) bytes j has)
+    (jobs.Run Two 4 200000 4096 name) (number source) (names_of source) j (file_of is) in
     let q = run_printed r.1 in
     first_line is q (LineIsOf verb source) old new r.2
     (line_is_normal_form is q, λ differ. lost_has_no_normal_form is q)
 plain_writes words files old new w verb name p (inr (inl e)) bytes has source is =
     let j = asks_demand p e in
     let r =
-    w bytes (tells_of words (files 0) (demand Two 200000 4096 name) bytes j has)
-    (demand Two 200000 4096 name) (number source) (names_of source) j (file_of is) in
+    w bytes (tells_of words (files 0) (jobs.Demand Two 200000 4096 name) bytes j has)
+    (jobs.Demand Two 200000 4096 name) (number source) (names_of source) j (file_of is) in
     let q = demand_printed r.1 in
     first_line is q (LineIsOf verb source) old new r.2
     (line_is_normal_form is q, λ differ. lost_has_no_normal_form is q)
 plain_writes words files old new w verb name p (inr (inr e)) bytes has source is =
     let j = asks_walk p e in
     let r =
-    w bytes (tells_of words (files 0) (walk Two 100000 4096 name) bytes j has)
-    (walk Two 100000 4096 name) (number source) (names_of source) j (file_of is) in
+    w bytes (tells_of words (files 0) (jobs.Walk Two 100000 4096 name) bytes j has)
+    (jobs.Walk Two 100000 4096 name) (number source) (names_of source) j (file_of is) in
     let q = walk_printed r.1 in
     first_line is q (LineIsOf verb source) old new r.2
     (line_is_normal_form is q, λ differ. not_walk verb e differ)
@@ -168,19 +167,19 @@ pub plain_demand : (words : List (String Global)) (files : Files) (old new : Opt
     PlainDemandSays (λ source. FirstLine (IsFoundWithin 4096 source)) words files old new
 plain_demand words files old new w name p bytes has source is =
     let j = asks_demand p refl in
-    let told = tells_of words (files 0) (demand Two 200000 4096 name) bytes j has in
-    writes_demanded words bytes old new (w bytes told) (demand Two 200000 4096 name) j tt source is
+    let told = tells_of words (files 0) (jobs.Demand Two 200000 4096 name) bytes j has in
+    writes_demanded words bytes old new (w bytes told) (jobs.Demand Two 200000 4096 name) j tt source is
 
 pub plain_fewest : (words : List (String Global)) (files : Files) (old new : Option (List ℕ)) →
     Writes words files old new → PlainDemandSays (λ source. CountsSay (AreFewest source)) words files old new
 plain_fewest words files old new w name p bytes has source is =
     let j = asks_demand p refl in
-    let told = tells_of words (files 0) (demand Two 200000 4096 name) bytes j has in
+    let told = tells_of words (files 0) (jobs.Demand Two 200000 4096 name) bytes j has in
     writes_fewest words bytes old new (w bytes told) Two 200000 4096 name j source is
 
 -- the bytes of two files are those of the job's files
 two_told : (files : Files) (a b : Text) (m n : List ℕ) → files 0 a ≡ Some m → files 1 b ≡ Some n →
-    AreTold files (equal Two 4 200000 4096 a b)
+    AreTold files (jobs.Equal Two 4 200000 4096 a b)
 two_told files a b m n e f zero name i = (m, let same : a ≡ name = cc in subst (λ name. files 0 name ≡ Some m) same e)
 two_told files a b m n e f (suc zero) name i = (
   n,
@@ -194,6 +193,6 @@ pub plain_equal : (words : List (String Global)) (files : Files) (old new : Opti
     (TellsFiles files words → LineSaysOfTwo words files old new) → PlainEqualSays words files old new
 plain_equal words files old new w a b p m n e f =
     let ask = asks_equal p in
-    w (λ asked j.
-    subst (λ job. AreTold files job) (one_job words (equal Two 4 200000 4096 a b) asked ask j)
+    w (λ job j.
+    subst (λ a. AreTold files a) (one_job words (jobs.Equal Two 4 200000 4096 a b) job ask j)
     (two_told files a b m n e f)) Two 4 200000 4096 a b ask m n e f

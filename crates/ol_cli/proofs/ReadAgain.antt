@@ -9,10 +9,7 @@ use Rattle.ol_parse.proofs.Exact.{one_file}
 use Rattle.ol_readback.specs.Terms.{HasAllHeads, IsReadBack}
 use Rattle.ol_readback.specs.declared.answers.ReadNode.{ReadNode}
 use Rattle.ol_words.specs.Texts.{Text}
-use Rattle.ol_words.specs.declared.jobs.Job.{Job as Asked}
-use Rattle.ol_words.specs.declared.jobs.Job.TheVariants.{Run as run, Walk as walk, View as view}
-use Rattle.ol_words.specs.declared.jobs.Job.TheVariants.{Trace as trace, Check as check, Gen as gen}
-use Rattle.ol_words.specs.declared.jobs.Job.TheVariants.{Demand as demand, Certify as certify}
+use Rattle.ol_words.specs.declared.jobs.Job.{Job}
 use Rattle.ol_words.specs.declared.jobs.Job.TheVariants as jobs
 use Rattle.ol_cli.specs.declared.status.Status.{Status}
 use Rattle.ol_cli.specs.declared.status.Status.TheVariants as status
@@ -33,61 +30,61 @@ IsReadWhereNamed names tree term = AreNames names → HasAllHeads tree → IsRea
 module _ (tr : Translation) (t : Tree) (names : List (List ℕ)) (text : List ℕ) where
   pub run_read : (fuel heads : ℕ) (p : Prints tr t names fuel heads text) →
       IsReadWhereNamed names p.shows.tree p.shows.term → (workers : ℕ) →
-      AnswerIsReadAgain (run tr workers fuel heads []) t names status.Done text
+      AnswerIsReadAgain (jobs.Run tr workers fuel heads []) t names status.Done text
   run_read fuel heads p read workers words e = (p, read words)
 
   pub walk_read : (edges heads : ℕ) (w : Walks tr t names edges heads text) →
-      IsReadWhereNamed names w.tree w.term → AnswerIsReadAgain (walk tr edges heads []) t names status.Done text
+      IsReadWhereNamed names w.tree w.term → AnswerIsReadAgain (jobs.Walk tr edges heads []) t names status.Done text
   walk_read edges heads w read words e = (w, read words)
 
   pub demand_read : (fuel heads : ℕ) (d : Demands tr t names fuel heads text) →
-      IsReadWhereNamed names d.ends.tree d.term → AnswerIsReadAgain (demand tr fuel heads []) t names status.Done text
+      IsReadWhereNamed names d.ends.tree d.term → AnswerIsReadAgain (jobs.Demand tr fuel heads []) t names status.Done text
   demand_read fuel heads d read words e = (d, read words)
 
 -- by the names of the file's own term
-pub file_read : (asked : Asked) (bytes : List ℕ) (t : Tree) (names : List (List ℕ)) (st : Status)
+pub file_read : (job : Job) (bytes : List ℕ) (t : Tree) (names : List (List ℕ)) (st : Status)
     (text : List ℕ) → IsFileOf bytes t names → AreNames names →
-    AnswerIsReadAgain asked t names st text → FileIsReadAgain asked bytes st text
-file_read asked bytes t names st text f words h u others g e =
+    AnswerIsReadAgain job t names st text → FileIsReadAgain job bytes st text
+file_read job bytes t names st text f words h u others g e =
     let same = one_file bytes t u names others f g in
-    subst (λ n. TextIsReadAgain asked u n text) same.1
-    (subst (λ u. TextIsReadAgain asked u names text) same.0 (h words e))
+    subst (λ n. TextIsReadAgain job u n text) same.1
+    (subst (λ u. TextIsReadAgain job u names text) same.0 (h words e))
 
 -- by the bytes that the source tells
-pub told_read : (asked : Asked) (contents : Option (List ℕ)) (read told : List ℕ) (st : Status)
-    (text : List ℕ) → IsAllOf contents read → FileIsReadAgain asked read st text →
-    contents ≡ Some told → FileIsReadAgain asked told st text
-told_read asked contents read told st text w h e =
+pub told_read : (job : Job) (contents : Option (List ℕ)) (read told : List ℕ) (st : Status)
+    (text : List ℕ) → IsAllOf contents read → FileIsReadAgain job read st text →
+    contents ≡ Some told → FileIsReadAgain job told st text
+told_read job contents read told st text w h e =
     let whole : IsAllOf (Some told) read = subst (λ k. IsAllOf k read) e w in
-    subst (λ b. FileIsReadAgain asked b st text) whole h
+    subst (λ b. FileIsReadAgain job b st text) whole h
 
 -- a job on a file has the bytes of its file
-pub file_bytes : (contents : Text → Option (List ℕ)) (asked : Asked) → HasTermFile asked →
-    contents (file_name asked) ≡ term_bytes contents asked
-file_bytes contents (gen tr runs k) on = absurd on
+pub file_bytes : (contents : Text → Option (List ℕ)) (job : Job) → HasTermFile job →
+    contents (file_name job) ≡ term_bytes contents job
+file_bytes contents (jobs.Gen tr runs k) on = absurd on
 file_bytes contents (jobs.Net tr false w f name) on = absurd on
 file_bytes contents (jobs.Equal tr w f q first second) on = absurd on
 file_bytes contents _ on = refl
 
 -- by the bytes that are made
 pub made_read : (tr : Translation) (contents : Text → Option (List ℕ)) (runs : Bool) (k : ℕ)
-    (st : Status) (text : List ℕ) → FileIsReadAgain (gen tr runs k) (doubled_text k) st text →
-    IsReadWhereTold (gen tr runs k) contents st text
+    (st : Status) (text : List ℕ) → FileIsReadAgain (jobs.Gen tr runs k) (doubled_text k) st text →
+    IsReadWhereTold (jobs.Gen tr runs k) contents st text
 made_read tr contents runs k st text h bytes e = let same : doubled_text k ≡ bytes = cc in
-    subst (λ b. FileIsReadAgain (gen tr runs k) b st text) same h
+    subst (λ b. FileIsReadAgain (jobs.Gen tr runs k) b st text) same h
 
-pub words_read : (words : List (String Global)) (contents : Text → Option (List ℕ)) (asked : Asked)
-    (st : Status) (text : List ℕ) → AskFor words asked →
-    IsReadWhereTold asked contents st text → WordsAreReadAgain words contents st text
-words_read words contents asked st text j h other bytes j' e =
-    let all = subst (λ a. IsReadWhereTold a contents st text) (one_job words asked other j j') h in
+pub words_read : (words : List (String Global)) (contents : Text → Option (List ℕ)) (job : Job)
+    (st : Status) (text : List ℕ) → AskFor words job →
+    IsReadWhereTold job contents st text → WordsAreReadAgain words contents st text
+words_read words contents job st text j h other bytes j' e =
+    let all = subst (λ a. IsReadWhereTold a contents st text) (one_job words job other j j') h in
     all bytes e
 
 pub written_read : (words : List (String Global)) (contents : Text → Option (List ℕ)) (st : Status)
     (text : List ℕ) (old new : Option (List ℕ)) → WordsAreReadAgain words contents st text → Appended old text new →
     (bytes : List ℕ) → TellsTerm contents words bytes → st ≡ status.Done → WritesReadable words bytes old new
-written_read words contents st text old new h written bytes tells e asked t names j f = (
+written_read words contents st text old new h written bytes tells e job t names j f = (
   text,
-  h asked bytes j (tells asked j) t names f e,
+  h job bytes j (tells job j) t names f e,
   written,
 )

@@ -10,10 +10,10 @@ use Rattle.ol_net.specs.Indexes.{top_index_of}
 use Rattle.ol_translate.specs.Sizes.{size_of_translation}
 use Rattle.ol_translate.specs.Translation.{nodes_of, translation_of}
 use Rattle.ol_wire.specs.Closed.{ClosedTable}
-use Rattle.ol_words.specs.declared.jobs.Job.{Job as Asked}
+use Rattle.ol_words.specs.declared.jobs.Job.{Job}
 use Rattle.ol_cli.specs.declared.status.Status.{Status}
-use Rattle.ol_cli.specs.declared.status.Status.TheVariants.{Done, Usage, Syntax, Spent, ReadFault}
-use Rattle.ol_cli.specs.declared.status.Status.TheVariants.{WriteFault, NoMemory, Limit, BadNet}
+use Rattle.ol_cli.specs.declared.status.Status.TheVariants.{Syntax}
+use Rattle.ol_cli.specs.declared.status.Status.TheVariants.{Limit}
 use Rattle.ol_cli.specs.Jobs.{translation_in}
 use Rattle.ol_cli.specs.TermFiles.{IsTermFile}
 use Rattle.ol_cli.specs.Cases.{TermAnswer, FileAnswer}
@@ -25,57 +25,33 @@ use Rattle.ol_cli.proofs.Handing.{whole_net}
 
 -- ---- a file that is refused
 
-module _ (asked : Asked) (bytes : List ℕ) where
+module _ (job : Job) (bytes : List ℕ) where
   pub refuses_answer : (st : Status) (text : List ℕ) →
-      Refuses (translation_in asked) bytes st text → FileAnswer asked bytes st text
-  refuses_answer Done text r = absurd r
-  refuses_answer Spent text r = absurd r
-  refuses_answer Usage text r = absurd r
-  refuses_answer BadNet text r = absurd r
+      Refuses (translation_in job) bytes st text → FileAnswer job bytes st text
   refuses_answer Syntax text r = r
-  refuses_answer ReadFault text r = absurd r
-  refuses_answer WriteFault text r = absurd r
-  refuses_answer NoMemory text r = absurd r
   refuses_answer Limit text r = r
+  refuses_answer _ text r = absurd r
 
-  pub refuses_read : (st : Status) (text : List ℕ) → Refuses (translation_in asked) bytes st text →
-      FileIsReadAgain asked bytes st text
-  refuses_read Done text r t names f e = absurd r
-  refuses_read Spent text r t names f e = absurd r
-  refuses_read Usage text r t names f e = absurd r
-  refuses_read BadNet text r t names f e = absurd r
+  pub refuses_read : (st : Status) (text : List ℕ) → Refuses (translation_in job) bytes st text →
+      FileIsReadAgain job bytes st text
   refuses_read Syntax text r t names f e = absurd (cc)
-  refuses_read ReadFault text r t names f e = absurd r
-  refuses_read WriteFault text r t names f e = absurd r
-  refuses_read NoMemory text r t names f e = absurd r
   refuses_read Limit text r t names f e = absurd (cc)
+  refuses_read _ text r t names f e = absurd r
 
 pub refuses_hands : (tr : Translation) (bytes : List ℕ) (st : Status) (text : List ℕ)
     (closed : Option ClosedTable) (P : Type 0) → Refuses tr bytes st text → closed ≡ None → WhereEnded st closed P
-refuses_hands tr bytes Done text closed P r e = absurd r
-refuses_hands tr bytes Spent text closed P r e = absurd r
-refuses_hands tr bytes Usage text closed P r e = absurd r
-refuses_hands tr bytes BadNet text closed P r e = absurd r
 refuses_hands tr bytes Syntax text closed P r e = e
-refuses_hands tr bytes ReadFault text closed P r e = absurd r
-refuses_hands tr bytes WriteFault text closed P r e = absurd r
-refuses_hands tr bytes NoMemory text closed P r e = absurd r
 refuses_hands tr bytes Limit text closed P r e = e
+refuses_hands tr bytes _ text closed P r e = absurd r
 
 -- ---- a file whose term is answered
 
-pub term_answer : (asked : Asked) (bytes : List ℕ) (t : Tree) (names : List (List ℕ)) →
-    IsTermFile (translation_in asked) bytes t names → (st : Status) (text : List ℕ) →
-    TermAnswer asked t names st text → FileAnswer asked bytes st text
-term_answer asked bytes t names i Done text h = (t, names, i, h)
-term_answer asked bytes t names i Spent text h = (t, names, i, h)
-term_answer asked bytes t names i Usage text h = (t, names, i, h)
-term_answer asked bytes t names i Syntax text h = absurd (term_status asked t names Syntax text h)
-term_answer asked bytes t names i ReadFault text h = (t, names, i, h)
-term_answer asked bytes t names i WriteFault text h = (t, names, i, h)
-term_answer asked bytes t names i BadNet text h = (t, names, i, h)
-term_answer asked bytes t names i NoMemory text h = (t, names, i, h)
-term_answer asked bytes t names i Limit text h = absurd (term_status asked t names Limit text h)
+pub term_answer : (job : Job) (bytes : List ℕ) (t : Tree) (names : List (List ℕ)) →
+    IsTermFile (translation_in job) bytes t names → (st : Status) (text : List ℕ) →
+    TermAnswer job t names st text → FileAnswer job bytes st text
+term_answer job bytes t names i Syntax text h = absurd (term_status job t names Syntax text h)
+term_answer job bytes t names i Limit text h = absurd (term_status job t names Limit text h)
+term_answer job bytes t names i _ text h = (t, names, i, h)
 
 -- ---- the net of a term
 

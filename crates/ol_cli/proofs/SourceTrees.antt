@@ -22,7 +22,7 @@ use Rattle.ol_io.specs.Outside.{Appended}
 use Rattle.ol_parse.specs.Parsed.{IsFileOf}
 use Rattle.ol_parse.proofs.Exact.{one_file}
 use Rattle.ol_words.specs.Texts.{Text}
-use Rattle.ol_words.specs.declared.jobs.Job.{Job as Asked}
+use Rattle.ol_words.specs.declared.jobs.Job.{Job}
 use Rattle.ol_words.specs.declared.jobs.Job.TheVariants as jobs
 use Rattle.ol_law_confluence.specs.Reductions.{Convertible}
 use Rattle.ol_law_confluence.specs.Compared.{by_bytes, TellsTerms, ArePrinted, IsHeadBesideLost}
@@ -176,8 +176,8 @@ certifies files tr b w fuel heads name old new s text done ap (of_file {bytes = 
 
 -- a job that is done
 by_job : (files : Files) (old new : Option (List ℕ)) (s : Status) (text : List ℕ) →
-    s ≡ Done → Appended old text new → (asked : Asked) → JobAnswer files s text asked →
-    TellsSources asked files old new
+    s ≡ Done → Appended old text new → (job : Job) → JobAnswer files s text job →
+    TellsSources job files old new
 by_job files old new s text done ap (jobs.Equal tr w fuel heads a b) h =
     compares files tr w fuel heads a b old new s text done ap h
 by_job files old new s text done ap (jobs.Certify tr b w f q name) h =
@@ -188,5 +188,5 @@ pub writes_of_sources : (words : List (String Global)) (files : Files)
     (old new : Option (List ℕ)) (s : Status) → s ≡ Done →
     (text : List ℕ) × IsAnswer words files s text × Appended old text new →
     WritesOfSources words files old new
-writes_of_sources words files old new s done r asked j =
-    by_job files old new s r.0 done r.2 asked (own_job words files asked j s r.0 r.1)
+writes_of_sources words files old new s done r job j =
+    by_job files old new s r.0 done r.2 job (own_job words files job j s r.0 r.1)

@@ -30,9 +30,8 @@ use Rattle.ol_law_levels.proofs.DemandPlaces.{demand_tells as places_told}
 use Rattle.ol_law_meaning.proofs.Based.{places_say}
 use Rattle.ol_law_confluence.proofs.PrintedTrees.{says_always}
 use Rattle.ol_words.specs.Texts.{Text}
-use Rattle.ol_words.specs.declared.jobs.Job.{Job as Asked}
-use Rattle.ol_words.specs.declared.jobs.Job.TheVariants.{Run as run, Walk as walk, Gen as gen}
-use Rattle.ol_words.specs.declared.jobs.Job.TheVariants.{Demand as demand}
+use Rattle.ol_words.specs.declared.jobs.Job.{Job}
+use Rattle.ol_words.specs.declared.jobs.Job.TheVariants as jobs
 use Rattle.ol_cli.specs.declared.status.Status.{Status}
 use Rattle.ol_cli.specs.declared.status.Status.TheVariants as status
 use Rattle.ol_cli.specs.Jobs.{AskFor, Files, AreTold, TellsTerm, TellsFiles, term_bytes, translation_in}
@@ -124,19 +123,19 @@ demands_tree tr t names fuel heads text has d read =
           d.ends.run;
     }
 
-tells_tree : (asked : Asked) (t : Tree) (names : List (List ℕ)) (text : List ℕ) →
-    HasNames t (length names) → TextIsReadAgain asked t names text → TellsTree asked t names text
-tells_tree (run tr workers fuel heads name) t names text has h = prints_tree tr t names fuel heads text has h.0 h.1
-tells_tree (walk tr edges heads name) t names text has h = walks_tree tr t names edges heads text has h.0 h.1
-tells_tree (gen tr true k) t names text has h = prints_tree tr t names plain_fuel plain_heads text has h.0 h.1
-tells_tree (demand tr f q name) t names text has h = demands_tree tr t names f q text has h.0 h.1
+tells_tree : (job : Job) (t : Tree) (names : List (List ℕ)) (text : List ℕ) →
+    HasNames t (length names) → TextIsReadAgain job t names text → TellsTree job t names text
+tells_tree (jobs.Run tr workers fuel heads name) t names text has h = prints_tree tr t names fuel heads text has h.0 h.1
+tells_tree (jobs.Walk tr edges heads name) t names text has h = walks_tree tr t names edges heads text has h.0 h.1
+tells_tree (jobs.Gen tr true k) t names text has h = prints_tree tr t names plain_fuel plain_heads text has h.0 h.1
+tells_tree (jobs.Demand tr f q name) t names text has h = demands_tree tr t names f q text has h.0 h.1
 tells_tree _ t names text has h = tt
 
 pub writes_tree : (words : List (String Global)) (bytes : List ℕ) (old new : Option (List ℕ)) →
     WritesReadable words bytes old new → WritesTree words bytes old new
-writes_tree words bytes old new h asked t names j f =
-    let x = h asked t names j f in
-    (x.0, tells_tree asked t names x.0 (file_names bytes t names f) x.1, x.2)
+writes_tree words bytes old new h job t names j f =
+    let x = h job t names j f in
+    (x.0, tells_tree job t names x.0 (file_names bytes t names f) x.1, x.2)
 
 -- ---- answers to the job's own term
 
@@ -144,15 +143,15 @@ writes_tree words bytes old new h asked t names j f =
 module _ (tr : Translation) (bytes : List ℕ) (workers fuel heads : ℕ) (name : Text) (t : Tree)
     (names : List (List ℕ)) (f : IsFileOf bytes t names) where
   own_term : (st : Status) (text : List ℕ) (u : Tree) (others : List (List ℕ)) →
-      IsTermFile tr bytes u others → TermAnswer (run tr workers fuel heads name) u others st text →
-      TermAnswer (run tr workers fuel heads name) t names st text
+      IsTermFile tr bytes u others → TermAnswer (jobs.Run tr workers fuel heads name) u others st text →
+      TermAnswer (jobs.Run tr workers fuel heads name) t names st text
   own_term st text u others i h =
       let same = one_file bytes u t others names i.file f in
-      subst (λ t. TermAnswer (run tr workers fuel heads name) t names st text) same.0
-      (subst (λ names. TermAnswer (run tr workers fuel heads name) u names st text) same.1 h)
+      subst (λ t. TermAnswer (jobs.Run tr workers fuel heads name) t names st text) same.0
+      (subst (λ names. TermAnswer (jobs.Run tr workers fuel heads name) u names st text) same.1 h)
 
   runs_tell : (st : Status) (text : List ℕ) (old new : Option (List ℕ)) →
-      FileAnswer (run tr workers fuel heads name) bytes st text → Appended old text new →
+      FileAnswer (jobs.Run tr workers fuel heads name) bytes st text → Appended old text new →
       (journal : List Entry) (net : NamedNet NodeName) →
       IsRun (start_net_of_term tr t names) 0 journal net → IsComplete net →
       RunTells names fuel heads journal net st old new
@@ -165,36 +164,23 @@ module _ (tr : Translation) (bytes : List ℕ) (workers fuel heads : ℕ) (name 
   runs_tell status.Spent text old new h written journal net ran complete =
       every_run_is_longer tr t names fuel (file_net tr bytes t names f)
       (own_term status.Spent text h.0 h.1 h.2 h.3).0 journal net ran complete
-  runs_tell status.Usage text old new h written journal net ran complete = tt
-  runs_tell status.Syntax text old new h written journal net ran complete = tt
-  runs_tell status.ReadFault text old new h written journal net ran complete = tt
-  runs_tell status.WriteFault text old new h written journal net ran complete = tt
-  runs_tell status.NoMemory text old new h written journal net ran complete = tt
-  runs_tell status.Limit text old new h written journal net ran complete = tt
-  runs_tell status.BadNet text old new h written journal net ran complete = tt
+  runs_tell _ text old new h written journal net ran complete = tt
 
 -- so is that of `demand`, whose demand run is longer than the fuel where this is spent
 module _ (tr : Translation) (bytes : List ℕ) (fuel heads : ℕ) (name : Text) (t : Tree)
     (names : List (List ℕ)) (f : IsFileOf bytes t names) where
-  runs_out : (text : List ℕ) → FileAnswer (demand tr fuel heads name) bytes status.Spent text →
+  runs_out : (text : List ℕ) → FileAnswer (jobs.Demand tr fuel heads name) bytes status.Spent text →
       DemandRunsOut tr t names fuel heads
   runs_out text h =
       let same = one_file bytes h.0 t h.1 names h.2.file f in
-      (subst (λ t. TermAnswer (demand tr fuel heads name) t names status.Spent text) same.0
-      (subst (λ names. TermAnswer (demand tr fuel heads name) h.0 names status.Spent text) same.1 h.3)).0
+      (subst (λ t. TermAnswer (jobs.Demand tr fuel heads name) t names status.Spent text) same.0
+      (subst (λ names. TermAnswer (jobs.Demand tr fuel heads name) h.0 names status.Spent text) same.1 h.3)).0
 
-  spent_tells : (st : Status) (text : List ℕ) → FileAnswer (demand tr fuel heads name) bytes st text →
-      FuelTells (demand tr fuel heads name) t names st
+  spent_tells : (st : Status) (text : List ℕ) → FileAnswer (jobs.Demand tr fuel heads name) bytes st text →
+      FuelTells (jobs.Demand tr fuel heads name) t names st
   spent_tells status.Spent text h = λ most m ns told asked. is_less tr t names
       (file_names bytes t names f) most m ns told heads asked fuel (runs_out text h)
-  spent_tells status.Done text h = tt
-  spent_tells status.Usage text h = tt
-  spent_tells status.Syntax text h = tt
-  spent_tells status.ReadFault text h = tt
-  spent_tells status.WriteFault text h = tt
-  spent_tells status.NoMemory text h = tt
-  spent_tells status.Limit text h = tt
-  spent_tells status.BadNet text h = tt
+  spent_tells _ text h = tt
 
 -- and so is each run to a net from which the places can be read
 module _ (tr : Translation) (bytes : List ℕ) (fuel heads : ℕ) (name : Text) (t : Tree)
@@ -217,29 +203,22 @@ module _ (tr : Translation) (bytes : List ℕ) (fuel heads : ℕ) (name : Text) 
   last_is_longer own (inr enough) = serving_is_longer own enough
 
   demand_tells : (st : Status) (text : List ℕ) →
-      FileAnswer (demand tr fuel heads name) bytes st text → IsComplete net ⊎ CanBeRead net heads →
-      (old new : Option (List ℕ)) → JobTells (demand tr fuel heads name) names journal net st old new
+      FileAnswer (jobs.Demand tr fuel heads name) bytes st text → IsComplete net ⊎ CanBeRead net heads →
+      (old new : Option (List ℕ)) → JobTells (jobs.Demand tr fuel heads name) names journal net st old new
   demand_tells status.Spent text h last old new =
       last_is_longer (runs_out tr bytes fuel heads name t names f text h) last
-  demand_tells status.Done text h last old new = tt
-  demand_tells status.Usage text h last old new = tt
-  demand_tells status.Syntax text h last old new = tt
-  demand_tells status.ReadFault text h last old new = tt
-  demand_tells status.WriteFault text h last old new = tt
-  demand_tells status.NoMemory text h last old new = tt
-  demand_tells status.Limit text h last old new = tt
-  demand_tells status.BadNet text h last old new = tt
+  demand_tells _ text h last old new = tt
 
 same_bytes : (a b : List ℕ) → Some a ≡ Some b → a ≡ b
 same_bytes a b e = cc
 
 fuel_tells : (files : Files) (bytes : List ℕ) (st : Status) (text : List ℕ) (t : Tree)
-    (names : List (List ℕ)) → IsFileOf bytes t names → (asked : Asked) →
-    term_bytes (files 0) asked ≡ Some bytes → JobAnswer files st text asked →
-    FuelTells asked t names st
-fuel_tells files bytes st text t names f (demand tr fuel heads name) told
+    (names : List (List ℕ)) → IsFileOf bytes t names → (job : Job) →
+    term_bytes (files 0) job ≡ Some bytes → JobAnswer files st text job →
+    FuelTells job t names st
+fuel_tells files bytes st text t names f (jobs.Demand tr fuel heads name) told
     (of_file {bytes = other} has e h) =
-    let own = subst (λ b. FileAnswer (demand tr fuel heads name) b st text)
+    let own = subst (λ b. FileAnswer (jobs.Demand tr fuel heads name) b st text)
     (same_bytes other bytes (sym e ∙ told)) h in
     spent_tells tr bytes fuel heads name t names f st text own
 fuel_tells files bytes st text t names f _ told a = tt
@@ -247,20 +226,20 @@ fuel_tells files bytes st text t names f _ told a = tt
 module _ (files : Files) (bytes : List ℕ) (st : Status) (text : List ℕ) (old new : Option (List ℕ))
     (written : Appended old text new) (t : Tree) (names : List (List ℕ)) (f : IsFileOf bytes t names)
     (journal : List Entry) (net : NamedNet NodeName) where
-  answer_tells : (asked : Asked) → IsLast asked net →
-      IsRun (start_net_of_term (translation_in asked) t names) 0 journal net →
-      term_bytes (files 0) asked ≡ Some bytes → JobAnswer files st text asked →
-      JobTells asked names journal net st old new
-  answer_tells (run tr workers fuel heads name) last ran told (of_file {bytes = other} has e h) =
-      let own = subst (λ b. FileAnswer (run tr workers fuel heads name) b st text)
+  answer_tells : (job : Job) → IsLast job net →
+      IsRun (start_net_of_term (translation_in job) t names) 0 journal net →
+      term_bytes (files 0) job ≡ Some bytes → JobAnswer files st text job →
+      JobTells job names journal net st old new
+  answer_tells (jobs.Run tr workers fuel heads name) last ran told (of_file {bytes = other} has e h) =
+      let own = subst (λ b. FileAnswer (jobs.Run tr workers fuel heads name) b st text)
       (same_bytes other bytes (sym e ∙ told)) h in
       runs_tell tr bytes workers fuel heads name t names f st text old new own written journal net ran last
-  answer_tells (gen tr true k) last ran told (made m) =
+  answer_tells (jobs.Gen tr true k) last ran told (made m) =
       let own = subst (λ b. FileAnswer (plain_run tr) b st text) (same_bytes (doubled_text k) bytes told) m in
       runs_tell tr bytes 4 200000 4096 (codes "-") t names f st text old new own written journal net ran last
-  answer_tells (gen tr true k) last ran told (of_file has e h) = absurd has
-  answer_tells (demand tr fuel heads name) last ran told (of_file {bytes = other} has e h) =
-      let own = subst (λ b. FileAnswer (demand tr fuel heads name) b st text)
+  answer_tells (jobs.Gen tr true k) last ran told (of_file has e h) = absurd has
+  answer_tells (jobs.Demand tr fuel heads name) last ran told (of_file {bytes = other} has e h) =
+      let own = subst (λ b. FileAnswer (jobs.Demand tr fuel heads name) b st text)
       (same_bytes other bytes (sym e ∙ told)) h in
       demand_tells tr bytes fuel heads name t names f journal net ran st text own last old new
   answer_tells _ last ran told a = tt
@@ -268,12 +247,12 @@ module _ (files : Files) (bytes : List ℕ) (st : Status) (text : List ℕ) (old
 pub answer_runs : (words : List (String Global)) (files : Files) (bytes : List ℕ) →
     TellsTerm (files 0) words bytes → (st : Status) (text : List ℕ) (old new : Option (List ℕ)) →
     IsAnswer words files st text → Appended old text new → EveryRunTells words bytes st old new
-answer_runs words files bytes tells st text old new a written asked t names j f =
-    let told = tells asked j in
-    let own = own_job words files asked j st text a in (
-      fuel_tells files bytes st text t names f asked told own,
+answer_runs words files bytes tells st text old new a written job t names j f =
+    let told = tells job j in
+    let own = own_job words files job j st text a in (
+      fuel_tells files bytes st text t names f job told own,
       λ journal net ran last. answer_tells files bytes st text old new written t names f journal net
-          asked last ran told own,
+          job last ran told own,
     )
 
 -- ---- the call
@@ -295,25 +274,25 @@ pub ends_run : (words : List (String Global)) (f f' given : ℕ) (contents : Fil
       given = given;
       ended = ended;
     })) r g g' old new → EveryRunTells words bytes r old new
-ends_run words f f' given contents ended quiet bytes tells r g g' old new calm has e asked t names j
-    file = go asked j
+ends_run words f f' given contents ended quiet bytes tells r g g' old new calm has e job t names j
+    file = go job j
   where
-    call : (asked : Asked) → AskFor words asked → AreTold contents asked →
-        TermTells asked t names r old new
+    call : (job : Job) → AskFor words job → AreTold contents job →
+        TermTells job t names r old new
     call here j told =
-        let all : TellsFiles contents words = λ asked j'.
-        subst (AreTold contents) (one_job words here asked j j') told in
+        let all : TellsFiles contents words = λ job j'.
+        subst (AreTold contents) (one_job words here job j j') told in
         let x = ends_exact words f f' given contents ended quiet all r g g' old new calm has e in
         answer_runs words contents bytes tells r x.0 old new x.1 x.2 here t names j file
 
-    no_name : (tr : Translation) (k : ℕ) → AreTold contents (gen tr true k)
+    no_name : (tr : Translation) (k : ℕ) → AreTold contents (jobs.Gen tr true k)
     no_name tr k zero n is = absurd (cc)
     no_name tr k (suc place) n is = absurd (cc)
 
-    go : (asked : Asked) → AskFor words asked → TermTells asked t names r old new
-    go (run tr workers fuel heads name) j = call (run tr workers fuel heads name) j
-        (one_name contents bytes name (tells (run tr workers fuel heads name) j))
-    go (gen tr true k) j = call (gen tr true k) j (no_name tr k)
-    go (demand tr fuel heads name) j = call (demand tr fuel heads name) j
-        (one_name contents bytes name (tells (demand tr fuel heads name) j))
+    go : (job : Job) → AskFor words job → TermTells job t names r old new
+    go (jobs.Run tr workers fuel heads name) j = call (jobs.Run tr workers fuel heads name) j
+        (one_name contents bytes name (tells (jobs.Run tr workers fuel heads name) j))
+    go (jobs.Gen tr true k) j = call (jobs.Gen tr true k) j (no_name tr k)
+    go (jobs.Demand tr fuel heads name) j = call (jobs.Demand tr fuel heads name) j
+        (one_name contents bytes name (tells (jobs.Demand tr fuel heads name) j))
     go _ j = (tt, λ journal net ran last. tt)

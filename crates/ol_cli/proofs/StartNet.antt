@@ -53,15 +53,15 @@ module _ (tr : Translation) (t : Tree) (names : List (List ℕ)) (has : HasNames
   -- the run for no more heads than are told, or for any number where these are all
   pub is_read_within : (heads ≤ most) ⊎ (length ns < most) →
       IsReadWithin (start_net_of_term tr t names) heads m ns
-  is_read_within asked =
+  is_read_within job =
       let fit = start_net_is_fit tr t names has in
       read_within (translation_of tr t (length names)) (start_net_of_term tr t names) fit.0.start
-      fit.0.clear fit.1 alike most m ns told heads asked
+      fit.0.clear fit.1 alike most m ns told heads job
 
   pub ends_within : (heads ≤ most) ⊎ (length ns < most) → (fuel : ℕ) → m ≤ fuel →
       DemandEnds tr t names fuel heads
-  ends_within asked fuel b =
-      let w = is_read_within asked in
+  ends_within job fuel b =
+      let w = is_read_within job in
       let d = w.run in
       record {
         journal = d.0;
@@ -73,11 +73,11 @@ module _ (tr : Translation) (t : Tree) (names : List (List ℕ)) (has : HasNames
 
   pub is_less : (heads ≤ most) ⊎ (length ns < most) → (fuel : ℕ) →
       DemandRunsOut tr t names fuel heads → fuel < m
-  is_less asked fuel out = by (cases_lt fuel m)
+  is_less job fuel out = by (cases_lt fuel m)
     where
       by : (fuel < m) ⊎ (m ≤ fuel) → fuel < m
       by (inl b) = b
-      by (inr b) = absurd ((is_read_within asked).ends fuel b out)
+      by (inr b) = absurd ((is_read_within job).ends fuel b out)
 
   -- what is read, where these are all places and no fewer heads are asked for
   pub reads_told : length ns < most → length ns ≤ heads → (fuel : ℕ)

@@ -9,10 +9,7 @@ use Rattle.ol_term.specs.declared.translations.Translation.{Translation}
 use Rattle.ol_net.specs.Graph.{Graph}
 use Rattle.ol_wire.specs.Closed.{ClosedTable}
 use Rattle.ol_words.specs.Texts.{Text}
-use Rattle.ol_words.specs.declared.jobs.Job.{Job as Asked}
-use Rattle.ol_words.specs.declared.jobs.Job.TheVariants.{Run as run, Walk as walk, View as view}
-use Rattle.ol_words.specs.declared.jobs.Job.TheVariants.{Trace as trace, Check as check, Gen as gen}
-use Rattle.ol_words.specs.declared.jobs.Job.TheVariants.{Demand as demand, Certify as certify}
+use Rattle.ol_words.specs.declared.jobs.Job.{Job}
 use Rattle.ol_words.specs.declared.jobs.Job.TheVariants as jobs
 use Rattle.ol_cli.specs.declared.answer.Answer.{Answer}
 use Rattle.ol_cli.specs.declared.ready.Ready.TheVariants as ready
@@ -27,7 +24,7 @@ use Rattle.ol_cli.specs.Net.{NetFileAnswer}
 use Rattle.ol_limits.specs.Limits.{most_net_bytes}
 use Rattle.ol_cli.specs.RefusalTexts.{net_bytes_text}
 use Rattle.ol_cli.specs.Cases.{TermAnswer}
-use Rattle.ol_cli.specs.TermFiles.{TermHands}
+use Rattle.ol_cli.specs.Jobs.{TermHands}
 use Rattle.ol_cli.specs.Handed.{ReadHands, JobHands, WhereEnded}
 use Rattle.ol_cli.specs.Inside.{ComesOf}
 use Rattle.ol_cli.specs.ReadAgain.{AnswerIsReadAgain}
@@ -40,11 +37,11 @@ use Rattle.ol_cli.proofs.Readied.{refuses_answer, refuses_hands, term_answer}
 -- ---- a file that is refused
 
 -- a refusal is the cause of an answer, whatever the job
-pub refused_cause : (asked : Asked) (s : Seen) (st : Status) (text : List ℕ) →
-    RefusesTerm (translation_in asked) s (file_name asked) st text → FileCause asked s st text
-refused_cause asked s st text r =
-    cause_map s _ _ (file_name asked) (Refuses (translation_in asked)) (FileAnswer asked) st text
-    (λ bytes h. refuses_answer asked bytes st text h) r
+pub refused_cause : (job : Job) (s : Seen) (st : Status) (text : List ℕ) →
+    RefusesTerm (translation_in job) s (file_name job) st text → FileCause job s st text
+refused_cause job s st text r =
+    cause_map s _ _ (file_name job) (Refuses (translation_in job)) (FileAnswer job) st text
+    (λ bytes h. refuses_answer job bytes st text h) r
 
 module _ (tr : Translation) (s : Seen) (name : Text) (text : List ℕ) where
   -- nothing is done with it,
@@ -62,63 +59,63 @@ module _ (tr : Translation) (s : Seen) (name : Text) (text : List ℕ) where
   refused_closed st closed P (given same {bytes = bytes} gave h) none =
       refuses_hands tr bytes st text closed P h none
 
-pub refused_comes : (asked : Asked) → HasTermFile asked → (s : Seen) (a : Answer) →
-    ComesOfTerm (translation_in asked) s (file_name asked) (ready.Refused a) → ComesOf asked s a
-refused_comes asked has s a r = record {
-  caused = by_file has (refused_cause asked s a.status a.text.items r.0);
+pub refused_comes : (job : Job) → HasTermFile job → (s : Seen) (a : Answer) →
+    ComesOfTerm (translation_in job) s (file_name job) (ready.Refused a) → ComesOf job s a
+refused_comes job has s a r = record {
+  caused = by_file has (refused_cause job s a.status a.text.items r.0);
   read =
       λ bytes told t names f e.
-      absurd (refused_undone (translation_in asked) s (file_name asked) a.text.items a.status r.0 e);
+      absurd (refused_undone (translation_in job) s (file_name job) a.text.items a.status r.0 e);
   closed =
-      refused_closed (translation_in asked) s (file_name asked) a.text.items a.status a.closed
-      (JobHands asked s a.status a.text.items a.closed) r.0 r.1;
+      refused_closed (translation_in job) s (file_name job) a.text.items a.status a.closed
+      (JobHands job s a.status a.text.items a.closed) r.0 r.1;
 }
 
 -- ---- a file whose term is answered
 
 -- what is handed back of a job's term file is what the job hands back
-job_hands : (asked : Asked) → HasTermFile asked → (s : Seen) (st : Status) (text : List ℕ)
-    (closed : Option ClosedTable) → ReadHands asked s st text closed → JobHands asked s st text closed
-job_hands (check tr term journal) has s st text closed h = h.2.3
-job_hands (gen tr runs k) has s st text closed h = absurd has
+job_hands : (job : Job) → HasTermFile job → (s : Seen) (st : Status) (text : List ℕ)
+    (closed : Option ClosedTable) → ReadHands job s st text closed → JobHands job s st text closed
+job_hands (jobs.Check tr term journal) has s st text closed h = h.2.3
+job_hands (jobs.Gen tr runs k) has s st text closed h = absurd has
 job_hands (jobs.Net tr false w f name) has s st text closed h = absurd has
 job_hands (jobs.Equal tr w f q first second) has s st text closed h = absurd has
 job_hands _ has s st text closed h = h
 
-pub term_comes : (asked : Asked) → HasTermFile asked → (s : Seen) (net : Graph) (file : TermFile) →
-    ComesOfTerm (translation_in asked) s (file_name asked) (ready.Net net file) → (a : Answer) →
-    TermAnswer asked (tree_of file.term) file.names a.status a.text.items →
-    AnswerIsReadAgain asked (tree_of file.term) file.names a.status a.text.items →
-    TermHands asked (tree_of file.term) file.names a.status a.text.items a.closed → ComesOf asked s a
-term_comes asked has s net file (same, (bytes, gave, i)) a h read closed =
+pub term_comes : (job : Job) → HasTermFile job → (s : Seen) (net : Graph) (file : TermFile) →
+    ComesOfTerm (translation_in job) s (file_name job) (ready.Net net file) → (a : Answer) →
+    TermAnswer job (tree_of file.term) file.names a.status a.text.items →
+    AnswerIsReadAgain job (tree_of file.term) file.names a.status a.text.items →
+    TermHands job (tree_of file.term) file.names a.status a.text.items a.closed → ComesOf job s a
+term_comes job has s net file (same, (bytes, gave, i)) a h read closed =
     let t = tree_of file.term in
     let names = file.names in
     let st = a.status in
     let text = a.text.items in record {
       caused =
           by_file has
-          (given same gave (term_answer asked bytes t names i.term st text h));
+          (given same gave (term_answer job bytes t names i.term st text h));
       read =
           λ told e.
-          told_read asked (s.contents 0 (file_name asked)) bytes told st text gave.whole
-          (file_read asked bytes t names st text i.term.file i.named read)
-          (file_bytes (s.contents 0) asked has ∙ e);
+          told_read job (s.contents 0 (file_name job)) bytes told st text gave.whole
+          (file_read job bytes t names st text i.term.file i.named read)
+          (file_bytes (s.contents 0) job has ∙ e);
       closed =
-          where_ended st a.closed (ReadHands asked s st text a.closed)
-          (JobHands asked s st text a.closed) (job_hands asked has s st text a.closed)
-          (read_hands asked s bytes st text a.closed gave
-          (file_hands asked bytes t names i.term st text a.closed closed));
+          where_ended st a.closed (ReadHands job s st text a.closed)
+          (JobHands job s st text a.closed) (job_hands job has s st text a.closed)
+          (read_hands job s bytes st text a.closed gave
+          (file_hands job bytes t names i.term st text a.closed closed));
     }
 
 -- the same of what a call has made, where it has
-pub term_comes_if : (asked : Asked) → HasTermFile asked → (s : Seen) (net : Graph) (file : TermFile) →
-    ComesOfTerm (translation_in asked) s (file_name asked) (ready.Net net file) → (made : Result Answer NoMemory) →
-    IfOk made (λ a. TermAnswer asked (tree_of file.term) file.names a.status a.text.items) →
-    IfOk made (λ a. AnswerIsReadAgain asked (tree_of file.term) file.names a.status a.text.items) →
-    IfOk made (λ a. TermHands asked (tree_of file.term) file.names a.status a.text.items a.closed) →
-    IfOk made (ComesOf asked s)
-term_comes_if asked has s net file comes (Ok a) h read closed = term_comes asked has s net file comes a h read closed
-term_comes_if asked has s net file comes (Err e) h read closed = tt
+pub term_comes_if : (job : Job) → HasTermFile job → (s : Seen) (net : Graph) (file : TermFile) →
+    ComesOfTerm (translation_in job) s (file_name job) (ready.Net net file) → (made : Result Answer NoMemory) →
+    IfOk made (λ a. TermAnswer job (tree_of file.term) file.names a.status a.text.items) →
+    IfOk made (λ a. AnswerIsReadAgain job (tree_of file.term) file.names a.status a.text.items) →
+    IfOk made (λ a. TermHands job (tree_of file.term) file.names a.status a.text.items a.closed) →
+    IfOk made (ComesOf job s)
+term_comes_if job has s net file comes (Ok a) h read closed = term_comes job has s net file comes a h read closed
+term_comes_if job has s net file comes (Err e) h read closed = tt
 
 -- ---- the file of a net
 

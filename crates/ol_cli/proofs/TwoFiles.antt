@@ -2,7 +2,7 @@
 use Rattle.std.proofs.Common.{◌≡◌, None}
 use Rattle.ol_term.specs.declared.translations.Translation.{Translation}
 use Rattle.ol_words.specs.Texts.{Text}
-use Rattle.ol_words.specs.declared.jobs.Job.TheVariants.{Check as check}
+use Rattle.ol_words.specs.declared.jobs.Job.TheVariants as jobs
 use Rattle.ol_cli.specs.declared.answer.Answer.{Answer}
 use Rattle.ol_cli.specs.declared.numbers.RunNumbers.{RunNumbers}
 use Rattle.ol_cli.specs.Answers.{Seen}
@@ -11,8 +11,8 @@ use Rattle.ol_cli.specs.Inside.{ComesOf, equal_on}
 use Rattle.ol_cli.proofs.Handing.{none_ended}
 
 pub check_comes : (tr : Translation) (term journal : Text) (s : Seen) (a : Answer) →
-    JobCause s a.status a.text.items (check tr term journal) → a.closed ≡ None →
-    ComesOf (check tr term journal) s a
+    JobCause s a.status a.text.items (jobs.Check tr term journal) → a.closed ≡ None →
+    ComesOf (jobs.Check tr term journal) s a
 check_comes tr term journal s a cause none = record {
   caused = cause;
   read = λ bytes told t names f e. tt;

@@ -1,6 +1,6 @@
 -- The answer to a job, by its words and case by case: the two are one.
-use Rattle.std.proofs.Common.{ℕ, true, false, List, inl, inr}
-use Rattle.ol_words.specs.declared.jobs.Job.{Job as Asked}
+use Rattle.std.proofs.Common.{ℕ, false, List, inl, inr}
+use Rattle.ol_words.specs.declared.jobs.Job.{Job}
 use Rattle.ol_words.specs.declared.jobs.Job.TheVariants as jobs
 use Rattle.ol_cli.specs.declared.status.Status.{Status}
 use Rattle.ol_cli.specs.Answers.{AnswerTo}
@@ -8,14 +8,7 @@ use Rattle.ol_cli.specs.Cases.{JobAnswer, of_file, of_journal, made, of_net_file
 use Rattle.ol_cli.specs.Jobs.{Files}
 
 module _ (files : Files) (st : Status) (text : List ℕ) where
-  pub answer_cases : (asked : Asked) → AnswerTo files asked st text → JobAnswer files st text asked
-  answer_cases (jobs.Run tr w f q name) (bytes, e, h) = of_file tt e h
-  answer_cases (jobs.Walk tr g q name) (bytes, e, h) = of_file tt e h
-  answer_cases (jobs.View tr k name) (bytes, e, h) = of_file tt e h
-  answer_cases (jobs.Trace tr w f name) (bytes, e, h) = of_file tt e h
-  answer_cases (jobs.Demand tr f q name) (bytes, e, h) = of_file tt e h
-  answer_cases (jobs.Certify tr b w f q name) (bytes, e, h) = of_file tt e h
-  answer_cases (jobs.Net tr true w f name) (bytes, e, h) = of_file tt e h
+  pub answer_cases : (job : Job) → AnswerTo files job st text → JobAnswer files st text job
   answer_cases (jobs.Net tr false w f name) (bytes, e, h) = of_net_file e h
   answer_cases (jobs.Gen tr runs k) m = made m
   answer_cases (jobs.Check tr term journal) (inl (bytes, e, h)) = of_file tt e h
@@ -26,15 +19,9 @@ module _ (files : Files) (st : Status) (text : List ℕ) where
       of_second e x e' isnt h
   answer_cases (jobs.Equal tr w f q a b) (inr (bytes, bytes', e, x, e', inr (y, is, k))) =
       of_both e x e' y is k
+  answer_cases _ h = of_file {bytes = h.0} tt h.1 h.2
 
-  pub answer_of : (asked : Asked) → JobAnswer files st text asked → AnswerTo files asked st text
-  answer_of (jobs.Run tr w f q name) (of_file {bytes = m} has e h) = (m, e, h)
-  answer_of (jobs.Walk tr g q name) (of_file {bytes = m} has e h) = (m, e, h)
-  answer_of (jobs.View tr k name) (of_file {bytes = m} has e h) = (m, e, h)
-  answer_of (jobs.Trace tr w f name) (of_file {bytes = m} has e h) = (m, e, h)
-  answer_of (jobs.Demand tr f q name) (of_file {bytes = m} has e h) = (m, e, h)
-  answer_of (jobs.Certify tr b w f q name) (of_file {bytes = m} has e h) = (m, e, h)
-  answer_of (jobs.Net tr true w f name) (of_file {bytes = m} has e h) = (m, e, h)
+  pub answer_of : (job : Job) → JobAnswer files st text job → AnswerTo files job st text
   answer_of (jobs.Net tr false w f name) (of_file has e h) = absurd has
   answer_of (jobs.Net tr false w f name) (of_net_file {bytes = m} e h) = (m, e, h)
   answer_of (jobs.Gen tr runs k) (of_file has e h) = absurd has
@@ -49,3 +36,4 @@ module _ (files : Files) (st : Status) (text : List ℕ) where
       inr (m, n, e, x, e', inl (isnt, h))
   answer_of (jobs.Equal tr w f q a b) (of_both {bytes = m} {bytes' = n} e x e' y is k) =
       inr (m, n, e, x, e', inr (y, is, k))
+  answer_of _ (of_file {bytes = m} has e h) = (m, e, h)

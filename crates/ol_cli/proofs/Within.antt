@@ -7,18 +7,15 @@ use Rattle.std.specs.Str.Parse.{digits_value}
 use Rattle.ol_words.specs.Texts.{Text}
 use Rattle.ol_words.specs.Lines.{Line, line_of}
 use Rattle.ol_words.specs.Numbers.{Limits, from_to, number_within, is_number, setting}
-use Rattle.ol_words.specs.declared.jobs.Job.{Job as Asked}
-use Rattle.ol_words.specs.declared.jobs.Job.TheVariants.{Run as run, Walk as walk, View as view}
-use Rattle.ol_words.specs.declared.jobs.Job.TheVariants.{Trace as trace, Check as check, Gen as gen}
-use Rattle.ol_words.specs.declared.jobs.Job.TheVariants.{Demand as demand, Certify as certify}
-use Rattle.ol_words.specs.declared.jobs.Job.TheVariants.{Net as net, Equal as equal}
+use Rattle.ol_words.specs.declared.jobs.Job.{Job}
+use Rattle.ol_words.specs.declared.jobs.Job.TheVariants as jobs
 use Rattle.ol_words.specs.Asked.{Verb, run_verb, walk_verb, view_verb, trace_verb, check_verb}
 use Rattle.ol_words.specs.Asked.{gen_verb, demand_verb, certify_verb, net_verb, equal_verb}
 use Rattle.ol_words.specs.Asked.{numbered, is_input, asks}
 use Rattle.ol_words.specs.Jobs.{Setting, setting_row, verb_row, verb_named, known_of, values_of}
 use Rattle.ol_words.specs.Jobs.{number_on, numbers, job_on, job_behind, job_of}
 use Rattle.ol_words.specs.Jobs as set
-use Rattle.ol_cli.specs.Inside.{IsWithinLimits}
+use Rattle.ol_cli.specs.Jobs.{IsWithinLimits}
 
 and_then_some : {A B : Type 0} (f : A → Option B) (o : Option A) (b : B) →
     option_and_then f o ≡ Some b → (a : A) × (o ≡ Some a) × (f a ≡ Some b)
@@ -94,65 +91,65 @@ numbers_within line (s ∷ ss) ns h =
 -- ---- a verb
 
 -- two files, which aren't both standard input
-two_files : (b : Bool) (job asked : Asked) → (if b then None else Some job) ≡ Some asked → job ≡ asked
-two_files true job asked h = absurd (cc)
-two_files false job asked h = cc
+two_files : (b : Bool) (own job : Job) → (if b then None else Some own) ≡ Some job → own ≡ job
+two_files true own job h = absurd (cc)
+two_files false own job h = cc
 
-nothing : (asked : Asked) → ◌≡◌ {A = Option Asked} None (Some asked) → ⊥
-nothing asked h = cc
+nothing : (job : Job) → ◌≡◌ {A = Option Job} None (Some job) → ⊥
+nothing job h = cc
 
 -- how often a term may be doubled
 abbrev doublings : Limits
 doublings = from_to 0 10 0
 
-doubled_within : (asked : ℕ → Asked) (text : Text) (a : Asked) →
-    ((k : ℕ) → k ≤ 10 → IsWithinLimits (asked k)) →
-    option_map asked (number_within doublings text) ≡ Some a → IsWithinLimits a
-doubled_within asked text a each h =
-    let is = map_some asked (number_within doublings text) a h in
+doubled_within : (job : ℕ → Job) (text : Text) (a : Job) →
+    ((k : ℕ) → k ≤ 10 → IsWithinLimits (job k)) →
+    option_map job (number_within doublings text) ≡ Some a → IsWithinLimits a
+doubled_within job text a each h =
+    let is = map_some job (number_within doublings text) a h in
     let t = three (is_number text) (nat_le doublings.least (digits_value 10 text))
     (nat_le (digits_value 10 text) doublings.most) (digits_value 10 text) is.0 is.1 in
-    subst IsWithinLimits {x = asked is.0} is.2
+    subst IsWithinLimits {x = job is.0} is.2
     (each is.0 (subst (λ k. k ≤ 10) t.2 (le_of (digits_value 10 text) doublings.most t.1)))
 
-asked_within : (v : Verb) (ns : List ℕ) (names : List Text) (asked : Asked) →
-    AreWithin (verb_row v).settings ns → asks v ns names ≡ Some asked → IsWithinLimits asked
-asked_within run_verb (t ∷ w ∷ f ∷ q ∷ []) (name ∷ []) asked l h =
-    let is : run (numbered t) w f q name ≡ asked = cc in
+asked_within : (v : Verb) (ns : List ℕ) (names : List Text) (job : Job) →
+    AreWithin (verb_row v).settings ns → asks v ns names ≡ Some job → IsWithinLimits job
+asked_within run_verb (t ∷ w ∷ f ∷ q ∷ []) (name ∷ []) job l h =
+    let is : jobs.Run (numbered t) w f q name ≡ job = cc in
     subst IsWithinLimits is (l.1.0.0, l.1.0.1, l.1.1.0.1, l.1.1.1.0.0)
-asked_within walk_verb (t ∷ e ∷ q ∷ []) (name ∷ []) asked l h =
-    let is : walk (numbered t) e q name ≡ asked = cc in subst IsWithinLimits is l.1.1.0.0
-asked_within view_verb (t ∷ k ∷ []) (name ∷ []) asked l h =
-    let is : view (numbered t) k name ≡ asked = cc in subst IsWithinLimits is l.1.0.1
-asked_within trace_verb (t ∷ w ∷ f ∷ []) (name ∷ []) asked l h =
-    let is : trace (numbered t) w f name ≡ asked = cc in subst IsWithinLimits is (l.1.0.0, l.1.0.1, l.1.1.0.1)
-asked_within check_verb (t ∷ []) (a ∷ b ∷ []) asked l h =
-    let is = two_files (is_input a && is_input b) (check (numbered t) a b) asked h in subst IsWithinLimits is tt
-asked_within gen_verb (t ∷ r ∷ []) (n ∷ []) asked l h = doubled_within
-    (gen (numbered t) (r == 1)) n asked (λ k below. below) h
-asked_within demand_verb (t ∷ f ∷ q ∷ []) (name ∷ []) asked l h =
-    let is : demand (numbered t) f q name ≡ asked = cc in subst IsWithinLimits is (l.1.0.1, l.1.1.0.0)
-asked_within certify_verb (t ∷ s ∷ w ∷ f ∷ q ∷ []) (name ∷ []) asked l h =
-    let is : certify (numbered t) s w f q name ≡ asked = cc in
+asked_within walk_verb (t ∷ e ∷ q ∷ []) (name ∷ []) job l h =
+    let is : jobs.Walk (numbered t) e q name ≡ job = cc in subst IsWithinLimits is l.1.1.0.0
+asked_within view_verb (t ∷ k ∷ []) (name ∷ []) job l h =
+    let is : jobs.View (numbered t) k name ≡ job = cc in subst IsWithinLimits is l.1.0.1
+asked_within trace_verb (t ∷ w ∷ f ∷ []) (name ∷ []) job l h =
+    let is : jobs.Trace (numbered t) w f name ≡ job = cc in subst IsWithinLimits is (l.1.0.0, l.1.0.1, l.1.1.0.1)
+asked_within check_verb (t ∷ []) (a ∷ b ∷ []) job l h =
+    let is = two_files (is_input a && is_input b) (jobs.Check (numbered t) a b) job h in subst IsWithinLimits is tt
+asked_within gen_verb (t ∷ r ∷ []) (n ∷ []) job l h = doubled_within
+    (jobs.Gen (numbered t) (r == 1)) n job (λ k below. below) h
+asked_within demand_verb (t ∷ f ∷ q ∷ []) (name ∷ []) job l h =
+    let is : jobs.Demand (numbered t) f q name ≡ job = cc in subst IsWithinLimits is (l.1.0.1, l.1.1.0.0)
+asked_within certify_verb (t ∷ s ∷ w ∷ f ∷ q ∷ []) (name ∷ []) job l h =
+    let is : jobs.Certify (numbered t) s w f q name ≡ job = cc in
     subst IsWithinLimits is (l.1.1.0.0, l.1.1.0.1, l.1.1.1.0.1, l.1.1.1.1.0.0)
-asked_within net_verb (t ∷ r ∷ w ∷ f ∷ []) (name ∷ []) asked l h =
-    let is : net (numbered t) (r == 1) w f name ≡ asked = cc in
+asked_within net_verb (t ∷ r ∷ w ∷ f ∷ []) (name ∷ []) job l h =
+    let is : jobs.Net (numbered t) (r == 1) w f name ≡ job = cc in
     subst IsWithinLimits is (l.1.1.0.0, l.1.1.0.1, l.1.1.1.0.1)
-asked_within equal_verb (t ∷ w ∷ f ∷ q ∷ []) (a ∷ b ∷ []) asked l h =
-    let is = two_files (is_input a && is_input b) (equal (numbered t) w f q a b) asked h in
+asked_within equal_verb (t ∷ w ∷ f ∷ q ∷ []) (a ∷ b ∷ []) job l h =
+    let is = two_files (is_input a && is_input b) (jobs.Equal (numbered t) w f q a b) job h in
     subst IsWithinLimits is (l.1.0.0, l.1.0.1, l.1.1.0.1, l.1.1.1.0.0)
-asked_within _ _ _ asked l h = absurd (nothing asked h)
+asked_within _ _ _ job l h = absurd (nothing job h)
 
 -- ---- words
 
-pub job_within : (texts : List Text) (asked : Asked) → job_of texts ≡ Some asked → IsWithinLimits asked
-job_within [] asked h = absurd (cc)
-job_within (program ∷ []) asked h = absurd (cc)
-job_within (program ∷ word ∷ rest) asked h =
-    let named = and_then_some (job_behind rest) (verb_named word) asked h in
+pub job_within : (texts : List Text) (job : Job) → job_of texts ≡ Some job → IsWithinLimits job
+job_within [] job h = absurd (cc)
+job_within (program ∷ []) job h = absurd (cc)
+job_within (program ∷ word ∷ rest) job h =
+    let named = and_then_some (job_behind rest) (verb_named word) job h in
     let v = named.0 in
-    let read = and_then_some (job_on v) (line_of (known_of v) rest) asked named.2 in
+    let read = and_then_some (job_on v) (line_of (known_of v) rest) job named.2 in
     let line = read.0 in
     let told = and_then_some (λ ns. asks v ns line.names)
-    (numbers (number_on line) (verb_row v).settings) asked read.2 in
-    asked_within v told.0 line.names asked (numbers_within line (verb_row v).settings told.0 told.1) told.2
+    (numbers (number_on line) (verb_row v).settings) job read.2 in
+    asked_within v told.0 line.names job (numbers_within line (verb_row v).settings told.0 told.1) told.2

@@ -5,17 +5,16 @@ use Rattle.std.specs.Prelude.{ℕ, ◌<◌, ◌≡◌, ◌≢◌, ◌≤◌, ◌
 use Rattle.std.specs.declared.alloc.Global.{Global}
 use Rattle.ol_io.specs.Outside.{Appended, IsAllOf, Rose}
 use Rattle.ol_term.specs.Trees.{Tree}
-use Rattle.ol_words.specs.declared.jobs.Job.{Job as Asked}
-use Rattle.ol_words.specs.declared.jobs.Job.TheVariants.{Check as check, Equal as equal, Gen as gen}
-use Rattle.ol_words.specs.declared.jobs.Job.TheVariants.{Net as net}
+use Rattle.ol_words.specs.declared.jobs.Job.{Job}
+use Rattle.ol_words.specs.declared.jobs.Job.TheVariants as jobs
 use Rattle.ol_words.specs.Texts.{Text}
 use Rattle.ol_cli.specs.Check.{JournalAnswer}
 use Rattle.ol_cli.specs.Equal.{Compares, HasTree}
 use Rattle.ol_cli.specs.Generate.{Makes}
-use Rattle.ol_cli.specs.Jobs.{AskFor, AskForNothing, Files, HasFile}
+use Rattle.ol_cli.specs.Jobs.{AskFor, AskForNothing, Files, HasFile, OnTerm}
 use Rattle.ol_cli.specs.Net.{NetFileAnswer}
 use Rattle.ol_cli.specs.Run.{RunAnswer}
-use Rattle.ol_cli.specs.TermFiles.{IsTermFile, OnTerm, TermFileAnswer}
+use Rattle.ol_cli.specs.TermFiles.{IsTermFile, TermFileAnswer}
 use Rattle.ol_cli.specs.Texts.{line, usage_text}
 use Rattle.ol_cli.specs.declared.status.Status.{Status}
 use Rattle.ol_cli.specs.declared.status.Status.TheVariants as status
@@ -41,38 +40,38 @@ status_number status.BadNet = 9
 -- isn't Done, else to its second where that isn't Done, else the comparison of what the two are read
 -- back to. Any other job answers the term of its one file.
 abbrev pub AnswerOf : (IsFirst : Text → List ℕ → Type 0) →
-    (IsLast : ℕ → Text → ℕ → List ℕ → Type 0) → Asked → Status → List ℕ → Type 0
-AnswerOf IsFirst IsLast (gen translation runs k) st text = Makes translation runs k st text
-AnswerOf IsFirst IsLast (net translation false workers fuel name) st text =
+    (IsLast : ℕ → Text → ℕ → List ℕ → Type 0) → Job → Status → List ℕ → Type 0
+AnswerOf IsFirst IsLast (jobs.Gen translation runs k) st text = Makes translation runs k st text
+AnswerOf IsFirst IsLast (jobs.Net translation false workers fuel name) st text =
     (bytes : List ℕ) × IsLast 0 name most_net_bytes bytes × NetFileAnswer fuel bytes st text
-AnswerOf IsFirst IsLast (check translation term journal) st text =
+AnswerOf IsFirst IsLast (jobs.Check translation term journal) st text =
     ((bytes : List ℕ) × IsLast 0 term most_term_bytes bytes
     × TermFileAnswer translation (λ t names st text. ⊥) bytes st text)
     ⊎ ((bytes trace : List ℕ) × (t : Tree) × (names : List (List ℕ))
     × IsFirst term bytes × IsTermFile translation bytes t names
     × IsLast 1 journal most_journal_bytes trace × JournalAnswer translation t names trace st text)
-AnswerOf IsFirst IsLast (equal translation workers fuel heads a b) st text =
+AnswerOf IsFirst IsLast (jobs.Equal translation workers fuel heads a b) st text =
     ((bytes : List ℕ) × IsLast 0 a most_term_bytes bytes × (st ≢ status.Done)
     × TermFileAnswer translation (RunAnswer translation fuel heads) bytes st text)
     ⊎ ((bytes bytes' : List ℕ) × IsFirst a bytes × (x : HasTree translation bytes fuel heads)
     × IsLast 1 b most_term_bytes bytes' × (((st ≢ status.Done)
     × TermFileAnswer translation (RunAnswer translation fuel heads) bytes' st text)
     ⊎ ((y : HasTree translation bytes' fuel heads) × (st ≡ status.Done) × Compares x y text)))
-AnswerOf IsFirst IsLast asked st text = OnTerm asked (λ name translation Answers. (bytes : List ℕ)
+AnswerOf IsFirst IsLast job st text = OnTerm job (λ name translation Answers. (bytes : List ℕ)
     × IsLast 0 name most_term_bytes bytes × TermFileAnswer translation Answers bytes st text)
 
 -- the same, where the files have these bytes, each when it is read
-abbrev pub AnswerTo : Files → Asked → Status → List ℕ → Type 0
+abbrev pub AnswerTo : Files → Job → Status → List ℕ → Type 0
 AnswerTo files = AnswerOf (λ name bytes. files 0 name ≡ Some bytes)
     (λ place name most bytes. files place name ≡ Some bytes)
 
 -- The first of a job's two files is refused for its bytes: that of `check` is no term file, and
 -- with that of `equal` `run` isn't Done.
-abbrev pub RefusesFirst : (Text → Option (List ℕ)) → Asked → Type 0
-RefusesFirst files (check translation term journal) = (bytes : List ℕ) × (files term ≡ Some bytes)
+abbrev pub RefusesFirst : (Text → Option (List ℕ)) → Job → Type 0
+RefusesFirst files (jobs.Check translation term journal) = (bytes : List ℕ) × (files term ≡ Some bytes)
     × ((st : Status) × (text : List ℕ)
     × TermFileAnswer translation (λ t names st text. ⊥) bytes st text)
-RefusesFirst files (equal translation workers fuel heads a b) = (bytes : List ℕ) × (files a ≡ Some bytes)
+RefusesFirst files (jobs.Equal translation workers fuel heads a b) = (bytes : List ℕ) × (files a ≡ Some bytes)
     × ((st : Status) × (text : List ℕ) × (st ≢ status.Done)
     × TermFileAnswer translation (RunAnswer translation fuel heads) bytes st text)
 RefusesFirst files _ = ⊥
@@ -80,7 +79,7 @@ RefusesFirst files _ = ⊥
 -- The answer to these words, where nothing fails and the files have these bytes, each when it is read.
 abbrev pub IsAnswer : List (String Global) → Files → Status → List ℕ → Type 0
 IsAnswer words files status.Usage text = AskForNothing words × (text ≡ usage_text)
-IsAnswer words files st text = (asked : Asked) × AskFor words asked × AnswerTo files asked st text
+IsAnswer words files st text = (job : Job) × AskFor words job × AnswerTo files job st text
 
 -- ---- what the call did
 
@@ -106,9 +105,9 @@ abbrev pub HasCause : List (String Global) → Seen → Status → List ℕ → 
 HasCause words s status.Usage text =
     (s.faults' ≡ s.faults) × AskForNothing words × (text ≡ usage_text)
 HasCause words s status.ReadFault text = Rose s.faults s.faults'
-    × (text ≡ line (codes "read fault")) × ((asked : Asked) × AskFor words asked × HasFile asked)
-HasCause words s st text = (s.faults' ≡ s.faults) × ((asked : Asked) × AskFor words asked
-    × AnswerOf (λ name. IsAllOf (s.contents 0 name)) (Gave s) asked st text)
+    × (text ≡ line (codes "read fault")) × ((job : Job) × AskFor words job × HasFile job)
+HasCause words s st text = (s.faults' ≡ s.faults) × ((job : Job) × AskFor words job
+    × AnswerOf (λ name. IsAllOf (s.contents 0 name)) (Gave s) job st text)
 
 -- The text of a status is appended whole and the status is told, or the sink failed and took a prefix of it.
 abbrev pub Told : Status → List ℕ → Status → (faults faults' : ℕ) → Option (List ℕ) → Option (List ℕ) → Type 0

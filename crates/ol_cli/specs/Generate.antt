@@ -3,8 +3,8 @@ use Rattle.std.specs.Prelude.{Bool, List, None, Option, codes, false, true, ℕ,
 use Rattle.ol_term.specs.Generated.{doubled_text}
 use Rattle.ol_term.specs.declared.translations.Translation.{Translation}
 use Rattle.ol_wire.specs.Closed.{ClosedTable}
-use Rattle.ol_words.specs.declared.jobs.Job.{Job as Asked}
-use Rattle.ol_words.specs.declared.jobs.Job.TheVariants.{Run as run}
+use Rattle.ol_words.specs.declared.jobs.Job.{Job}
+use Rattle.ol_words.specs.declared.jobs.Job.TheVariants as jobs
 use Rattle.ol_limits.specs.Limits.{plain_fuel, plain_heads, plain_workers}
 use Rattle.ol_cli.specs.Run.{RunAnswer}
 use Rattle.ol_cli.specs.TermFiles.{FileHands, TermFileAnswer}
@@ -12,8 +12,8 @@ use Rattle.ol_cli.specs.declared.status.Status.{Status}
 use Rattle.ol_cli.specs.declared.status.Status.TheVariants as status
 
 -- `run` without options but the translation
-abbrev pub plain_run : Translation → Asked
-plain_run translation = run translation plain_workers plain_fuel plain_heads (codes "-")
+abbrev pub plain_run : Translation → Job
+plain_run translation = jobs.Run translation plain_workers plain_fuel plain_heads (codes "-")
 
 -- What `gen` answers: the text that it makes, or the answer of `run` to that.
 abbrev pub Makes : Translation → (runs : Bool) → (k : ℕ) → Status → List ℕ → Type 0

@@ -3,8 +3,7 @@ use Rattle.std.specs.Prelude.{List, None, Option, String, false, ℕ, ◌≡◌}
 use Rattle.std.specs.declared.alloc.Global.{Global}
 use Rattle.ol_io.specs.Outside.{Appended}
 use Rattle.ol_wire.specs.Closed.{ClosedTable}
-use Rattle.ol_words.specs.declared.jobs.Job.{Job as Asked}
-use Rattle.ol_words.specs.declared.jobs.Job.TheVariants.{Check as check, Gen as gen}
+use Rattle.ol_words.specs.declared.jobs.Job.{Job}
 use Rattle.ol_cli.specs.Answers.{Gave, Seen}
 use Rattle.ol_limits.specs.Limits.{most_term_bytes}
 use Rattle.ol_cli.specs.Generate.{MakingHands}
@@ -15,17 +14,17 @@ use Rattle.ol_words.specs.declared.jobs.Job.TheVariants as jobs
 use Rattle.ol_cli.specs.declared.status.Status.TheVariants as status
 
 -- these are the file's bytes, no more than are read and all of which the source gave
-abbrev pub ReadHands : Asked → Seen → Status → List ℕ → Option ClosedTable → Type 0
-ReadHands asked s st text closed = (bytes : List ℕ)
-    × Gave s 0 (file_name asked) most_term_bytes bytes × FileHands asked bytes st text closed
+abbrev pub ReadHands : Job → Seen → Status → List ℕ → Option ClosedTable → Type 0
+ReadHands job s st text closed = (bytes : List ℕ)
+    × Gave s 0 (file_name job) most_term_bytes bytes × FileHands job bytes st text closed
 
 -- what a job hands back; `check` has no workers, and `net` and `equal` keep the words of theirs
-abbrev pub JobHands : Asked → Seen → Status → List ℕ → Option ClosedTable → Type 0
-JobHands (check translation term journal) s st text closed = closed ≡ None
-JobHands (gen translation runs k) s st text closed = MakingHands translation runs k st text closed
+abbrev pub JobHands : Job → Seen → Status → List ℕ → Option ClosedTable → Type 0
+JobHands (jobs.Check translation term journal) s st text closed = closed ≡ None
+JobHands (jobs.Gen translation runs k) s st text closed = MakingHands translation runs k st text closed
 JobHands (jobs.Net translation false workers fuel name) s st text closed = closed ≡ None
 JobHands (jobs.Equal translation workers fuel heads first second) s st text closed = closed ≡ None
-JobHands asked s st text closed = ReadHands asked s st text closed
+JobHands job s st text closed = ReadHands job s st text closed
 
 -- where the job was done or its fuel was spent, this; in every other case nothing is handed back
 abbrev pub WhereEnded : Status → Option ClosedTable → Type 0 → Type 0
@@ -35,7 +34,7 @@ WhereEnded _ closed P = closed ≡ None
 
 -- the job is the one that the words ask for
 abbrev pub WordsHand : List (String Global) → Seen → Status → List ℕ → Option ClosedTable → Type 0
-WordsHand words s st text closed = (asked : Asked) × AskFor words asked × JobHands asked s st text closed
+WordsHand words s st text closed = (job : Job) × AskFor words job × JobHands job s st text closed
 
 -- What the call hands back, and that this is told by the text that was appended.
 abbrev pub Hands : List (String Global) → Seen → Status → Option ClosedTable → Option (List ℕ) →

@@ -13,8 +13,7 @@ use Rattle.ol_translate.specs.Translation.{translation_of}
 use Rattle.ol_cli.specs.declared.status.Status.{Status}
 use Rattle.ol_cli.specs.declared.status.Status.TheVariants as status
 use Rattle.ol_words.specs.Texts.{texts_of}
-use Rattle.ol_words.specs.declared.jobs.Job.{Job as Asked}
-use Rattle.ol_words.specs.declared.jobs.Job.TheVariants.{Trace as trace}
+use Rattle.ol_words.specs.declared.jobs.Job.{Job}
 use Rattle.ol_words.specs.declared.jobs.Job.TheVariants as jobs
 use Rattle.ol_words.specs.Jobs.{job_of}
 use Rattle.ol_cli.specs.Jobs.{AskFor, AskForNothing, Files}
@@ -34,22 +33,22 @@ HaveOneCounts text text' = (counts : Counts) × (stuck : ℕ) × (rest : List �
 -- what `trace` writes of a run is the journal of any of many; and what `net` writes of a net that
 -- was rewritten begins with the same nine lines, while the stuck pairs and the net that follow them
 -- are those of any of many runs.
-abbrev pub HaveOneText : Asked → Status → List ℕ → List ℕ → Type 0
-HaveOneText (trace translation workers fuel name) status.Done text text' = Unit {0}
-HaveOneText (trace translation workers fuel name) status.Spent text text' = Unit {0}
+abbrev pub HaveOneText : Job → Status → List ℕ → List ℕ → Type 0
+HaveOneText (jobs.Trace translation workers fuel name) status.Done text text' = Unit {0}
+HaveOneText (jobs.Trace translation workers fuel name) status.Spent text text' = Unit {0}
 HaveOneText (jobs.Net translation false workers fuel name) status.Done text text' = HaveOneCounts text text'
 HaveOneText _ _ text text' = text ≡ text'
 
 -- the job with so many workers, where it has any
-abbrev pub with_workers : ℕ → Asked → Asked
+abbrev pub with_workers : ℕ → Job → Job
 with_workers n (jobs.Run translation workers fuel heads name) = jobs.Run translation n fuel heads name
-with_workers n (trace translation workers fuel name) = trace translation n fuel name
+with_workers n (jobs.Trace translation workers fuel name) = jobs.Trace translation n fuel name
 with_workers n (jobs.Certify translation steps workers fuel heads name) =
     jobs.Certify translation steps n fuel heads name
 with_workers n (jobs.Net translation from_term workers fuel name) = jobs.Net translation from_term n fuel name
 with_workers n (jobs.Equal translation workers fuel heads first second) =
     jobs.Equal translation n fuel heads first second
-with_workers n asked = asked
+with_workers n job = job
 
 -- The words ask for one job, but for the number of its workers, or both for nothing.
 abbrev pub AskAlike : (words words' : List (String Global)) → Type 0
@@ -63,12 +62,12 @@ OneAnswer = (words words' : List (String Global)) → AskAlike words words' →
     (files : Files) (status status' : Status) (text text' : List ℕ) →
     IsAnswer words files status text → IsAnswer words' files status' text' →
     (status ≡ status') × (AskForNothing words → text ≡ text')
-    × ((asked : Asked) → AskFor words asked → HaveOneText asked status text text')
+    × ((job : Job) → AskFor words job → HaveOneText job status text text')
 
 -- The number of workers isn't seen: an answer to a job is one with any other number of workers.
 abbrev pub WorkersAreNotSeen : Type 0
-WorkersAreNotSeen = (n : ℕ) (asked : Asked) (files : Files) (status : Status) (text : List ℕ) →
-    AnswerTo files asked status text → AnswerTo files (with_workers n asked) status text
+WorkersAreNotSeen = (n : ℕ) (job : Job) (files : Files) (status : Status) (text : List ℕ) →
+    AnswerTo files job status text → AnswerTo files (with_workers n job) status text
 
 -- However the answer to a term is come by, one tree is printed, one term and one number of stuck pairs.
 abbrev pub OneTreeIsPrinted : Type 0

@@ -1,6 +1,6 @@
 -- What the first line that is written says of the normal form of a job's term, and what the lines of
 -- counts say.
-use Rattle.std.specs.Prelude.{◌≡◌, ◌≤◌, ◌⊎◌, ℕ, ◌+◌, true, false, List, [], ◌∷◌, ◌++◌, length, Option, Some}
+use Rattle.std.specs.Prelude.{◌≡◌, ◌≤◌, ◌⊎◌, ℕ, ◌+◌, true, false, List, [], ◌∷◌, ◌++◌, Option, Some}
 use Rattle.std.specs.Prelude.{String, codes}
 use Rattle.std.specs.declared.alloc.Global.{Global}
 use Rattle.ol_io.specs.Outside.{Appended}
@@ -18,18 +18,17 @@ use Rattle.ol_law_lines.specs.NormalForms.{by_names_of, IsNormalFormOf, HasNoNor
 use Rattle.ol_law_lines.specs.NormalForms.{AreConvertible}
 use Rattle.ol_words.specs.Texts.{Text, texts_of}
 use Rattle.ol_words.specs.Lines.{is_dashed}
-use Rattle.ol_words.specs.declared.jobs.Job.{Job as Asked}
-use Rattle.ol_words.specs.declared.jobs.Job.TheVariants.{Run as run, Walk as walk, Gen as gen}
-use Rattle.ol_words.specs.declared.jobs.Job.TheVariants.{Demand as demand, Equal as equal}
+use Rattle.ol_words.specs.declared.jobs.Job.{Job}
+use Rattle.ol_words.specs.declared.jobs.Job.TheVariants as jobs
 use Rattle.ol_cli.specs.Jobs.{AskFor, Files}
 use Rattle.ol_cli.specs.Texts.{answer_text}
 
 -- these jobs write a term, and it stands on the first line
-abbrev pub PrintsTerm : Asked → Type 0
-PrintsTerm (run translation workers fuel heads name) = Unit {0}
-PrintsTerm (walk translation edges heads name) = Unit {0}
-PrintsTerm (gen translation true k) = Unit {0}
-PrintsTerm (demand translation fuel heads name) = Unit {0}
+abbrev pub PrintsTerm : Job → Type 0
+PrintsTerm (jobs.Run translation workers fuel heads name) = Unit {0}
+PrintsTerm (jobs.Walk translation edges heads name) = Unit {0}
+PrintsTerm (jobs.Gen translation true k) = Unit {0}
+PrintsTerm (jobs.Demand translation fuel heads name) = Unit {0}
 PrintsTerm _ = ⊥
 
 -- What was appended, where the sink tells it, begins with a line, of which this is said: bytes
@@ -42,19 +41,19 @@ pub record FirstLine (Says : List ℕ → Type 0) (old new : Option (List ℕ)) 
   pub says : Says line
 
 -- The job writes a term, its own term is the source, and this is said of the source and the line.
-abbrev pub LineSays : (Asked → Named → List ℕ → Type 0) → List (String Global) → List ℕ →
+abbrev pub LineSays : (Job → Named → List ℕ → Type 0) → List (String Global) → List ℕ →
     Option (List ℕ) → Option (List ℕ) → Type 0
-LineSays Says words bytes old new = (asked : Asked) → AskFor words asked → PrintsTerm asked →
-    (source : Named) → IsText bytes source → FirstLine (Says asked source) old new
+LineSays Says words bytes old new = (job : Job) → AskFor words job → PrintsTerm job →
+    (source : Named) → IsText bytes source → FirstLine (Says job source) old new
 
 -- if the line is a text of a term, this term is the normal form of the source
-abbrev pub IsItsNormalForm : Asked → Named → List ℕ → Type 0
-IsItsNormalForm asked source line = (result : Named) → IsText line result → IsNormalFormOf source result
+abbrev pub IsItsNormalForm : Job → Named → List ℕ → Type 0
+IsItsNormalForm job source line = (result : Named) → IsText line result → IsNormalFormOf source result
 
 -- if a question mark stands in the line, the source has no normal form; of `walk` this isn't said
-abbrev pub TellsOfNone : Asked → Named → List ℕ → Type 0
-TellsOfNone (walk translation edges heads name) source line = Unit {0}
-TellsOfNone asked source line = (before after : List ℕ) → line ≡ before ++ 63 ∷ after → HasNoNormalForm source
+abbrev pub TellsOfNone : Job → Named → List ℕ → Type 0
+TellsOfNone (jobs.Walk translation edges heads name) source line = Unit {0}
+TellsOfNone job source line = (before after : List ℕ) → line ≡ before ++ 63 ∷ after → HasNoNormalForm source
 
 -- in how many places a term has a variable, bound or free
 abbrev pub count_of_variables : Tree → ℕ
@@ -70,9 +69,9 @@ IsFoundWithin heads source line = (v : Tree) → BetaReduces (by_names_of source
     count_of_variables v ≤ heads → (result : Named) × IsText line result × IsNormalFormOf source result
 
 -- it is found where these places are no more than heads were demanded
-abbrev pub IsFoundOnDemand : Asked → Named → List ℕ → Type 0
-IsFoundOnDemand (demand translation fuel heads name) source line = IsFoundWithin heads source line
-IsFoundOnDemand asked source line = Unit {0}
+abbrev pub IsFoundOnDemand : Job → Named → List ℕ → Type 0
+IsFoundOnDemand (jobs.Demand translation fuel heads name) source line = IsFoundWithin heads source line
+IsFoundOnDemand job source line = Unit {0}
 
 -- `equal` says that the two terms are convertible, and `different` that they aren't.
 abbrev pub SaysOfTwo : Named → Named → List ℕ → Type 0
@@ -82,17 +81,17 @@ SaysOfTwo t u line = (line ≡ codes "equal" → AreConvertible t u)
 -- the line of `equal` says this of the terms of its two files
 abbrev pub LineSaysOfTwo : List (String Global) → Files → Option (List ℕ) → Option (List ℕ) → Type 0
 LineSaysOfTwo words files old new = (translation : Translation) (workers fuel heads : ℕ) (a b : Text) →
-    AskFor words (equal translation workers fuel heads a b) →
+    AskFor words (jobs.Equal translation workers fuel heads a b) →
     (bytes bytes' : List ℕ) → files 0 a ≡ Some bytes → files 1 b ≡ Some bytes' →
     (t u : Named) → IsText bytes t → IsText bytes' u → FirstLine (SaysOfTwo t u) old new
 
 -- ---- the lines of counts
 
 -- the job writes a term and the counts of its run
-abbrev pub PrintsCounts : Asked → Type 0
-PrintsCounts (run translation workers fuel heads name) = Unit {0}
-PrintsCounts (gen translation true k) = Unit {0}
-PrintsCounts (demand translation fuel heads name) = Unit {0}
+abbrev pub PrintsCounts : Job → Type 0
+PrintsCounts (jobs.Run translation workers fuel heads name) = Unit {0}
+PrintsCounts (jobs.Gen translation true k) = Unit {0}
+PrintsCounts (jobs.Demand translation fuel heads name) = Unit {0}
 PrintsCounts _ = ⊥
 
 -- What was appended, where the sink tells it, is a line and the nine lines of counts: no pair is
@@ -106,7 +105,7 @@ pub record CountsSay (Says : List ℕ → ℕ → Type 0) (old new : Option (Lis
 
 -- a job that writes counts writes `stuck 0` on their last line
 abbrev pub NoneIsStuck : List (String Global) → List ℕ → Option (List ℕ) → Option (List ℕ) → Type 0
-NoneIsStuck words bytes old new = (asked : Asked) → AskFor words asked → PrintsCounts asked →
+NoneIsStuck words bytes old new = (job : Job) → AskFor words job → PrintsCounts job →
     (source : Named) → IsText bytes source → CountsSay (λ line beta. Unit {0}) old new
 
 -- Let each subterm of the source have a letter of its own as its label. No reduction of the labelled
@@ -121,7 +120,7 @@ AreFewest source line beta = (T : Labelled) → erased T ≡ by_names_of source 
 abbrev pub BetasAreFewest : List (String Global) → List ℕ → Option (List ℕ) → Option (List ℕ) →
     Type 0
 BetasAreFewest words bytes old new = (translation : Translation) (fuel heads : ℕ) (name : Text) →
-    AskFor words (demand translation fuel heads name) →
+    AskFor words (jobs.Demand translation fuel heads name) →
     (source : Named) → IsText bytes source → CountsSay (AreFewest source) old new
 
 -- ---- words without options

@@ -11,8 +11,8 @@ use Rattle.ol_equal.specs.Comparing.{TreeWithNames, place_at, IsFirstApart, IsCo
 use Rattle.ol_equal.specs.Texts.{compared_text}
 use Rattle.ol_law_confluence.specs.Reductions.{Convertible}
 use Rattle.ol_law_confluence.specs.Compared.{by_bytes, TellsTerms, IsHeadBesideLost}
-use Rattle.ol_words.specs.declared.jobs.Job.{Job as Asked}
-use Rattle.ol_words.specs.declared.jobs.Job.TheVariants.{Certify as certify, Equal as equal}
+use Rattle.ol_words.specs.declared.jobs.Job.{Job}
+use Rattle.ol_words.specs.declared.jobs.Job.TheVariants as jobs
 use Rattle.ol_cli.specs.Texts.{line}
 use Rattle.ol_cli.specs.Jobs.{AskFor, Files}
 use Rattle.ol_cli.specs.Certify.{Certifies}
@@ -36,12 +36,12 @@ pub record TellsOfTwo (translation : Translation) (fuel heads : ℕ) (bytes byte
 
 -- What was written tells of the terms of the files: the line of `equal` of its two; and `certify`
 -- writes the verdict of leftmost reduction of its term on what `run` prints, never `differs`.
-abbrev pub TellsSources : Asked → Files → Option (List ℕ) → Option (List ℕ) → Type 0
-TellsSources (equal translation workers fuel heads a b) files old new =
+abbrev pub TellsSources : Job → Files → Option (List ℕ) → Option (List ℕ) → Type 0
+TellsSources (jobs.Equal translation workers fuel heads a b) files old new =
     (bytes bytes' : List ℕ) → files 0 a ≡ Some bytes → files 1 b ≡ Some bytes' →
     (t u : Tree) (names others : List (List ℕ)) → IsFileOf bytes t names → IsFileOf bytes' u others →
     TellsOfTwo translation fuel heads bytes bytes' (record { a = names; b = others }) t u old new
-TellsSources (certify translation steps workers fuel heads name) files old new =
+TellsSources (jobs.Certify translation steps workers fuel heads name) files old new =
     (bytes : List ℕ) → files 0 name ≡ Some bytes → (t : Tree) (names : List (List ℕ)) →
     IsFileOf bytes t names → (text : List ℕ) × (c : Certifies translation t names steps fuel heads text)
     × ((road : List (List ℕ)) → c.verdict ≡ Differs road → ⊥) × Appended old text new
@@ -49,7 +49,7 @@ TellsSources _ files old new = Unit {0}
 
 -- the same of the words
 abbrev pub WritesOfSources : List (String Global) → Files → Option (List ℕ) → Option (List ℕ) → Type 0
-WritesOfSources words files old new = (asked : Asked) → AskFor words asked → TellsSources asked files old new
+WritesOfSources words files old new = (job : Job) → AskFor words job → TellsSources job files old new
 
 -- ---- laws
 

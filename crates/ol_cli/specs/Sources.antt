@@ -20,9 +20,8 @@ use Rattle.ol_law_completeness.specs.Least.{CanBeRead, CompleteRunsAreEnough}
 use Rattle.ol_law_completeness.specs.TheLeast.{IsTheLeast}
 use Rattle.ol_law_meaning.specs.Meaning.{SaysOf}
 use Rattle.ol_law_confluence.specs.Printed.{SaysAlways}
-use Rattle.ol_words.specs.declared.jobs.Job.{Job as Asked}
-use Rattle.ol_words.specs.declared.jobs.Job.TheVariants.{Run as run, Walk as walk, Gen as gen}
-use Rattle.ol_words.specs.declared.jobs.Job.TheVariants.{Demand as demand}
+use Rattle.ol_words.specs.declared.jobs.Job.{Job}
+use Rattle.ol_words.specs.declared.jobs.Job.TheVariants as jobs
 use Rattle.ol_cli.specs.declared.status.Status.{Status}
 use Rattle.ol_cli.specs.declared.status.Status.TheVariants as status
 use Rattle.ol_cli.specs.Jobs.{AskFor, translation_in}
@@ -79,26 +78,26 @@ pub record DemandsTree (translation : Translation) (t : Tree) (names : List (Lis
 
 -- What a job prints of a term, with the facts of its tree, if it prints one. `gen --run` does with
 -- the term that it makes what `run` does without options.
-abbrev pub TellsTree : Asked → Tree → List (List ℕ) → List ℕ → Type 0
-TellsTree (run translation workers fuel heads name) t names text = PrintsTree translation t names fuel heads text
-TellsTree (walk translation edges heads name) t names text = WalksTree translation t names edges heads text
-TellsTree (gen translation true k) t names text = PrintsTree translation t names plain_fuel plain_heads text
-TellsTree (demand translation fuel heads name) t names text = DemandsTree translation t names fuel heads text
+abbrev pub TellsTree : Job → Tree → List (List ℕ) → List ℕ → Type 0
+TellsTree (jobs.Run translation workers fuel heads name) t names text = PrintsTree translation t names fuel heads text
+TellsTree (jobs.Walk translation edges heads name) t names text = WalksTree translation t names edges heads text
+TellsTree (jobs.Gen translation true k) t names text = PrintsTree translation t names plain_fuel plain_heads text
+TellsTree (jobs.Demand translation fuel heads name) t names text = DemandsTree translation t names fuel heads text
 TellsTree _ t names text = Unit {0}
 
 -- The text was written for the job's own term, and these are the facts of its tree.
 abbrev pub WritesTree : List (String Global) → List ℕ → Option (List ℕ) → Option (List ℕ) → Type 0
-WritesTree words bytes old new = (asked : Asked) (t : Tree) (names : List (List ℕ)) →
-    AskFor words asked → IsFileOf bytes t names →
-    (text : List ℕ) × TellsTree asked t names text × Appended old text new
+WritesTree words bytes old new = (job : Job) (t : Tree) (names : List (List ℕ)) →
+    AskFor words job → IsFileOf bytes t names →
+    (text : List ℕ) × TellsTree job t names text × Appended old text new
 
 -- ---- the inversions of the term
 
 -- What is told where the fuel of `demand` is spent: it is less than the number of inversions that the
 -- term's own net tells, before any step, of its first places, if they are no fewer than were asked
 -- for, or all.
-abbrev pub FuelTells : Asked → Tree → List (List ℕ) → Status → Type 0
-FuelTells (demand translation fuel heads name) t names status.Spent =
+abbrev pub FuelTells : Job → Tree → List (List ℕ) → Status → Type 0
+FuelTells (jobs.Demand translation fuel heads name) t names status.Spent =
     (most m : ℕ) (ns : List ReadNode) →
     HaveInversions (translation_of translation t (length names)) most ns m →
     (heads ≤ most) ⊎ (length ns < most) → fuel < m
@@ -118,31 +117,31 @@ RunTells names fuel heads journal net _ old new = Unit {0}
 -- The same of a job: where the demand run of `demand` is longer than the fuel, so is each complete
 -- run, and each that leads to a net from which the asked places can be read by walks that meet no
 -- active pair. The others rewrite nothing, or write no term.
-abbrev pub JobTells : Asked → List (List ℕ) → List Entry → NamedNet NodeName → Status →
+abbrev pub JobTells : Job → List (List ℕ) → List Entry → NamedNet NodeName → Status →
     Option (List ℕ) → Option (List ℕ) → Type 0
-JobTells (run translation workers fuel heads name) names journal net st old new = RunTells names
+JobTells (jobs.Run translation workers fuel heads name) names journal net st old new = RunTells names
     fuel heads journal net st old new
-JobTells (gen translation true k) names journal net st old new = RunTells names plain_fuel
+JobTells (jobs.Gen translation true k) names journal net st old new = RunTells names plain_fuel
     plain_heads journal net st old new
-JobTells (demand translation fuel heads name) names journal net status.Spent old new =
+JobTells (jobs.Demand translation fuel heads name) names journal net status.Spent old new =
     fuel < length journal
 JobTells _ names journal net st old new = Unit {0}
 
 -- A run may end with a complete net, and for `demand` also with one from which the asked places can
 -- be read by walks that meet no active pair.
-abbrev pub IsLast : Asked → NamedNet NodeName → Type 0
-IsLast (demand translation fuel heads name) net = IsComplete net ⊎ CanBeRead net heads
+abbrev pub IsLast : Job → NamedNet NodeName → Type 0
+IsLast (jobs.Demand translation fuel heads name) net = IsComplete net ⊎ CanBeRead net heads
 IsLast _ net = IsComplete net
 
 -- The inversions of the job's own term tell this of the status; and so does each such run from the
 -- net of this term, whatever pairs it takes first.
-abbrev pub TermTells : Asked → Tree → List (List ℕ) → Status → Option (List ℕ) → Option (List ℕ) → Type 0
-TermTells asked t names st old new = FuelTells asked t names st
+abbrev pub TermTells : Job → Tree → List (List ℕ) → Status → Option (List ℕ) → Option (List ℕ) → Type 0
+TermTells job t names st old new = FuelTells job t names st
     × ((journal : List Entry) (net : NamedNet NodeName) →
-    IsRun (start_net_of_term (translation_in asked) t names) 0 journal net → IsLast asked net →
-    JobTells asked names journal net st old new)
+    IsRun (start_net_of_term (translation_in job) t names) 0 journal net → IsLast job net →
+    JobTells job names journal net st old new)
 
 -- so it is with the job that the words ask for and the term of its file
 abbrev pub EveryRunTells : List (String Global) → List ℕ → Status → Option (List ℕ) → Option (List ℕ) → Type 0
-EveryRunTells words bytes st old new = (asked : Asked) (t : Tree) (names : List (List ℕ)) →
-    AskFor words asked → IsFileOf bytes t names → TermTells asked t names st old new
+EveryRunTells words bytes st old new = (job : Job) (t : Tree) (names : List (List ℕ)) →
+    AskFor words job → IsFileOf bytes t names → TermTells job t names st old new

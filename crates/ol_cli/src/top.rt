@@ -2,10 +2,10 @@
 ghost use Rattle.std.specs.Prelude.{List, ◌++◌, ℕ, ◌≢◌, ◌≤◌, ◌+◌, ◌≡◌, ◌<◌, ◌⊎◌, true, IfOk};
 ghost use Rattle.ol_io.specs.Outside.{Rose, Appended};
 ghost use Rattle.ol_io.specs.Readings.{Reading, handed};
-ghost use Rattle.ol_words.specs.declared.jobs.Job.{Job as Asked};
+ghost use Rattle.ol_words.specs.declared.jobs.Job.{Job};
 ghost use Rattle.ol_cli.specs.Jobs.{AskFor, AskForNothing, EachName, IsKnownTo};
-ghost use Rattle.ol_cli.specs.Jobs.{count_of_files, files_of};
-ghost use Rattle.ol_cli.specs.Inside.{ComesOf, ComesOfWords, IsWithinLimits, Writes};
+ghost use Rattle.ol_cli.specs.Jobs.{IsWithinLimits, count_of_files, files_of};
+ghost use Rattle.ol_cli.specs.Inside.{ComesOf, ComesOfWords, Writes};
 ghost use Rattle.ol_cli.specs.Answers.{Ends, HasCause, IsAnswer, RefusesFirst};
 ghost use Rattle.ol_cli.specs.Called.{ReadsAtMost, OfFilesRead, IfNoneFailed, WhereNoneFailed, seen_of};
 ghost use Rattle.ol_cli.specs.Says.{SaysWhenDone, SaysOfAnswer};
@@ -215,8 +215,8 @@ pub fn ol<R: Threads + Wait + Sync, S: Source, W: Sink, G: Gate + Sync>(
     // begun. Nor is one if its end wasn't seen, as after a read fault: it may then go on beyond the
     // limit, and such a file is refused.
     ensures first_alone { OfFilesRead S.Source src.old src.new (λ files.
-        (asked : Asked) → AskFor words.now.items asked
-        → RefusesFirst (files 0) asked → S.begins src.new ≤ S.begins src.old + 1) }
+        (job : Job) → AskFor words.now.items job
+        → RefusesFirst (files 0) job → S.begins src.new ≤ S.begins src.old + 1) }
 {
     let made = answer_words(rt, alloc, words, src, gate);
     write(out, made)
@@ -264,8 +264,8 @@ fn answer_words<R: Threads + Wait + Sync, S: Source, G: Gate + Sync>(
         IfOk result (ComesOfWords words.now.items
         (seen_of S.Source files src.old src.new))) }
     ensures first_alone { OfFilesRead S.Source src.old src.new (λ files.
-        (asked : Asked) → AskFor words.now.items asked
-        → RefusesFirst (files 0) asked → S.begins src.new ≤ S.begins src.old + 1) }
+        (job : Job) → AskFor words.now.items job
+        → RefusesFirst (files 0) job → S.begins src.new ≤ S.begins src.old + 1) }
     ensures source { ReadsAtMost S.Source (files_of words.now.items) src.old src.new }
 {
     match job(alloc, words) {

@@ -1,7 +1,7 @@
 //! The command `check`: the text of a journal against a term.
 ghost use Rattle.std.specs.Prelude.{◌≡◌, ◌≤◌, ◌+◌, true, IfOk, None};
 ghost use Rattle.ol_wire.specs.Sizes.{IsSmallNet};
-ghost use Rattle.ol_words.specs.declared.jobs.Job.TheVariants.{Check as check};
+ghost use Rattle.ol_words.specs.declared.jobs.Job.TheVariants as jobs;
 ghost use Rattle.ol_cli.specs.Called.{ReadsAtMost, OfFilesRead, seen_of};
 ghost use Rattle.ol_cli.specs.Answers.{RefusesFirst};
 ghost use Rattle.ol_cli.specs.Cases.{CauseOf};
@@ -35,10 +35,10 @@ pub fn answer_check<S: Source>(
     requires term { S.knows src.old term.now ≡ true }
     requires journal { S.knows src.old journal.now ≡ true }
     ensures comes { OfFilesRead S.Source src.old src.new (λ files.
-        IfOk result (ComesOf (check translation term.now journal.now)
+        IfOk result (ComesOf (jobs.Check translation term.now journal.now)
         (seen_of S.Source files src.old src.new))) }
     ensures first_alone { OfFilesRead S.Source src.old src.new (λ files.
-        RefusesFirst (files 0) (check translation term.now journal.now)
+        RefusesFirst (files 0) (jobs.Check translation term.now journal.now)
         → S.begins src.new ≤ S.begins src.old + 1) }
     ensures source { ReadsAtMost S.Source 2 src.old src.new }
 {

@@ -2,7 +2,7 @@
 //! rewritten.
 ghost use Rattle.std.specs.Prelude.{◌≡◌, true, IfOk, None};
 ghost use Rattle.ol_term.specs.Trees.{tree_of};
-ghost use Rattle.ol_words.specs.declared.jobs.Job.TheVariants.{Demand as demand};
+ghost use Rattle.ol_words.specs.declared.jobs.Job.TheVariants as jobs;
 ghost use Rattle.ol_cli.specs.Called.{ReadsAtMost, OfFilesRead, seen_of};
 ghost use Rattle.ol_cli.specs.Inside.{AnswersTerm, ComesOf, IsReadByNames, demand_by};
 ghost use Rattle.ol_cli.specs.Ready.{IsNetOf};
@@ -33,7 +33,7 @@ pub fn answer_demand<S: Source>(
 ) -> Result<Answer, NoMemory>
     requires known { S.knows src.old name.now ≡ true }
     ensures comes { OfFilesRead S.Source src.old src.new (λ files.
-        IfOk result (ComesOf (demand translation fuel.most heads.most name.now)
+        IfOk result (ComesOf (jobs.Demand translation fuel.most heads.most name.now)
         (seen_of S.Source files src.old src.new))) }
     ensures source { ReadsAtMost S.Source 1 src.old src.new }
 {

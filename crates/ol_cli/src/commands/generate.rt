@@ -1,6 +1,6 @@
 //! The command `gen`: a term that is made, printed or evaluated.
 ghost use Rattle.std.specs.Prelude.{◌≡◌, ◌≤◌, length, IfOk};
-ghost use Rattle.ol_words.specs.declared.jobs.Job.TheVariants.{Gen as gen};
+ghost use Rattle.ol_words.specs.declared.jobs.Job.TheVariants as jobs;
 ghost use Rattle.ol_cli.specs.Cases.{FileAnswer};
 ghost use Rattle.ol_cli.specs.Answers.{Seen};
 ghost use Rattle.ol_cli.specs.Generate.{plain_run};
@@ -34,7 +34,7 @@ pub fn answer_gen<R: Threads + Wait + Sync, G: Gate + Sync>(
 ) -> Result<Answer, NoMemory>
     requires few { k ≤ 10 }
     ensures comes { IfOk result (λ a. (s : Seen) → s.faults' ≡ s.faults
-        → ComesOf (gen translation run k) s a) }
+        → ComesOf (jobs.Gen translation run k) s a) }
 {
     // With so small a k nothing but memory can be wanting.
     let Ok(text) = make(alloc, k) else {

@@ -1,7 +1,7 @@
 //! The command `trace`: a term's net is rewritten by workers, and their journal is told.
 ghost use Rattle.std.specs.Prelude.{◌≡◌, ◌+◌, true, length, count_by, is_some, IfOk};
 ghost use Rattle.ol_wire.specs.Sizes.{IsSmallNet};
-ghost use Rattle.ol_words.specs.declared.jobs.Job.TheVariants.{Trace as trace};
+ghost use Rattle.ol_words.specs.declared.jobs.Job.TheVariants as jobs;
 ghost use Rattle.ol_cli.specs.Called.{ReadsAtMost, OfFilesRead, seen_of};
 ghost use Rattle.ol_cli.specs.Trace.{Traces};
 ghost use Rattle.ol_cli.specs.Trace.{TraceHands};
@@ -36,7 +36,7 @@ pub fn answer_trace<R: Threads + Wait + Sync, S: Source, G: Gate + Sync>(
 ) -> Result<Answer, NoMemory>
     requires known { S.knows src.old name.now ≡ true }
     ensures comes { OfFilesRead S.Source src.old src.new (λ files.
-        IfOk result (ComesOf (trace translation workers.count fuel.most name.now)
+        IfOk result (ComesOf (jobs.Trace translation workers.count fuel.most name.now)
         (seen_of S.Source files src.old src.new))) }
     ensures source { ReadsAtMost S.Source 1 src.old src.new }
 {

@@ -1,7 +1,7 @@
 //! The command `view`: a term's net is rewritten by some leads, and shown.
 ghost use Rattle.std.specs.Prelude.{◌≡◌, true, IfOk};
 ghost use Rattle.ol_wire.specs.Sizes.{IsSmallNet};
-ghost use Rattle.ol_words.specs.declared.jobs.Job.TheVariants.{View as view};
+ghost use Rattle.ol_words.specs.declared.jobs.Job.TheVariants as jobs;
 ghost use Rattle.ol_cli.specs.Called.{ReadsAtMost, OfFilesRead, seen_of};
 ghost use Rattle.ol_cli.specs.View.{Views};
 ghost use Rattle.ol_cli.specs.Inside.{ComesOf};
@@ -29,7 +29,7 @@ pub fn answer_view<S: Source>(
 ) -> Result<Answer, NoMemory>
     requires known { S.knows src.old name.now ≡ true }
     ensures comes { OfFilesRead S.Source src.old src.new (λ files.
-        IfOk result (ComesOf (view translation leads.most name.now)
+        IfOk result (ComesOf (jobs.View translation leads.most name.now)
         (seen_of S.Source files src.old src.new))) }
     ensures source { ReadsAtMost S.Source 1 src.old src.new }
 {

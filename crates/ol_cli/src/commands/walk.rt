@@ -4,7 +4,7 @@ ghost use Rattle.ol_term.specs.Trees.{tree_of};
 ghost use Rattle.ol_net.specs.Numbered.{net_of};
 ghost use Rattle.ol_net.specs.Nets.{SameNet};
 ghost use Rattle.ol_translate.specs.Translation.{translation_of};
-ghost use Rattle.ol_words.specs.declared.jobs.Job.TheVariants.{Walk as walk};
+ghost use Rattle.ol_words.specs.declared.jobs.Job.TheVariants as jobs;
 ghost use Rattle.ol_cli.specs.Called.{ReadsAtMost, OfFilesRead, seen_of};
 ghost use Rattle.ol_cli.specs.Inside.{AnswersTerm, ComesOf, IsReadByNames, walk_by};
 
@@ -32,7 +32,7 @@ pub fn answer_walk<S: Source>(
 ) -> Result<Answer, NoMemory>
     requires known { S.knows src.old name.now ≡ true }
     ensures comes { OfFilesRead S.Source src.old src.new (λ files.
-        IfOk result (ComesOf (walk translation edges heads.most name.now)
+        IfOk result (ComesOf (jobs.Walk translation edges heads.most name.now)
         (seen_of S.Source files src.old src.new))) }
     ensures source { ReadsAtMost S.Source 1 src.old src.new }
 {

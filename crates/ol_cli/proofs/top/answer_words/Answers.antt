@@ -15,6 +15,6 @@ returns-in-Ok-clause-comes g c = λ files of.
     (c.answer_job.ensures.comes files of)
 
 pub returns-in-Ok-clause-first_alone : goal.returns-in-Ok-clause-first_alone
-returns-in-Ok-clause-first_alone g c = λ files of asked j refused.
+returns-in-Ok-clause-first_alone g c = λ files of job j refused.
     c.answer_job.ensures.first_alone files of
-    (of_own_job c.args.words.now.items c.in-Ok.job asked (files 0) c.in-Ok.ensures.job j refused)
+    (of_own_job c.args.words.now.items c.in-Ok.job job (files 0) c.in-Ok.ensures.job j refused)

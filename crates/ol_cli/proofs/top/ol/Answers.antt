@@ -38,7 +38,7 @@ returns g c =
         λ quiet calm has.
             (says_of_answer words f f' given ended w w' old new made o c.write.ensures.told (handed told.0)
             (comes (handed told.0) (told.0, told.1, handed-over told.0)) quiet calm).exact
-            has (λ asked j place name e. handed-told told.0 place name),
+            has (λ job j place name e. handed-told told.0 place name),
       );
       ends = λ files of. ends_by words _ w w' old new o.status
           (call_ends words _ w w' old new made o c.write.ensures.told (comes files of));

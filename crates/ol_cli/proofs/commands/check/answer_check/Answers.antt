@@ -1,7 +1,7 @@
 -- The journal file is read after the term file, so what comes of both is what comes of the second after the first.
 use Rattle.std.proofs.Common.{◌+◌}
 use Rattle.ol_term.specs.Trees.{tree_of}
-use Rattle.ol_words.specs.declared.jobs.Job.TheVariants.{Check as check}
+use Rattle.ol_words.specs.declared.jobs.Job.TheVariants as jobs
 use Rattle.ol_cli.specs.Answers.{Seen}
 use Rattle.ol_cli.specs.Cases.{by_journal, seen}
 use Rattle.ol_cli.specs.Check.{JournalAnswer}
@@ -15,7 +15,7 @@ use Rattle.ol_cli.proofs.commands.check.answer_check.Goals as goal
 
 pub returns-in-Refused-clause-comes : goal.returns-in-Refused-clause-comes
 returns-in-Refused-clause-comes g c = λ files of.
-    refused_comes (check c.args.translation c.args.term.now c.args.journal.now) tt _
+    refused_comes (jobs.Check c.args.translation c.args.term.now c.args.journal.now) tt _
     c.in-Refused.answer (rw c.in-Refused.is at (c.in_ok-ready.ensures.comes files of))
 
 pub returns-clause-comes : goal.returns-clause-comes

@@ -3,8 +3,8 @@ use Rattle.std.specs.Prelude.{◌≡◌, []}
 use Rattle.ol_limits.specs.Limits.{plain_fuel, plain_heads, plain_workers}
 use Rattle.ol_term.specs.Trees.{tree_of}
 use Rattle.ol_term.specs.declared.translations.Translation.{Translation}
-use Rattle.ol_words.specs.declared.jobs.Job.{Job as Asked}
-use Rattle.ol_words.specs.declared.jobs.Job.TheVariants.{Run as run}
+use Rattle.ol_words.specs.declared.jobs.Job.{Job}
+use Rattle.ol_words.specs.declared.jobs.Job.TheVariants as jobs
 use Rattle.ol_cli.specs.declared.numbers.RunNumbers.{RunNumbers}
 use Rattle.ol_cli.specs.Inside.{AnswersTerm, run_by}
 use Rattle.ol_cli.specs.Generate.{plain_run}
@@ -16,7 +16,7 @@ use Rattle.ol_cli.proofs.commands.generate.run_made.Goals as goal
 -- the job of the numbers without options
 job_of : (n : RunNumbers) (tr : Translation) → n.translation ≡ tr → n.workers.count ≡ plain_workers →
     n.fuel.most ≡ plain_fuel → n.heads.most ≡ plain_heads →
-    ◌≡◌ {A = Asked} (run_by n) (run tr plain_workers plain_fuel plain_heads [])
+    ◌≡◌ {A = Job} (run_by n) (jobs.Run tr plain_workers plain_fuel plain_heads [])
 job_of n tr translation workers fuel heads = rw (translation, workers, fuel, heads) refl
 
 pub returns-in_ok-answer-in-Net-clause-answer : goal.returns-in_ok-answer-in-Net-clause-answer
@@ -26,7 +26,7 @@ returns-in_ok-answer-in-Net-clause-answer g c =
     let n = c.plain.ensures in
     term_answer (plain_run c.args.translation) c.args.bytes.now
     (tree_of c.in-Net.file.term) c.in-Net.file.names ready.term a.status a.text.items
-    (subst (λ asked. AnswersTerm asked c.in-Net.file a.status a.text.items)
+    (subst (λ job. AnswersTerm job c.in-Net.file a.status a.text.items)
     (job_of c.plain.result c.args.translation n.translation n.workers n.fuel n.heads)
     c.in_ok-answer-in-Net.ensures.answer)
 

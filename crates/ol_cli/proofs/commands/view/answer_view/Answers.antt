@@ -1,13 +1,13 @@
 use Rattle.std.proofs.Common.{None, refl}
 use Rattle.ol_cli.specs.declared.status.Status.TheVariants.{Done}
 use Rattle.ol_term.specs.Trees.{tree_of}
-use Rattle.ol_words.specs.declared.jobs.Job.TheVariants.{View as view}
+use Rattle.ol_words.specs.declared.jobs.Job.TheVariants as jobs
 use Rattle.ol_cli.proofs.TermJobs.{refused_comes, term_comes}
 use Rattle.ol_cli.proofs.commands.view.answer_view.Goals as goal
 
 pub returns-in-Refused-clause-comes : goal.returns-in-Refused-clause-comes
 returns-in-Refused-clause-comes g c = λ files of.
-    refused_comes (view c.args.translation c.args.leads.most c.args.name.now) tt _ c.in-Refused.answer
+    refused_comes (jobs.View c.args.translation c.args.leads.most c.args.name.now) tt _ c.in-Refused.answer
     (rw c.in-Refused.is at (c.in_ok-ready.ensures.comes files of))
 
 pub returns-clause-comes : goal.returns-clause-comes
@@ -15,6 +15,6 @@ returns-clause-comes g c = λ files of.
     let r = rw c.in-Net.is at (c.in_ok-ready.ensures.comes files of) in
     let h = c.in_ok-text-in-Net.ensures in
     rw c.text_alone.ensures
-    (term_comes (view c.args.translation c.args.leads.most c.args.name.now) tt _ c.in-Net.net
+    (term_comes (jobs.View c.args.translation c.args.leads.most c.args.name.now) tt _ c.in-Net.net
     c.in-Net.file r (record { text = c.in_ok-text-in-Net.text; status = Done; closed = None })
     (h c.args.translation (tree_of c.in-Net.file.term) c.in-Net.file.names r.1.2.ready) (λ words e. tt) refl)

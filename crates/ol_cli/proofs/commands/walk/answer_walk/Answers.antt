@@ -1,12 +1,12 @@
 use Rattle.std.proofs.Common.{None, refl}
 use Rattle.ol_cli.specs.declared.status.Status.TheVariants.{Done}
-use Rattle.ol_words.specs.declared.jobs.Job.TheVariants.{Walk as walk}
+use Rattle.ol_words.specs.declared.jobs.Job.TheVariants as jobs
 use Rattle.ol_cli.proofs.TermJobs.{refused_comes, term_comes}
 use Rattle.ol_cli.proofs.commands.walk.answer_walk.Goals as goal
 
 pub returns-in-Refused-clause-comes : goal.returns-in-Refused-clause-comes
 returns-in-Refused-clause-comes g c = λ files of.
-    refused_comes (walk c.args.translation c.args.edges c.args.heads.most c.args.name.now) tt _
+    refused_comes (jobs.Walk c.args.translation c.args.edges c.args.heads.most c.args.name.now) tt _
     c.in-Refused.answer (rw c.in-Refused.is at (c.in_ok-ready.ensures.comes files of))
 
 pub returns-in_ok-text-in-Net-clause-comes : goal.returns-in_ok-text-in-Net-clause-comes
@@ -14,6 +14,6 @@ returns-in_ok-text-in-Net-clause-comes g c = λ files of.
     let r = rw c.in-Net.is at (c.in_ok-ready.ensures.comes files of) in
     let h = c.in_ok-text-in-Net.ensures in
     rw c.text_alone.ensures
-    (term_comes (walk c.args.translation c.args.edges c.args.heads.most c.args.name.now) tt _
+    (term_comes (jobs.Walk c.args.translation c.args.edges c.args.heads.most c.args.name.now) tt _
     c.in-Net.net c.in-Net.file r (record { text = c.in_ok-text-in-Net.text; status = Done; closed = None })
     h.text h.read refl)
