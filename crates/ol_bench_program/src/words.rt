@@ -139,8 +139,9 @@ fn after<'a>(alloc: Global) -> Result<Command<'a>, AllocError> {
 }
 
 fn check<'a>(alloc: Global) -> Result<Command<'a>, AllocError> {
-    let command = Command::new(alloc, "check")
-        .about("What a journal is found to be, as `ol check` tells it, with a status for each");
+    let command = Command::new(alloc, "check").about(
+        "What a journal is found to be, as `ol check` tells it, with a status for each",
+    );
     of_journal(alloc, command)
 }
 

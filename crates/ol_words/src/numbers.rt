@@ -6,7 +6,10 @@ ghost use Rattle.ol_words.specs.Numbers.{number_within, is_number};
 ghost use Rattle.ol_words.specs.Views.{limits_of};
 ghost use Rattle.ol_words.specs.Found.{setting_by};
 
-use ol_limits::{MOST_EDGES, MOST_FUEL, MOST_HEADS, MOST_STEPS, MOST_WORKERS, PLAIN_FUEL, PLAIN_HEADS, PLAIN_WORKERS};
+use ol_limits::{
+    MOST_EDGES, MOST_FUEL, MOST_HEADS, MOST_STEPS, MOST_WORKERS, PLAIN_FUEL, PLAIN_HEADS,
+    PLAIN_WORKERS,
+};
 
 /// What a setting may be, and what it is where it isn't given.
 #[derive(Clone, Copy)]
