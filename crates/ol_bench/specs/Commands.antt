@@ -16,7 +16,6 @@ use Rattle.ol_bench.specs.declared.asked.Asked.TheVariants as asked
 use Rattle.ol_bench.specs.Inputs.{Files, ComesOf, IsNamed, after_taking, told_of}
 use Rattle.ol_places.specs.Places.{IsWhere}
 use Rattle.ol_places.specs.Wanted.{IsStop}
-use Rattle.ol_places.specs.Free.{IsFree}
 use Rattle.ol_steps.specs.Steps.{IsStepsOf}
 use Rattle.ol_derivations.specs.Derivations.{IsDerivation}
 use Rattle.ol_orders.specs.Tables.{IsCounted}
@@ -32,7 +31,6 @@ use Rattle.ol_same.specs.Same.{IsSame}
 abbrev pub content_of : OnOne → Content
 content_of (one.Where byte) = Journal
 content_of one.Stop = Subject (subject.Term translation.Two)
-content_of one.Free = Subject (subject.Term translation.Two)
 content_of one.Derivation = Subject (subject.Term translation.Two)
 content_of (one.Steps how most) = Subject (subject.Term translation.Two)
 content_of (one.Counts s bounds) = Subject s
@@ -42,7 +40,6 @@ content_of (one.Journal s order fuel heads) = Subject s
 abbrev pub IsOneWithin : OnOne → Type 0
 IsOneWithin (one.Where byte) = Unit {0}
 IsOneWithin one.Stop = Unit {0}
-IsOneWithin one.Free = Unit {0}
 IsOneWithin one.Derivation = Unit {0}
 IsOneWithin (one.Steps how most) = Unit {0}
 IsOneWithin (one.Counts s bounds) = Unit {0}
@@ -52,7 +49,6 @@ IsOneWithin (one.Journal s order fuel heads) = Unit {0}
 abbrev pub IsAnswerToOne : OnOne → List ℕ → List ℕ → End → Type 0
 IsAnswerToOne (one.Where byte) bytes text e = IsWhere bytes byte text e
 IsAnswerToOne one.Stop bytes text e = IsStop bytes text e
-IsAnswerToOne one.Free bytes text e = IsFree bytes text e
 IsAnswerToOne one.Derivation bytes text e = IsDerivation bytes text e
 IsAnswerToOne (one.Steps how most) bytes text e = IsStepsOf bytes how most text e
 IsAnswerToOne (one.Counts s bounds) bytes text e = IsCounted bytes bounds text s e

@@ -12,7 +12,7 @@ use ol_explain::{after, explained, judged};
 use ol_limits::{Fuel, Heads, MOST_JOURNAL_BYTES};
 use ol_memory::NoMemory;
 use ol_orders::{Bounds, Order, counted, journal};
-use ol_places::{free_names, stop, whereabouts};
+use ol_places::{stop, whereabouts};
 use ol_same::same;
 use ol_steps::{Shown, steps};
 use ol_subjects::{Answer, Subject, most_bytes};
@@ -60,8 +60,6 @@ pub enum OnOne {
     },
     /// Where a text stops being a term, and what is wanted there.
     Stop,
-    /// Where names stand free in a text.
-    Free,
     /// What is said of a derivation: terms, one a line, each by the one before it.
     Derivation,
     /// Reduction of a term in an order, by at most `most` steps: any number.
@@ -93,7 +91,6 @@ impl OnOne {
         match self {
             OnOne::Where { .. } => Content::Journal,
             OnOne::Stop => Content::Subject(TERM),
-            OnOne::Free => Content::Subject(TERM),
             OnOne::Derivation => Content::Subject(TERM),
             OnOne::Steps { .. } => Content::Subject(TERM),
             OnOne::Counts { subject, .. } => Content::Subject(subject),
@@ -114,10 +111,6 @@ impl OnOne {
             }
             OnOne::Stop => {
                 let answer = stop(alloc, bytes)?;
-                Ok(answer)
-            }
-            OnOne::Free => {
-                let answer = free_names(alloc, bytes)?;
                 Ok(answer)
             }
             OnOne::Derivation => {

@@ -203,11 +203,6 @@ fn places<'a>(alloc: Global) -> Result<Command<'a>, AllocError> {
         .arg(byte)
 }
 
-fn free<'a>(alloc: Global) -> Result<Command<'a>, AllocError> {
-    let command = Command::new(alloc, "free").about("Where names stand free in a term");
-    of_term(alloc, command, OF_TERM)
-}
-
 fn derivation<'a>(alloc: Global) -> Result<Command<'a>, AllocError> {
     let help = "the file with one term a line, `-` for standard input";
     Command::new(alloc, "derivation")
@@ -238,7 +233,6 @@ fn command<'a>(alloc: Global) -> Result<Command<'a>, AllocError> {
         .subcommand(counts(alloc)?)?
         .subcommand(same(alloc)?)?
         .subcommand(places(alloc)?)?
-        .subcommand(free(alloc)?)?
         .subcommand(derivation(alloc)?)
 }
 
@@ -358,7 +352,6 @@ fn on_one(name: &str, found: &ArgMatches) -> OnOne
             fuel,
             heads,
         },
-        "free" => OnOne::Free,
         "derivation" => OnOne::Derivation,
         _ => place_of(found),
     }

@@ -9,7 +9,6 @@
 //! - `explain`: rows of `explain` over the fakes
 //! - `texts`: rows of commands on a term that stands on the command line
 //! - `fakes`: files in memory, and their names; leftmost reduction of a term
-//! - `frees`: where names stand free
 //! - `comparing`: two nets that are one up to numbers, and two that aren't
 //! - `limits`: rows of `steps` at the limits of terms
 //! - `outside`: `same` through `bench`, where a call of the source or of a sink fails
@@ -31,8 +30,6 @@ mod derivations;
 mod explain;
 #[cfg(test)]
 mod fakes;
-#[cfg(test)]
-mod frees;
 #[cfg(test)]
 mod limits;
 #[cfg(test)]

@@ -1,4 +1,3 @@
 -- What clauses of public functions rest on.
 pub mod Places
 pub mod Wanted
-pub mod Free

@@ -98,7 +98,7 @@ impl Wants {
 }
 
 // The dead place of the bytes, unless they are a text.
-pub fn dead_place(alloc: Global, bytes: &[u8]) -> Result<Option<usize>, NoMemory>
+fn dead_place(alloc: Global, bytes: &[u8]) -> Result<Option<usize>, NoMemory>
     requires short { length bytes.now ≤ 1073741824 }
     ensures { IfOk result (IsStopAt bytes.now) }
 {
@@ -179,7 +179,7 @@ fn wanted_behind(alloc: Global, front: &[u8]) -> Result<Wants, NoMemory>
 }
 
 // Appends some words if they are wanted.
-pub fn put_if(text: &mut Vec<u8>, wanted: bool, words: &[u8]) -> Result<(), NoMemory>
+fn put_if(text: &mut Vec<u8>, wanted: bool, words: &[u8]) -> Result<(), NoMemory>
     ensures { OnOk result (text.new.items ≡ text.old.items ++ piece wanted words.now) }
 {
     if wanted {
@@ -235,7 +235,7 @@ fn wanted_line(alloc: Global, wants: &Wants) -> Result<Vec<u8>, NoMemory>
 }
 
 // The answer where a text stops being a term at this place.
-pub fn stop_at(alloc: Global, bytes: &[u8], at: usize) -> Result<Vec<u8>, NoMemory>
+fn stop_at(alloc: Global, bytes: &[u8], at: usize) -> Result<Vec<u8>, NoMemory>
     requires short { length bytes.now ≤ most_term_bytes }
     requires dead { IsRefusedAt bytes.now at }
     ensures { IfOk result (λ text. IsStop bytes.now text.items End.No) }
