@@ -80,7 +80,7 @@ def told(search):
     wrong = search.first_wrong(last)
     if wrong is None:
         print(f"the nets are right up to line {last}")
-        return 1 if off else 0
+        return 1 if status else 0
     ours, theirs = search.nets(wrong)
     print(f"the net is wrong after line {wrong}: {search.journal.splitlines()[wrong - 1]}")
     print("".join(f"< {line}\n" for line in ours if line not in theirs), end="")
