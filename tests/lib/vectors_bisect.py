@@ -8,7 +8,7 @@ net on standard input: as `ol view` shows it, or with --net the file itself. `CO
 names of the journal: of its lines from the third on any order will do. Each call has to make the same run.
 
 What `ol-bench explain` says of the journal is printed first. Where all nets up to there are right, a last line says so;
-the status is 0 if the journal is one of a run, too. Else the line after which the net is wrong is printed, and the lines
+the status is 0 if the journal is one of a complete run, too. Else the line after which the net is wrong is printed, and the lines
 in which the two nets differ, those of `ol-bench` behind `<` and those of COMMAND behind `>`; the status is 1. Where two
 slips make the net right again, one of them is found. Status 2: COMMAND or NAME is no such thing. Which program
 `ol-bench` is run, tests/lib/which_ol.py says.
