@@ -17,12 +17,11 @@ use Rattle.ol_rules.specs.Running.{AllWait}
 use Rattle.ol_rules.specs.Waiting.{IsActiveIn, IsBeside}
 use Rattle.ol_rules.specs.Steps.{StepsAt}
 use Rattle.ol_rules.proofs.FreshPairs.{linked_sym, active_after, gone}
-use Rattle.ol_rules.proofs.OnTheWay.{node_below}
+use Rattle.ol_rules.proofs.OnTheWay.{node_below, the_pair}
 use Rattle.ol_rules.proofs.Waiting.{nat_is, differs, others_stay, lower, nothing_waits, active_node, active_below}
 use Rattle.ol_diamond.specs.Replaying.{AreIdle}
 use Rattle.ol_diamond.specs.Squares.{AreTogether}
 use Rattle.ol_diamond.proofs.Pairs.{one_partner, faces_after}
-use Rattle.ol_demand.proofs.Entries.{the_pair}
 use Rattle.ol_orders.specs.Played.{IsPair, AreRisingPairs, ArePairs, StillWait, NewWait}
 
 -- The pairs that were found before these nodes are looked at: their smaller numbers are smaller than
