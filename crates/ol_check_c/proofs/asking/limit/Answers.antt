@@ -10,10 +10,10 @@ returns-then-most-bytes-clause-long c =
     (subst (λ most. AreTooLong c.args.subject c.args.bytes.now c.args.journal.now (too_long most)) (sym e)
     (AreTooLong.first (subst (λ most. most < length c.args.bytes.now) e c.if-most-bytes.true)))
 
-pub returns-then-journal-gt-MOST_JOURNAL_BYTES-clause-long : goal.returns-then-journal-gt-MOST_JOURNAL_BYTES-clause-long
-returns-then-journal-gt-MOST_JOURNAL_BYTES-clause-long c =
+pub returns-then-journal-clause-long : goal.returns-then-journal-clause-long
+returns-then-journal-clause-long c =
     let e = c.most_bytes-most.ensures in
     subst (AreTooLong c.args.subject c.args.bytes.now c.args.journal.now)
-    (sym c.too_long-then-journal-gt-MOST_JOURNAL_BYTES.ensures)
+    (sym c.too_long-then-journal.ensures)
     (AreTooLong.second (subst (λ most. length c.args.bytes.now ≤ most) e c.if-most-bytes.false)
-    c.if-journal-gt-MOST_JOURNAL_BYTES.true)
+    c.if-journal.true)
