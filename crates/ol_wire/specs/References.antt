@@ -22,6 +22,17 @@ kind_numbered (suc (suc (suc zero))) = kind.Croissant
 kind_numbered (suc (suc (suc (suc zero)))) = kind.Bracket
 kind_numbered n = kind.Eraser
 
+-- how many indexes a reference has room for, and the greatest of them
+abbrev pub indexes : ℕ
+indexes = 16777216
+
+abbrev pub top_index : ℕ
+top_index = 16777215
+
+-- what a place of one more adds to a reference
+abbrev pub place_step : ℕ
+place_step = 536870912
+
 -- a node stands for its slot 0
 abbrev pub node_ref : Kind → ℕ → ℕ → ℕ
 node_ref k i place = 1 + 4 * kind_number k + 32 * i + 536870912 * place

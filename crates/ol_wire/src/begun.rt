@@ -1,7 +1,7 @@
 //! A rewrite that has its ticket, and the ends of its links.
 ghost use Rattle.std.specs.Prelude.{◌≡◌, ◌<◌, ◌≤◌, Some};
 ghost use Rattle.ol_limits.specs.Limits.{most_fuel};
-ghost use Rattle.ol_wire.specs.References.{index_in};
+ghost use Rattle.ol_wire.specs.References.{index_in, top_index};
 ghost use Rattle.ol_wire.specs.Events.{rule_between};
 ghost use Rattle.ol_wire.specs.LinkLists.{joins_in};
 ghost use Rattle.ol_wire.specs.Rewrites.{event_for};
@@ -36,7 +36,7 @@ impl Begun {
     // The copies that it makes. A meeting makes none.
     pub(crate) fn copies(&self, parts: Parts) -> Option<Copies>
         requires small { IsSmall parts × (self.now.ticket ≤ most_fuel) }
-        requires index { index_in self.now.rewrite.g < 16777215 }
+        requires index { index_in self.now.rewrite.g < top_index }
         ensures { HasCopies parts self.now result }
     {
         let rewrite = self.rewrite;

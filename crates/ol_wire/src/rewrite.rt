@@ -2,7 +2,7 @@
 ghost use Rattle.std.specs.Prelude.{◌≡◌, ◌+◌, ◌*◌, ◌<◌, ◌≤◌, None, Some, MatchOption, IsTrue, IsFalse, slice_index};
 ghost use Rattle.ol_net.specs.Rules.{rule_of};
 ghost use Rattle.ol_rules.specs.Rewriting.{is_meeting, index_after};
-ghost use Rattle.ol_wire.specs.References.{kind_in, index_in, place_in};
+ghost use Rattle.ol_wire.specs.References.{kind_in, index_in, place_in, top_index};
 ghost use Rattle.ol_wire.specs.Events.{event_of, earlier, later, IsStuckPair};
 ghost use Rattle.ol_wire.specs.Blocks.{copies_of_f, copies_of_g};
 ghost use Rattle.ol_wire.specs.LinkLists.{joins_in};
@@ -130,7 +130,7 @@ impl Rewrite {
 
     /// The index of a copy of g.
     pub(crate) fn index_after(self) -> u32
-        requires { index_in self.g < 16777215 }
+        requires { index_in self.g < top_index }
         ensures { result ≡ index_after self.rule (index_in self.g) }
     {
         let index = index_in(self.g);
