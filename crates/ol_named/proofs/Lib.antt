@@ -1,0 +1,2 @@
+pub mod LetteredTexts
+pub mod MarksUnder
