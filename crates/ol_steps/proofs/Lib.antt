@@ -1,5 +1,6 @@
 pub mod Named
 pub mod Keeping
+pub mod Marked
 pub mod Walks
 pub mod WeakHeads
 pub mod Returns

@@ -1,6 +1,6 @@
 -- The text of a walk, step by step.
 use Rattle.std.proofs.Common.{◌≡◌, ℕ, ◌+◌, ◌<◌, ◌≤◌, List, [], ◌∷◌, ◌++◌, append_assoc, length, codes, Option, Some, None, IsSome, true}
-use Rattle.std.proofs.Common.{refl, sym, ap, ◌∙◌, subst, arith}
+use Rattle.std.proofs.Common.{sym, ap, ◌∙◌, subst, arith}
 use Rattle.std.specs.Prelude.{slice_get}
 use Rattle.std.proofs.lemmas.List.{flat_map_more, length_push}
 use Rattle.ol_term.specs.Trees.{Tree, tree_of, is_below, is_named_below}
@@ -10,14 +10,13 @@ use Rattle.ol_strategies.specs.Ends.{IsEnd}
 use Rattle.ol_strategies.proofs.Nexts.{next_is_redex}
 use Rattle.ol_strategies.specs.declared.orders.Order.{Order}
 use Rattle.ol_strategies.specs.declared.orders.Reached.{Reached}
-use Rattle.ol_subjects.specs.declared.answers.End.{End}
 use Rattle.ol_subjects.specs.declared.answers.End.TheVariants.{No}
 use Rattle.ol_steps.specs.declared.earlier.Earlier.{Earlier}
 use Rattle.ol_steps.specs.declared.stepping.Shown.{Shown}
 use Rattle.ol_steps.specs.Kept.{terms_of}
 use Rattle.ol_steps.proofs.Keeping.{kept_length, kept_more}
 use Rattle.ol_steps.proofs.Named.{step_named}
-use Rattle.ol_steps.specs.Steps.{Walk, goes, IsNew, term_line, address_line, redex_line, step_lines, walk_lines}
+use Rattle.ol_steps.specs.Steps.{Walk, goes, IsNew, term_line, redex_lines, step_lines, walk_lines}
 use Rattle.ol_steps.specs.Steps.{last_line, past_line, return_line, reached_words, reached_end}
 use Rattle.ol_steps.specs.Steps.{Tells, ends, returns, left, past}
 
@@ -53,13 +52,13 @@ module _ (how : Shown) (names : List (List ℕ)) (most : ℕ) (t : Tree) (terms 
       ∙ ap (λ (n : ℕ). (walk_lines how names terms ++ term_line names v) ++ return_line how.order n k) made_is)
 
   module _ (at : List ℕ) (redex : next how.order v ≡ Some at) (shown : List ℕ)
-      (shown_is : shown ≡ (text ++ term_line names v) ++ address_line at) where
+      (shown_is : shown ≡ (text ++ term_line names v) ++ redex_lines how.marked names v (Some at)) where
     pub shown_more : shown ≡ walk_lines how names (terms ++ v ∷ [])
     shown_more =
         shown_is
-        ∙ append_assoc text (term_line names v) (address_line at)
-        ∙ ap (λ (x : List ℕ). x ++ (term_line names v ++ address_line at)) is
-        ∙ ap (λ (o : Option (List ℕ)). walk_lines how names terms ++ (term_line names v ++ redex_line o)) (sym redex)
+        ∙ append_assoc text (term_line names v) (redex_lines how.marked names v (Some at))
+        ∙ ap (λ (x : List ℕ). x ++ (term_line names v ++ redex_lines how.marked names v (Some at))) is
+        ∙ ap (λ (o : Option (List ℕ)). walk_lines how names terms ++ (term_line names v ++ redex_lines how.marked names v o)) (sym redex)
         ∙ flat_map_more (step_lines how names) [] terms v
 
     pub tells_left : (last : List ℕ) → made ≡ most → IsNew terms v →
@@ -87,7 +86,7 @@ IsWalked how names most t kept v text =
 module _ (how : Shown) (names : List (List ℕ)) (most : ℕ) (t : Tree) (kept : List Earlier) (v : Tree) (text : List ℕ)
     (walked : IsWalked how names most t kept v text) (made : ℕ) (made_is : made ≡ length kept)
     (at : List ℕ) (redex : next how.order v ≡ Some at) (shown : List ℕ)
-    (shown_is : shown ≡ (text ++ term_line names v) ++ address_line at) where
+    (shown_is : shown ≡ (text ++ term_line names v) ++ redex_lines how.marked names v (Some at)) where
   pub walked_more : made < most → IsNew (terms_of kept) v → (u : Tree) → contracted v at ≡ Some u → IsWithin u →
       is_below 0 u ≡ true → (e : Earlier) → tree_of e.term ≡ v → (more : List Earlier) → more ≡ kept ++ e ∷ [] →
       (w : Tree) → w ≡ u → IsWalked how names most t more w shown

@@ -1,5 +1,5 @@
--- What a term that comes back says of the first term.
-use Rattle.std.specs.Prelude.{◌≡◌, ℕ, List, slice_get, Some, IsSome}
+-- What a term that comes back says of the first term, and what carets stand under.
+use Rattle.std.specs.Prelude.{◌≡◌, ℕ, false, List, slice_get, Some, IsSome}
 use Rattle.ol_term.specs.Trees.{Tree}
 use Rattle.ol_law_meaning.specs.Shows.{BetaReduces}
 use Rattle.ol_law_confluence.specs.Reductions.{HasNormalForm, HasHeadNormalForm}
@@ -8,6 +8,12 @@ use Rattle.ol_strategies.specs.Reductions.{Leads}
 use Rattle.ol_strategies.specs.Ends.{IsWeakHeadNormal}
 use Rattle.ol_strategies.specs.declared.orders.Order.{Order}
 use Rattle.ol_strategies.specs.declared.orders.Order.TheVariants as order
+use Rattle.ol_term.specs.Texts.{text_of_term}
+use Rattle.ol_parse.specs.Grammar.{Named, lam, app}
+use Rattle.ol_named.specs.NamedTexts.{named_text}
+use Rattle.ol_named.specs.Marks.{part}
+use Rattle.ol_named.specs.Lettered.{lettered}
+use Rattle.ol_named.specs.Laws.{IsMarked}
 use Rattle.ol_steps.specs.Steps.{Walk}
 
 -- beta reduction of a term comes to a weak head normal form
@@ -37,3 +43,18 @@ ReturnIsEndless = (order : Order) (t v : Tree) (terms : List Tree) (k : ℕ) →
 abbrev pub ReturnHasNone : Type 0
 ReturnHasNone = (order : Order) (t v : Tree) (terms : List Tree) (k : ℕ) → Walk order t terms v →
     slice_get terms k ≡ Some v → HasNone order t
+
+-- a redex: an abstraction that is applied to an argument
+abbrev pub IsRedex : Named → Type 0
+IsRedex u = (binder : List ℕ) × (body : Named) × (argument : Named) × (u ≡ app (lam binder body) argument)
+
+-- a term with names stands in the term's line, and the carets stand under the redex at an address of it
+pub record MarksRedex (names : List (List ℕ)) (t : Tree) (at : List ℕ) (u : Named) : Type 0 where
+  pub line : named_text false u ≡ text_of_term names t
+  pub redex : IsRedex (part u at)
+  pub marked : IsMarked u at
+
+-- the carets stand under the redex that an order contracts next
+abbrev pub RedexIsMarked : Type 0
+RedexIsMarked = (order : Order) (names : List (List ℕ)) (t : Tree) (at : List ℕ) → next order t ≡ Some at →
+    MarksRedex names t at (lettered names 0 t)

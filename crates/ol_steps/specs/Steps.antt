@@ -1,5 +1,6 @@
 -- Reduction in an order, term by term, as a text.
 use Rattle.std.specs.Prelude.{◌≡◌, ℕ, ◌+◌, ◌<◌, ◌≤◌, List, [], ◌∷◌, ◌++◌, length, slice_get, codes, Option, None, Some}
+use Rattle.std.specs.Prelude.{Bool, if◌then◌else◌}
 use Rattle.std.specs.Fmt.{decimal}
 use Rattle.std.specs.List.{flat_map}
 use Rattle.ol_term.specs.declared.translations.Translation.TheVariants.{Two}
@@ -18,6 +19,8 @@ use Rattle.ol_strategies.specs.declared.orders.Reached.TheVariants as word
 use Rattle.ol_subjects.specs.declared.answers.End.{End}
 use Rattle.ol_subjects.specs.declared.answers.End.TheVariants.{Yes, No, Refused}
 use Rattle.ol_subjects.specs.Subjects.{IsTerm, RefusesTerm}
+use Rattle.ol_named.specs.Lettered.{lettered}
+use Rattle.ol_named.specs.Marks.{mark_line}
 use Rattle.ol_steps.specs.declared.stepping.Shown.{Shown}
 
 -- ---- the terms
@@ -43,14 +46,18 @@ term_line names t = text_of_term names t ++ codes "\n"
 abbrev pub address_line : List ℕ → List ℕ
 address_line at = codes "  at " ++ address_text at ++ codes "\n"
 
--- the line of a redex, where there is one
-abbrev pub redex_line : Option (List ℕ) → List ℕ
-redex_line None = []
-redex_line (Some at) = address_line at
+-- the line of carets under the text of a redex, if it is wanted
+abbrev pub carets_if : Bool → List (List ℕ) → Tree → List ℕ → List ℕ
+carets_if wanted names t at = if wanted then mark_line (lettered names 0 t) at else []
+
+-- the lines of a redex, where there is one
+abbrev pub redex_lines : Bool → List (List ℕ) → Tree → Option (List ℕ) → List ℕ
+redex_lines marked names t None = []
+redex_lines marked names t (Some at) = carets_if marked names t at ++ address_line at
 
 -- a term, and where its redex is that comes next in the order
 abbrev pub step_lines : Shown → List (List ℕ) → Tree → List ℕ
-step_lines how names t = term_line names t ++ redex_line (next how.order t)
+step_lines how names t = term_line names t ++ redex_lines how.marked names t (next how.order t)
 
 -- the lines of these terms, one after another
 abbrev pub walk_lines : Shown → List (List ℕ) → List Tree → List ℕ

@@ -1,6 +1,6 @@
-//! Laws of terms that come back: no code, only what follows from the definitions.
+//! Laws of terms that come back, and of carets: no code, only what follows from the definitions.
 
-ghost use Rattle.ol_steps.specs.Laws.{ReturnIsEndless, ReturnHasNone};
+ghost use Rattle.ol_steps.specs.Laws.{RedexIsMarked, ReturnIsEndless, ReturnHasNone};
 
 /// Where a term of an order's walk is that of an earlier step, the order has no end: each term that
 /// it leads to from the first has a next redex. So the first term has no normal form, if the order
@@ -9,4 +9,11 @@ ghost use Rattle.ol_steps.specs.Laws.{ReturnIsEndless, ReturnHasNone};
 pub fn returns_are_endless()
     ensures endless { ReturnIsEndless }
     ensures none { ReturnHasNone }
+{}
+
+/// The carets stand under the text of the redex that an order contracts next. The subterm at its
+/// address is an abstraction that is applied to an argument. Whatever application stands there in
+/// its place, its text stands in the term's line behind the same bytes and before the same bytes.
+pub fn redexes_are_marked()
+    ensures { RedexIsMarked }
 {}

@@ -1,14 +1,17 @@
 //! The lines of an answer.
 
-ghost use Rattle.std.specs.Prelude.{◌≡◌, ◌++◌, length, true, IfOk, OnOk};
+ghost use Rattle.std.specs.Prelude.{◌≡◌, ◌++◌, length, true, Some, IfOk, OnOk};
 ghost use Rattle.std.specs.Fmt.{decimal};
 ghost use Rattle.std.specs.List.{flat_map};
 ghost use Rattle.ol_term.specs.Trees.{tree_of, is_below, is_named_below};
 ghost use Rattle.ol_beta.specs.Beta.{IsWithin};
-ghost use Rattle.ol_steps.specs.Steps.{address_line, last_line, past_line, reached_end, reached_words, return_line, return_words, term_line};
+ghost use Rattle.ol_named.specs.Marks.{mark_line};
+ghost use Rattle.ol_named.specs.Lettered.{lettered};
+ghost use Rattle.ol_steps.specs.Steps.{address_line, last_line, past_line, redex_lines, reached_end, reached_words, return_line, return_words, term_line};
 
 use ol_beta::Address;
 use ol_memory::NoMemory;
+use ol_named::{letter, put_mark};
 use ol_strategies::{Order, Reached};
 use ol_subjects::{End, put, put_number};
 use ol_term::{Names, Term, print_term};
@@ -44,7 +47,7 @@ fn put_moves(alloc: Global, text: &mut Vec<u8>, at: &Address) -> Result<(), NoMe
 }
 
 // The line of an address: a dot for the root, else the digits of its moves.
-pub fn put_address(alloc: Global, text: &mut Vec<u8>, at: &Address) -> Result<(), NoMemory>
+fn put_address(alloc: Global, text: &mut Vec<u8>, at: &Address) -> Result<(), NoMemory>
     ensures { OnOk result (text.new.items ≡ text.old.items ++ address_line at.now) }
 {
     put(text, b"  at ")?;
@@ -54,6 +57,59 @@ pub fn put_address(alloc: Global, text: &mut Vec<u8>, at: &Address) -> Result<()
         put_moves(alloc, text, at)?;
     }
     put(text, b"\n")
+}
+
+// All moves of an address.
+fn moves_of(alloc: Global, at: &Address) -> Result<Vec<u8>, NoMemory>
+    ensures { IfOk result (λ moves. moves.items ≡ at.now) }
+{
+    let mut moves = Vec::new(alloc);
+    for k in 0..at.len() {
+        let Some(to) = at.get(k) else { unreachable!() };
+        moves.push(to)?;
+    }
+    Ok(moves)
+}
+
+// The line of carets under the text of a redex.
+fn put_carets(
+    alloc: Global,
+    text: &mut Vec<u8>,
+    term: &Term,
+    names: &Names,
+    at: &Address,
+) -> Result<(), NoMemory>
+    requires bound { is_below 0 (tree_of term.now) ≡ true }
+    requires named { is_named_below (length names.now) (tree_of term.now) ≡ true }
+    requires within { IsWithin (tree_of term.now) }
+    ensures { OnOk result (text.new.items
+        ≡ text.old.items ++ mark_line (lettered names.now 0 (tree_of term.now)) at.now) }
+{
+    let named = letter(alloc, term, names)?;
+    let moves = moves_of(alloc, at)?;
+    put_mark(alloc, text, &named, &moves)?;
+    Ok(())
+}
+
+// The lines of a redex: carets under its text, if they are wanted, and its address.
+pub fn put_redex(
+    alloc: Global,
+    text: &mut Vec<u8>,
+    term: &Term,
+    names: &Names,
+    marked: bool,
+    at: &Address,
+) -> Result<(), NoMemory>
+    requires bound { is_below 0 (tree_of term.now) ≡ true }
+    requires named { is_named_below (length names.now) (tree_of term.now) ≡ true }
+    requires within { IsWithin (tree_of term.now) }
+    ensures { OnOk result (text.new.items
+        ≡ text.old.items ++ redex_lines marked names.now (tree_of term.now) (Some at.now)) }
+{
+    if marked {
+        put_carets(alloc, text, term, names, at)?;
+    }
+    put_address(alloc, text, at)
 }
 
 // The last line: some words, and how many steps were made.

@@ -11,7 +11,7 @@ ghost use Rattle.ol_steps.specs.Steps.{past_line, Tells, IsStepsOf};
 use crate::earlier::Earlier;
 use crate::finding::step_of;
 use crate::lines::{
-    past_line, put_address, put_last, put_term, reached_end, reached_words, return_line,
+    past_line, put_last, put_redex, put_term, reached_end, reached_words, return_line,
 };
 use ol_beta::{BetaFault, beta};
 use ol_limits::{MOST_DEPTH, MOST_SIZE};
@@ -27,6 +27,8 @@ use std::mem;
 pub struct Shown {
     /// Which redex is contracted next.
     pub order: Order,
+    /// Whether carets stand under the redex that is contracted next.
+    pub marked: bool,
 }
 
 /// Whether a term is one that steps are made from: it has at most 100,000 constructors, at most
@@ -63,7 +65,7 @@ fn walk(alloc: Global, term: Term, names: &Names, how: Shown, most: u32) -> Resu
             let end = reached_end(word);
             return Ok(Answer { text, end });
         };
-        put_address(alloc, &mut text, &at)?;
+        put_redex(alloc, &mut text, &here, names, how.marked, &at)?;
         if made == most as usize {
             put_last(alloc, &mut text, b"a redex is left", made)?;
             let end = End::No;
@@ -117,8 +119,9 @@ fn of_file(alloc: Global, file: TermFile, how: Shown, most: u32) -> Result<Answe
 }
 
 /// The terms of reduction in an order, one under another, each with the address of the redex that
-/// comes next, by at most `most` steps. The file has a term that `ol` takes by translation 2, in at
-/// most 1,048,576 bytes. Step 0 is the term itself.
+/// comes next, by at most `most` steps. If the redex is to be marked, a line between the two has
+/// carets under its text, without brackets round it (`redexes_are_marked`). The file has a term
+/// that `ol` takes by translation 2, in at most 1,048,576 bytes. Step 0 is the term itself.
 ///
 /// - `Yes`: the last term is what the order ends in, and the last line has the order's word for it:
 ///   a normal form, for leftmost and applicative order; a head normal form; a weak head normal form;

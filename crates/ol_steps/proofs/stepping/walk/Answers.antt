@@ -1,14 +1,13 @@
-use Rattle.std.proofs.Common.{◌≡◌, ℕ, ◌+◌, ◌<◌, ◌≤◌, List, [], ◌++◌, length, codes, rules, Some, refl, sym, ap, ◌∙◌, subst, arith}
+use Rattle.std.proofs.Common.{◌≡◌, ℕ, ◌≤◌, List, [], ◌++◌, length, rules, Some, sym, ap, ◌∙◌, subst, arith}
 use Rattle.std.specs.Prelude.{slice_get}
 use Rattle.ol_term.specs.Trees.{tree_of}
 use Rattle.ol_beta.specs.Beta.{IsPastAfter}
 use Rattle.ol_beta.specs.Faults.{IsBetaFault}
 use Rattle.ol_beta.specs.declared.contracting.BetaFault.{BetaFault}
-use Rattle.ol_strategies.specs.Redexes.{next}
 use Rattle.ol_subjects.specs.declared.answers.End.{End}
 use Rattle.ol_steps.specs.declared.earlier.Earlier.{Earlier}
 use Rattle.ol_steps.specs.Kept.{terms_of}
-use Rattle.ol_steps.specs.Steps.{Walk, starts, IsNew, Tells, walk_lines, term_line, address_line, last_line, return_line, reached_words}
+use Rattle.ol_steps.specs.Steps.{Walk, starts, IsNew, Tells, walk_lines, redex_lines, last_line, return_line, reached_words}
 use Rattle.ol_steps.proofs.Keeping.{kept_length}
 use Rattle.ol_steps.proofs.Walks.{tells_ends, tells_returns, tells_left, tells_past, walked_more, no_fault}
 use Rattle.ol_steps.proofs.stepping.walk.Goals as goal
@@ -68,8 +67,9 @@ returns-then-made-most c =
     tells_left c.args.how c.args.names.now c.args.most (tree_of c.args.term) (terms_of l.kept.items)
     (tree_of l.here) l.invariant.4 made (m ∙ kept_length l.kept.items) l.text.items l.invariant.5
     c.in-Some-2.at (sym c.in_ok-at.ensures ∙ c.in-Some-2.is) _
-    (c.in_ok-put_address.ensures
-    ∙ ap (λ (text : List ℕ). text ++ address_line c.in-Some-2.at) c.in_ok-put_term.ensures) _
+    (c.in_ok-put_redex.ensures
+    ∙ ap (λ (text : List ℕ). text ++ redex_lines c.args.how.marked c.args.names.now (tree_of l.here)
+    (Some c.in-Some-2.at)) c.in_ok-put_term.ensures) _
     c.if-made-most.true new c.in_ok-put_last-2.ensures
 
 pub returns-in-Past : goal.returns-in-Past
@@ -85,11 +85,12 @@ returns-in-Past c =
     tells_past c.args.how c.args.names.now c.args.most (tree_of c.args.term) (terms_of l.kept.items)
     (tree_of l.here) l.invariant.4 made (m ∙ kept_length l.kept.items) l.text.items l.invariant.5
     c.in-Some-2.at (sym c.in_ok-at.ensures ∙ c.in-Some-2.is) _
-    (c.in_ok-put_address.ensures
-    ∙ ap (λ (text : List ℕ). text ++ address_line c.in-Some-2.at) c.in_ok-put_term.ensures) _
+    (c.in_ok-put_redex.ensures
+    ∙ ap (λ (text : List ℕ). text ++ redex_lines c.args.how.marked c.args.names.now (tree_of l.here)
+    (Some c.in-Some-2.at)) c.in_ok-put_term.ensures) _
     c.in-Past.size c.in-Past.depth (omega (arith, l.invariant.0, m, c.if-made-most.false)) new p
     (c.in_ok-put-in-Past.ensures
-    ∙ ap (λ (line : List ℕ). c.put_address.new.text.items ++ line) (s ∙ c.in_ok-line-in-Past.ensures))
+    ∙ ap (λ (line : List ℕ). c.put_redex.new.text.items ++ line) (s ∙ c.in_ok-line-in-Past.ensures))
 
 pub unreachable-requires : goal.unreachable-requires
 unreachable-requires c =
@@ -106,8 +107,9 @@ loop-here-preserved c =
     let new = subst (λ (kept : List Earlier). IsNew (terms_of kept) (tree_of l.here)) d c.in_default.ensures in
     walked_more c.args.how c.args.names.now c.args.most (tree_of c.args.term) l.kept.items (tree_of l.here)
     l.text.items l.invariant made m c.in-Some-2.at (sym c.in_ok-at.ensures ∙ c.in-Some-2.is) _
-    (c.in_ok-put_address.ensures
-    ∙ ap (λ (text : List ℕ). text ++ address_line c.in-Some-2.at) c.in_ok-put_term.ensures)
+    (c.in_ok-put_redex.ensures
+    ∙ ap (λ (text : List ℕ). text ++ redex_lines c.args.how.marked c.args.names.now (tree_of l.here)
+    (Some c.in-Some-2.at)) c.in_ok-put_term.ensures)
     (omega (arith, l.invariant.0, m, c.if-made-most.false)) new (tree_of c.in-Ok.next)
     c.in-Ok.ensures.step c.in-Ok.ensures.within c.in-Ok.ensures.bound c.of.result
     (ap tree_of (c.of.ensures ∙ c.replace-before.ensures.value)) _ c.in_ok-push-in-Ok.ensures.items
