@@ -1,4 +1,3 @@
-pub mod OneSubject
 pub mod Traced
 pub mod ActivePairs
 pub mod OneRound

@@ -1,0 +1,2 @@
+pub mod OneSubject
+pub mod Onward

@@ -1,0 +1,4 @@
+use Rattle.ol_counts.proofs.tallies.order_tally.Goals as goal
+
+pub returns : goal.returns
+returns c = (c.in_ok-steps.steps, c.in_ok-steps.ensures, c.steps_tally.ensures)

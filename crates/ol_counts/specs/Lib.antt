@@ -1,0 +1,7 @@
+-- What clauses of public functions rest on.
+pub mod Ways
+pub mod Tallies
+pub mod Tables
+pub mod Counted
+-- What only contracts of private functions and proofs cite.
+pub mod Tabled

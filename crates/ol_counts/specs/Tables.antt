@@ -1,0 +1,106 @@
+-- The text of a table.
+use Rattle.std.specs.Prelude.{ℕ, ◌+◌, ◌-◌, Bool, true, false, if◌then◌else◌, List, [], ◌∷◌, ◌++◌}
+use Rattle.std.specs.Prelude.{length, take, codes, Option, None, Some}
+use Rattle.std.specs.Fmt.{decimal}
+use Rattle.std.specs.List.{flat_map, list_all, list_any}
+use Rattle.ol_rules.specs.declared.journal.Counts.{Counts}
+use Rattle.ol_tallies.specs.Sums.{interactions}
+use Rattle.ol_subjects.specs.declared.answers.End.{End}
+use Rattle.ol_subjects.specs.declared.answers.End.TheVariants.{Yes, No}
+use Rattle.ol_counts.specs.declared.tables.Column.{Column}
+use Rattle.ol_counts.specs.declared.tables.Row.{Row}
+use Rattle.ol_counts.specs.declared.tables.Row.TheVariants as row
+use Rattle.ol_counts.specs.declared.tallies.Tally.{Tally}
+use Rattle.ol_counts.specs.declared.tallies.Tally.TheVariants.{Rules, Steps, NotEnded, NoTerm}
+use Rattle.ol_counts.specs.Ways.{is_of_net, title}
+
+-- ---- the numbers
+
+-- the number of a row of a run
+abbrev pub in_row : Row → Counts → ℕ → ℕ
+in_row row.Beta c stuck = c.beta
+in_row row.Fan c stuck = c.fan
+in_row row.Croissant c stuck = c.croissant
+in_row row.Bracket c stuck = c.bracket
+in_row row.CrossFan c stuck = c.cross_fan
+in_row row.CrossCroissant c stuck = c.cross_croissant
+in_row row.CrossBracket c stuck = c.cross_bracket
+in_row row.Erase c stuck = c.erase
+in_row row.Interactions c stuck = interactions c
+in_row row.Stuck c stuck = stuck
+
+-- beta steps alone
+abbrev pub steps_in : Row → ℕ → Option ℕ
+steps_in row.Beta n = Some n
+steps_in _ n = None
+
+-- the number of a row, where there is one
+abbrev pub number_in : Row → Tally → Option ℕ
+number_in r (Rules counts stuck) = Some (in_row r counts stuck)
+number_in r (Steps n) = steps_in r n
+number_in r NotEnded = None
+number_in r NoTerm = None
+
+-- ---- the text
+
+-- a number, or a hyphen where there is none
+abbrev pub digits : Option ℕ → List ℕ
+digits (Some n) = decimal n
+digits None = codes "-"
+
+-- a text at the right end of twelve columns
+abbrev pub at_right : List ℕ → List ℕ
+at_right text = take (12 - length text) (codes "            ") ++ text
+
+abbrev pub head : Column → List ℕ
+head c = at_right (title c.way)
+
+-- what a column has in a row
+abbrev pub cell : Row → Column → List ℕ
+cell r c = at_right (digits (number_in r c.tally))
+
+abbrev pub row_name : Row → List ℕ
+row_name row.Beta = codes "beta            "
+row_name row.Fan = codes "fan             "
+row_name row.Croissant = codes "croissant       "
+row_name row.Bracket = codes "bracket         "
+row_name row.CrossFan = codes "cross-fan       "
+row_name row.CrossCroissant = codes "cross-croissant "
+row_name row.CrossBracket = codes "cross-bracket   "
+row_name row.Erase = codes "erase           "
+row_name row.Interactions = codes "interactions    "
+row_name row.Stuck = codes "stuck           "
+
+abbrev pub row_text : List Column → Row → List ℕ
+row_text columns r = row_name r ++ flat_map (cell r) columns ++ codes "\n"
+
+-- the rows that only runs of a net have
+abbrev pub net_rows : List Row
+net_rows = row.Fan ∷ row.Croissant ∷ row.Bracket ∷ row.CrossFan ∷ row.CrossCroissant
+    ∷ row.CrossBracket ∷ row.Erase ∷ row.Interactions ∷ row.Stuck ∷ []
+
+-- a run of a net is shown
+abbrev pub has_net : List Column → Bool
+has_net columns = list_any (λ c. is_of_net c.way) columns
+
+abbrev pub table_text : List Column → List ℕ
+table_text columns =
+    codes "                " ++ flat_map head columns ++ codes "\n"
+    ++ row_text columns row.Beta
+    ++ (if has_net columns then flat_map (row_text columns) net_rows else [])
+
+-- ---- the end
+
+-- a way without a term has nothing to end
+abbrev pub has_ended : Tally → Bool
+has_ended (Rules counts stuck) = true
+has_ended (Steps n) = true
+has_ended NotEnded = false
+has_ended NoTerm = true
+
+abbrev pub have_ended : List Column → Bool
+have_ended columns = list_all (λ c. has_ended c.tally) columns
+
+-- yes where all have ended
+abbrev pub end_of : List Column → End
+end_of columns = if have_ended columns then Yes else No

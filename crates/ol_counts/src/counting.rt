@@ -1,0 +1,153 @@
+//! The command `counts`: what a term costs by each way that is shown.
+
+ghost use Rattle.std.specs.Prelude.{◌≡◌, ◌<◌, ◌≤◌, ◌^◌, length, true, IfOk, IfSome};
+ghost use Rattle.ol_term.specs.Trees.{is_below, term_size};
+ghost use Rattle.ol_subjects.specs.Subjects.{most_bytes};
+ghost use Rattle.ol_limits.specs.Limits.{most_net_bytes, most_nodes, most_term_bytes};
+ghost use Rattle.ol_counts.specs.Counted.{AreColumns, IsCounted};
+ghost use Rattle.ol_counts.specs.Tabled.{tree_in, IsTabled};
+
+use crate::tables::{Column, end_of, table};
+use crate::tallies::tally_of;
+use crate::ways::{Bounds, Columns, WAYS, is_shown};
+use ol_memory::NoMemory;
+use ol_net::Net;
+use ol_subjects::{Answer, End, NetRead, Subject, TermRead, read_subject, read_term};
+use ol_term::{Term, Translation};
+use std::alloc::Global;
+
+// The columns that are shown, of a net with its term, or of a net alone.
+fn columns_of(
+    alloc: Global,
+    net: &Net,
+    term: Option<&Term>,
+    bounds: Bounds,
+    columns: Columns,
+) -> Result<Vec<Column>, NoMemory>
+    requires few { length net.now.nodes ≤ most_nodes }
+    requires bound { IfSome (tree_in term) (λ t. is_below 0 t ≡ true) }
+    requires counted { IfSome (tree_in term) (λ t. term_size t < 2 ^ 64) }
+    ensures { IfOk result (λ shown.
+        AreColumns net.now (tree_in term.entry) bounds columns shown.items) }
+{
+    let mut shown = Vec::new(alloc);
+    for way in WAYS {
+        if is_shown(columns, way) {
+            let tally = tally_of(alloc, net, term, bounds, way)?;
+            shown.push(Column { way, tally })?;
+        }
+    }
+    Ok(shown)
+}
+
+// The answer for a net with its term, or for a net alone.
+fn tabled(
+    alloc: Global,
+    net: &Net,
+    term: Option<&Term>,
+    bounds: Bounds,
+    columns: Columns,
+) -> Result<Answer, NoMemory>
+    requires few { length net.now.nodes ≤ most_nodes }
+    requires bound { IfSome (tree_in term) (λ t. is_below 0 t ≡ true) }
+    requires counted { IfSome (tree_in term) (λ t. term_size t < 2 ^ 64) }
+    ensures { IfOk result (λ a. IsTabled net.now (tree_in term.entry)
+        bounds columns a.text.items a.end) }
+{
+    let shown = columns_of(alloc, net, term, bounds, columns)?;
+    let text = table(alloc, &shown)?;
+    let end = end_of(&shown);
+    Ok(Answer { text, end })
+}
+
+// The answer to a file with a term.
+fn of_term_file(
+    alloc: Global,
+    bytes: &[u8],
+    translation: Translation,
+    bounds: Bounds,
+    columns: Columns,
+) -> Result<Answer, NoMemory>
+    requires short { length bytes.now ≤ most_term_bytes }
+    ensures { IfOk result (λ a.
+        IsCounted bytes.now bounds columns a.text.items (Subject.Term translation) a.end) }
+{
+    match read_term(alloc, bytes, translation)? {
+        TermRead::Refused(text) => {
+            let end = End::Refused;
+            Ok(Answer { text, end })
+        }
+        TermRead::Term { net, file } => {
+            let answer = tabled(alloc, &net, Some(&file.term), bounds, columns)?;
+            Ok(answer)
+        }
+    }
+}
+
+// The answer to a file with a net.
+fn of_net_file(
+    alloc: Global,
+    bytes: &[u8],
+    bounds: Bounds,
+    columns: Columns,
+) -> Result<Answer, NoMemory>
+    requires short { length bytes.now ≤ most_net_bytes }
+    ensures { IfOk result (λ a.
+        IsCounted bytes.now bounds columns a.text.items Subject.Net a.end) }
+{
+    match read_subject(alloc, bytes, Subject::Net)? {
+        NetRead::Refused(text) => {
+            let end = End::Refused;
+            Ok(Answer { text, end })
+        }
+        NetRead::Net(net) => {
+            let answer = tabled(alloc, &net, None, bounds, columns)?;
+            Ok(answer)
+        }
+    }
+}
+
+/// What a term, or a net, costs by each way that has a column, side by side. Nothing is reckoned
+/// for a way that has none.
+///
+/// - `run`, `demand`: of each rule how often the run applies it, all interactions, and how many
+///   pairs are stuck in the net that is left.
+/// - `leftmost`, `applicative`: how many beta steps that order makes to its end.
+/// - `need`: how many beta steps the machine of call-by-need makes to the normal form (`need_count`
+///   of `ol_need`).
+///
+/// The ways that aren't runs of the net have beta steps alone. If no run is shown, the row of beta
+/// steps is the only one.
+///
+/// A hyphen stands where there is nothing to count: of a net alone only runs are counted. It also
+/// stands in a column whose way goes on beyond its bound. For an order that is beyond `steps`, or
+/// to a term of more than 100,000 constructors or of more than 1,000 of them one within another.
+/// For `need` it is beyond `moves`.
+///
+/// - `Yes`: each way that is shown and that had something to count has ended.
+/// - `No`: one of them goes on, or there is no free port from which `demand` could read.
+/// - `Refused`: `ol` refuses the file, by this line.
+///
+/// The file has at most 1,048,576 bytes with a term, and 33,554,432 with a net. `NoMemory`: no
+/// memory was found.
+pub fn counted(
+    alloc: Global,
+    bytes: &[u8],
+    subject: Subject,
+    bounds: Bounds,
+    columns: Columns,
+) -> Result<Answer, NoMemory>
+    requires short { length bytes.now ≤ most_bytes subject }
+    ensures { IfOk result (λ a. IsCounted bytes.now bounds columns a.text.items subject a.end) }
+{
+    match subject {
+        Subject::Net => {
+            let answer = of_net_file(alloc, bytes, bounds, columns)?;
+            Ok(answer)
+        }
+        Subject::Term(translation) => {
+            let answer = of_term_file(alloc, bytes, translation, bounds, columns)?;
+            Ok(answer)
+        }
+    }
+}

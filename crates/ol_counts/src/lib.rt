@@ -1,0 +1,15 @@
+//! What a term costs by each way of reducing it, side by side.
+//!
+//! - `counting`: the command `counts`
+//! - `ways`: ways of reducing, and which of them are shown
+//! - `tallies`: what a way comes to
+//! - `tables`: the text
+#![tactic(auto)]
+
+mod counting;
+mod tables;
+mod tallies;
+mod ways;
+
+pub use counting::counted;
+pub use ways::{Bounds, Columns, Way};
