@@ -1,3 +1,6 @@
 pub mod Places
 pub mod Walks
 pub mod Told
+pub mod Right
+pub mod Unique
+pub mod NormalForms

@@ -1,12 +1,12 @@
 -- Names in a table.
 use Rattle.std.proofs.Common.{◌≡◌, ℕ, suc, ◌+◌, ◌<◌, ◌≤◌, List, [], ◌∷◌, ◌++◌, length, Option, Some, None, cond, refl, sym, ap, ◌∙◌, arith}
-use Rattle.std.specs.Prelude.{◌≢◌, max, slice_get, slice_index_or}
+use Rattle.std.specs.Prelude.{◌≢◌, ◌&&◌, true, max, slice_get, slice_index_or}
 use Rattle.std.specs.List.{position_from}
 use Rattle.std.specs.Str.{bytes_eq}
 use Rattle.std.proofs.lemmas.List.{append-nil}
 use Rattle.ol_term.proofs.BinderTexts.{not_same}
 use Rattle.ol_term.specs.Trees as tree
-use Rattle.ol_term.specs.Trees.{Tree, term_size, depth}
+use Rattle.ol_term.specs.Trees.{Tree, term_size, depth, is_below}
 use Rattle.ol_beta.specs.Beta.{IsWithin}
 use Rattle.ol_term.specs.NameLists.{IsFirstPlace}
 use Rattle.ol_parse.specs.Grammar.{var}
@@ -75,3 +75,14 @@ within_kept table names t u e w =
     let d = ap depth e ∙ depth_kept table names t in
     let a = w.0 in
     let b = w.1 in (omega (arith, s, a), omega (arith, d, b))
+
+free_below : (d : ℕ) (o : Option ℕ) → is_below d (free_at o) ≡ true
+free_below d None = refl
+free_below d (Some k) = refl
+
+pub below_kept : (table names : List (List ℕ)) (t : Tree) (d : ℕ) → is_below d (in_table table names t) ≡ is_below d t
+below_kept table names (tree.var k) d = refl
+below_kept table names (tree.free k) d = free_below d (position_of (slice_index_or names k []) table)
+below_kept table names (tree.lam t) d = below_kept table names t (d + 1)
+below_kept table names (tree.app f a) d = ap (λ b. b && is_below d (in_table table names a)) (below_kept table names f d)
+    ∙ ap (λ b. is_below d f && b) (below_kept table names a d)

@@ -3,6 +3,7 @@ use Rattle.std.proofs.Common.{◌≡◌, ℕ, zero, suc, ◌+◌, ◌<◌, Bool,
 use Rattle.std.specs.Prelude.{◌&&◌, ◌≤◌, get_or, map, slice_get}
 use Rattle.std.specs.Borrow.{Bor}
 use Rattle.ol_parse.specs.Numbered.{position_of}
+use Rattle.ol_derivations.specs.Lines.{all_left_out}
 use Rattle.ol_derivations.specs.Tables.{put_unless, with_names}
 use Rattle.ol_derivations.specs.Derivations.{Terms, no_terms, IsLine, AreLines, none, more}
 
@@ -68,3 +69,10 @@ none_left [] zero l = refl
 none_left [] (suc k) l = refl
 none_left (y ∷ items) zero l = absurd (omega arith)
 none_left (y ∷ items) (suc k) l = none_left items k (omega arith)
+
+-- whether all lines are left out, as it is found
+pub sheet : (items now : List (Bor (List ℕ))) (lines : List (List ℕ)) (found b : Bool) →
+    map (λ x. x.now) items ≡ lines → now ≡ items → found ≡ all_left_out (map (λ x. x.now) now) → found ≡ b →
+    all_left_out lines ≡ b
+sheet items now lines found b e d f g =
+    ap all_left_out (sym e) ∙ ap (λ (xs : List (Bor (List ℕ))). all_left_out (map (λ x. x.now) xs)) (sym d) ∙ sym f ∙ g

@@ -3,16 +3,18 @@ use Rattle.std.specs.Prelude.{◌≡◌, ℕ, ◌+◌, ◌<◌, ◌≤◌, Bool,
 use Rattle.std.specs.Prelude.{Option, Some, None, codes}
 use Rattle.std.specs.Fmt.{decimal}
 use Rattle.ol_limits.specs.Limits.{most_depth, most_size, most_term_bytes}
-use Rattle.ol_term.specs.Trees.{Tree, term_size, depth}
+use Rattle.ol_term.specs.Trees.{Tree, tree_of, term_size, depth}
 use Rattle.ol_parse.specs.Texts.{IsRefusedAt}
 use Rattle.ol_parse.specs.Parsed.{IsFileOf, IsTooDeep}
 use Rattle.ol_beta.specs.Beta.{IsWithin}
 use Rattle.ol_subjects.specs.declared.answers.End.{End}
 use Rattle.ol_subjects.specs.declared.answers.End.TheVariants.{Yes, No}
-use Rattle.ol_derivations.specs.Lines.{lines_of, is_left_out}
+use Rattle.ol_derivations.specs.Lines.{lines_of, is_left_out, all_left_out}
 use Rattle.ol_derivations.specs.Tables.{with_names, in_table}
 use Rattle.ol_derivations.specs.Verdicts.{IsVerdict, is_fine, verdict_words}
 use Rattle.ol_derivations.specs.declared.judging.Verdict.{Verdict}
+use Rattle.ol_derivations.specs.declared.lines.Read as reads
+use Rattle.ol_derivations.specs.declared.lines.Read.TheVariants as read
 
 -- a line is a text of this term, from which beta steps are made
 pub record IsTermLine (line : List ℕ) (t : Tree) (names : List (List ℕ)) : Type 0 where
@@ -30,6 +32,12 @@ pub data IsNoTermLine (line : List ℕ) : List ℕ → Type 0 where
       IsNoTermLine line (codes "limit depth 1000")
   large : {t : Tree} {names : List (List ℕ)} → length line ≤ most_term_bytes → IsFileOf line t names →
       depth t ≤ most_depth → most_size < term_size t → IsNoTermLine line (codes "limit size 100000")
+
+-- what a line has
+abbrev pub IsRead : List ℕ → reads.Read → Type 0
+IsRead line read.LeftOut = is_left_out line ≡ true
+IsRead line (read.NoTerm words) = (is_left_out line ≡ false) × IsNoTermLine line words.items
+IsRead line (read.Term file) = (is_left_out line ≡ false) × IsTermLine line (tree_of file.term) file.names
 
 -- some words about line n
 abbrev pub line_text : ℕ → List ℕ → List ℕ
@@ -72,8 +80,9 @@ pub data AreLines : ℕ → Terms → List (List ℕ) → List ℕ → Bool → 
       {lines : List (List ℕ)} → IsLine n line terms after told fine →
       AreLines (n + 1) after lines text all → AreLines n terms (line ∷ lines) (told ++ text) (fine && all)
 
--- The answer to a file: what is said of its lines, which are counted from 1, and Yes where all are fine.
-pub record IsDerivation (bytes text : List ℕ) (e : End) : Type 0 where
-  pub fine : Bool
-  pub lines : AreLines 1 no_terms (lines_of bytes) text fine
-  pub end : e ≡ (if fine then Yes else No)
+-- The answer to a file: what is said of its lines, which are counted from 1, and Yes if all are fine. A file all of whose
+-- lines are left out is no derivation.
+pub data IsDerivation (bytes : List ℕ) : List ℕ → End → Type 0 where
+  nothing : all_left_out (lines_of bytes) ≡ true → IsDerivation bytes (codes "no term\n") No
+  said : {text : List ℕ} {fine : Bool} → all_left_out (lines_of bytes) ≡ false →
+      AreLines 1 no_terms (lines_of bytes) text fine → IsDerivation bytes text (if fine then Yes else No)

@@ -1,14 +1,14 @@
 -- Private: what is found on the way to an answer.
-use Rattle.std.specs.Prelude.{◌≡◌, ℕ, ◌+◌, ◌<◌, true, false, List, Option, Some, None, reverse}
+use Rattle.std.specs.Prelude.{◌≡◌, ℕ, ◌+◌, ◌<◌, List, Option, Some, None, reverse}
 use Rattle.std.specs.Option.{option_map}
 use Rattle.std.specs.declared.vec.Vec.{Vec}
 use Rattle.std.specs.declared.alloc.Global.{Global}
 use Rattle.ol_term.specs.Trees.{Tree, tree_of, term_size}
 use Rattle.ol_derivations.specs.Steps.{IsFirstStep, IsNoStep}
-use Rattle.ol_derivations.specs.Lines.{is_left_out}
-use Rattle.ol_derivations.specs.Derivations.{Terms, IsTermLine, IsNoTermLine}
-use Rattle.ol_derivations.specs.declared.lines.Read as reads
-use Rattle.ol_derivations.specs.declared.lines.Read.TheVariants as read
+use Rattle.ol_derivations.specs.NormalForms.{ReducesTo}
+use Rattle.ol_derivations.specs.declared.forms.Normal.{Normal}
+use Rattle.ol_derivations.specs.declared.forms.Normal.TheVariants.{Itself, Form, Unknown}
+use Rattle.ol_derivations.specs.Derivations.{Terms}
 use Rattle.ol_derivations.specs.declared.holding.Last.{Last}
 use Rattle.ol_derivations.specs.declared.holding.Sofar.{Sofar}
 
@@ -21,11 +21,15 @@ IsStepFound t u (Some at) = IsFirstStep t u at
 abbrev pub address_of : Option (Vec ℕ Global) → Option (List ℕ)
 address_of found = option_map (λ moves. reverse moves.items) found
 
--- what a line has
-abbrev pub IsRead : List ℕ → reads.Read → Type 0
-IsRead line read.LeftOut = is_left_out line ≡ true
-IsRead line (read.NoTerm words) = (is_left_out line ≡ false) × IsNoTermLine line words.items
-IsRead line (read.Term file) = (is_left_out line ≡ false) × IsTermLine line (tree_of file.term) file.names
+-- the one normal form that leftmost reduction finds within so many steps, or none
+abbrev pub IsNormalFound : ℕ → Tree → Option Tree → Type 0
+IsNormalFound most t None = (v : Tree) → ReducesTo most t v → ⊥
+IsNormalFound most t (Some v) = ReducesTo most t v × ((w : Tree) → ReducesTo most t w → w ≡ v)
+
+abbrev pub form_in : Tree → Normal → Option Tree
+form_in t Itself = Some t
+form_in t (Form v) = Some (tree_of v)
+form_in t Unknown = None
 
 -- how many constructors more a term may have, or that it has too many
 abbrev pub IsLeft : ℕ → Tree → Option ℕ → Type 0

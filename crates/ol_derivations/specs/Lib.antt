@@ -2,7 +2,9 @@
 pub mod Lines
 pub mod Tables
 pub mod Steps
+pub mod NormalForms
 pub mod Verdicts
 pub mod Derivations
+pub mod Laws
 -- What only contracts of private functions and proofs cite.
 pub mod Inside

@@ -1,6 +1,7 @@
 //! The terms so far.
 
-ghost use Rattle.ol_term.specs.Trees.{tree_of};
+ghost use Rattle.std.specs.Prelude.{◌≡◌, true};
+ghost use Rattle.ol_term.specs.Trees.{tree_of, is_below};
 ghost use Rattle.ol_beta.specs.Beta.{IsWithin};
 
 use ol_term::{Names, Term};
@@ -11,6 +12,7 @@ pub struct Last {
     pub line: usize,
     pub term: Term,
     pub ghost within: { IsWithin (tree_of term) },
+    pub ghost bound: { is_below 0 (tree_of term) ≡ true },
 }
 
 /// The terms so far: the table of their free names, and the last one.

@@ -1,16 +1,20 @@
 //! The verdict on a term of a derivation, by the one before it.
 
 ghost use Rattle.std.specs.Prelude.{◌≡◌, ◌↔◌, ◌≤◌, true, Some, IfOk};
-ghost use Rattle.ol_term.specs.Trees.{tree_of};
+ghost use Rattle.ol_term.specs.Trees.{tree_of, is_below};
 ghost use Rattle.ol_beta.specs.Beta.{IsWithin};
 ghost use Rattle.ol_beta.specs.Leftmost.{leftmost};
 ghost use Rattle.ol_derivations.specs.Verdicts.{IsVerdict, is_fine};
 
+use crate::forms::differ;
 use crate::stepping::step_found;
 use ol_beta::{Address, redex};
 use ol_memory::NoMemory;
 use ol_term::{Term, alpha_eq};
 use std::alloc::Global;
+
+// The most leftmost steps from a term to its normal form.
+const MOST_LEFTMOST: u32 = 1000;
 
 /// What is said of a term, by the one before it. The first that fits is the verdict.
 #[derive(Debug, Drop)]
@@ -21,6 +25,8 @@ pub enum Verdict {
     Step { at: Vec<u8>, leftmost: bool },
     /// It is the same term, up to the names of binders.
     Same,
+    /// Leftmost reduction of both ends in different normal forms, by at most 1,000 steps each.
+    Apart,
     /// No beta step leads to it.
     NoStep,
 }
@@ -33,6 +39,7 @@ impl Verdict {
         match self {
             Verdict::Step { .. } => true,
             Verdict::Same => true,
+            Verdict::Apart => false,
             Verdict::NoStep => false,
         }
     }
@@ -66,10 +73,12 @@ fn is_leftmost(alloc: Global, t: &Term, at: &[u8]) -> Result<bool, NoMemory>
 
 /// The verdict on u, by the term t before it.
 ///
-/// Of t, at most 1,000 constructors stand one within another, and it has at most 100,000.
+/// Of each, at most 1,000 constructors stand one within another, it has at most 100,000, and each
+/// `Var` is bound.
 /// `NoMemory`: no memory was found.
 pub fn judge(alloc: Global, t: &Term, u: &Term) -> Result<Verdict, NoMemory>
-    requires within { IsWithin (tree_of t.now) }
+    requires first { IsWithin (tree_of t.now) × (is_below 0 (tree_of t.now) ≡ true) }
+    requires second { IsWithin (tree_of u.now) × (is_below 0 (tree_of u.now) ≡ true) }
     ensures { IfOk result (IsVerdict (tree_of t.now) (tree_of u.now)) }
 {
     match step_found(alloc, t, u)? {
@@ -82,6 +91,8 @@ pub fn judge(alloc: Global, t: &Term, u: &Term) -> Result<Verdict, NoMemory>
         None => {
             if alpha_eq(t, u) {
                 Ok(Verdict::Same)
+            } else if differ(alloc, t, u, MOST_LEFTMOST)? {
+                Ok(Verdict::Apart)
             } else {
                 Ok(Verdict::NoStep)
             }

@@ -3,8 +3,9 @@
 ghost use Rattle.std.specs.Prelude.{◌≡◌, ◌+◌, ◌++◌, map, codes, IfOk};
 ghost use Rattle.std.specs.Fmt.{decimal};
 ghost use Rattle.ol_term.specs.Trees.{tree_of};
-ghost use Rattle.ol_derivations.specs.Lines.{lines_of, is_blank, is_left_out};
-ghost use Rattle.ol_derivations.specs.Inside.{IsRead, IsLeft};
+ghost use Rattle.ol_derivations.specs.Lines.{lines_of, is_blank, is_left_out, all_left_out};
+ghost use Rattle.ol_derivations.specs.Derivations.{IsRead};
+ghost use Rattle.ol_derivations.specs.Inside.{IsLeft};
 
 use ol_limits::{MOST_SIZE, MOST_TERM_BYTES};
 use ol_memory::NoMemory;
@@ -49,6 +50,18 @@ fn is_left_out(line: &[u8]) -> bool
     true
 }
 
+/// Whether each line is left out.
+pub fn all_left_out(lines: &[&[u8]]) -> bool
+    ensures { result ≡ all_left_out (map (λ x. x.now) lines.now) }
+{
+    for k in 0..lines.len() {
+        if !is_left_out(lines[k]) {
+            return false;
+        }
+    }
+    true
+}
+
 // How many constructors more than those of a term there may be. None comes exactly where the term
 // has more than `most`. The call is as deep as the term.
 #[tactic(auto, using(ol_beta::proofs::Searching::size_positive))]
@@ -69,7 +82,8 @@ fn left_of(term: &Term, most: u32) -> Option<u32>
     }
 }
 
-fn words_of(alloc: Global, words: &[u8]) -> Result<Vec<u8>, NoMemory>
+/// A text of its own with these words.
+pub fn words_of(alloc: Global, words: &[u8]) -> Result<Vec<u8>, NoMemory>
     ensures { IfOk result (λ text. text.items ≡ words.now) }
 {
     let mut text = Vec::new(alloc);
@@ -87,7 +101,9 @@ fn syntax_words(alloc: Global, at: u64) -> Result<Vec<u8>, NoMemory>
     Ok(text)
 }
 
-/// What a line has.
+/// What a line has. `LeftOut`: it is empty, or begins with `#`, also behind blanks. `NoTerm`: it has
+/// more than 1,048,576 bytes, isn't in the grammar, or has a term that is deeper than 1,000 or larger
+/// than 100,000. `NoMemory`: no memory was found.
 pub fn read_line(alloc: Global, line: &[u8]) -> Result<Read, NoMemory>
     ensures { IfOk result (IsRead line.now) }
 {

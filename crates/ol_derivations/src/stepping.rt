@@ -123,30 +123,19 @@ pub fn step_found(alloc: Global, t: &Term, u: &Term) -> Result<Option<Vec<u8>>, 
             let Term::App(after, beside) = u else {
                 return Ok(None);
             };
-            match (alpha_eq(function, after), alpha_eq(argument, beside)) {
-                (false, false) => Ok(None),
-                (false, true) => {
-                    let inside = step_found(alloc, function, after)?;
+            if alpha_eq(argument, beside) {
+                let inside = step_found(alloc, function, after)?;
+                if inside.is_some() || !alpha_eq(function, after) {
                     let found = further(inside, 1)?;
-                    Ok(found)
+                    return Ok(found);
                 }
-                (true, false) => {
-                    let inside = step_found(alloc, argument, beside)?;
-                    let found = further(inside, 2)?;
-                    Ok(found)
-                }
-                (true, true) => match step_found(alloc, function, after)? {
-                    Some(moves) => {
-                        let found = further(Some(moves), 1)?;
-                        Ok(found)
-                    }
-                    None => {
-                        let inside = step_found(alloc, argument, beside)?;
-                        let found = further(inside, 2)?;
-                        Ok(found)
-                    }
-                },
             }
+            if !alpha_eq(function, after) {
+                return Ok(None);
+            }
+            let inside = step_found(alloc, argument, beside)?;
+            let found = further(inside, 2)?;
+            Ok(found)
         }
     }
 }

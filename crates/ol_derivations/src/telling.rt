@@ -61,6 +61,11 @@ fn verdict_words(alloc: Global, m: usize, verdict: &Verdict) -> Result<Vec<u8>, 
             put(&mut text, b"the same term")?;
             Ok(text)
         }
+        Verdict::Apart => {
+            let mut text = Vec::new(alloc);
+            put(&mut text, b"not convertible")?;
+            Ok(text)
+        }
         Verdict::NoStep => {
             let mut text = Vec::new(alloc);
             put(&mut text, b"no beta step of line ")?;

@@ -1,7 +1,7 @@
 //! A whole derivation, line by line.
 
-ghost use Rattle.std.specs.Prelude.{◌≡◌, ◌<◌, ◌^◌, ◌++◌, [], true, if◌then◌else◌, IfOk, OnOk};
-ghost use Rattle.ol_term.specs.Trees.{tree_of};
+ghost use Rattle.std.specs.Prelude.{◌≡◌, ◌<◌, ◌^◌, ◌++◌, [], true, codes, if◌then◌else◌, IfOk, OnOk};
+ghost use Rattle.ol_term.specs.Trees.{tree_of, is_below};
 ghost use Rattle.ol_beta.specs.Beta.{IsWithin};
 ghost use Rattle.ol_derivations.specs.Tables.{with_names, in_table};
 ghost use Rattle.ol_derivations.specs.Derivations.{IsTermLine, IsTold, IsLine, IsDerivation, with_term};
@@ -9,7 +9,7 @@ ghost use Rattle.ol_derivations.specs.Inside.{last_of, terms_of};
 
 use crate::holding::{Last, Sofar};
 use crate::judging::judge;
-use crate::lines::{Read, lines_of, read_line};
+use crate::lines::{Read, all_left_out, lines_of, read_line};
 use crate::tables::{add_names, renumber};
 use crate::telling::{line_text, verdict_line};
 use ol_memory::NoMemory;
@@ -37,6 +37,8 @@ fn nothing(alloc: Global) -> Told
 
 // What is said of the term of line n, by the last one before it.
 fn told_of(alloc: Global, last: &Option<Last>, n: usize, term: &Term) -> Result<Told, NoMemory>
+    requires within { IsWithin (tree_of term.now) }
+    requires bound { is_below 0 (tree_of term.now) ≡ true }
     ensures { IfOk result (λ told.
         IsTold n (tree_of term.now) (last_of last.now) told.text.items told.fine) }
 {
@@ -94,26 +96,42 @@ fn end_of(fine: bool) -> End
     if fine { End::Yes } else { End::No }
 }
 
+// The answer to a file without a term.
+fn no_derivation(alloc: Global) -> Result<Answer, NoMemory>
+    ensures text { IfOk result (λ a. a.text.items ≡ codes "no term\n") }
+    ensures end { IfOk result (λ a. a.end ≡ End.No) }
+{
+    let mut text = Vec::new(alloc);
+    put(&mut text, b"no term\n")?;
+    let end = End::No;
+    Ok(Answer { text, end })
+}
+
 /// What is said of a derivation: a file with one term a line, each a text of the grammar. Empty
 /// lines and those that begin with `#` are left out of account, also behind blanks. Lines are
 /// counted from 1. A free name is the same in all lines.
 ///
 /// Each term behind the first gets a line: `one beta step, at A`, where A is the first address in
 /// preorder at which contraction of the term before gives it, with `, leftmost` where that is the
-/// leftmost redex; else `the same term`, up to names of binders; else `no beta step of line M`,
-/// where M is the line of the term before. So does each line without a term from which beta steps
-/// are made: `syntax, column C`, with the first byte, counted from 1, from which on it isn't in the
-/// grammar; `limit bytes 1048576`; `limit depth 1000`; or `limit size 100000`. The term behind such
-/// a line is judged by the last term before it.
+/// leftmost redex; else `the same term`, up to names of binders; else `not convertible`, where
+/// leftmost reduction of both ends in different normal forms, by at most 1,000 steps each; else `no
+/// beta step of line M`, where M is the line of the term before. So does each line without a term
+/// from which beta steps are made: `syntax, column C`, with the first byte, counted from 1, from
+/// which on it isn't in the grammar; `limit bytes 1048576`; `limit depth 1000`; or `limit size
+/// 100000`. The term behind such a line is judged by the last term before it.
 ///
-/// - `Yes`: each line is one beta step, or the same term.
-/// - `No`: some line isn't.
+/// - `Yes`: there is a term, and each line is one beta step, or the same term.
+/// - `No`: some line isn't; or there is no line but those left out, and the answer is `no term`.
 ///
 /// `NoMemory`: no memory was found.
 pub fn derivation(alloc: Global, bytes: &[u8]) -> Result<Answer, NoMemory>
     ensures { IfOk result (λ a. IsDerivation bytes.now a.text.items a.end) }
 {
     let lines = lines_of(alloc, bytes)?;
+    if all_left_out(&lines) {
+        let answer = no_derivation(alloc)?;
+        return Ok(answer);
+    }
     let mut sofar = Sofar {
         table: Names::new(alloc),
         last: None,

@@ -1,7 +1,7 @@
 use Rattle.std.proofs.Common.{◌≡◌, rules, refl, ap, ◌∙◌, subst}
 use Rattle.ol_term.specs.Trees.{tree_of}
-use Rattle.ol_derivations.specs.Derivations.{line_text}
-use Rattle.ol_derivations.specs.Inside.{IsRead, terms_of}
+use Rattle.ol_derivations.specs.Derivations.{IsRead, line_text}
+use Rattle.ol_derivations.specs.Inside.{terms_of}
 use Rattle.ol_derivations.specs.declared.lines.Read.{Read}
 use Rattle.ol_derivations.specs.declared.lines.Read.TheVariants as read
 use Rattle.ol_derivations.proofs.Told.{line_left_out, line_no_term, line_term}

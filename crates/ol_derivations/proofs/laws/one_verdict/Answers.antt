@@ -1,0 +1,5 @@
+use Rattle.ol_derivations.proofs.Unique as proof
+use Rattle.ol_derivations.proofs.laws.one_verdict.Goals as goal
+
+pub returns : goal.returns
+returns c = proof.one_verdict
