@@ -1,0 +1,8 @@
+-- What clauses of public functions rest on.
+pub mod Values
+pub mod Told
+pub mod Shown
+pub mod Laws
+-- What only contracts of private functions and proofs cite.
+pub mod Decoders
+pub mod Inside
