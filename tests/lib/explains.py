@@ -4,7 +4,8 @@
 
 N terms are drawn at random, 1,000 where nothing is said, and the journal of each is that of `ol-bench journal`, in the
 first or the second form. Of one in three only the first lines are taken, and of these terms some have many redexes; in
-the others something is changed in one line: a name, the rule, the wave, or the order of the names. The first line of
+the others something is changed in one line: a name, its place, the rule, the wave, or the order of the names. Some journals are
+those of translation 1. The first line of
 `explain` has to be that of `ol check`, and below it has to stand what the plain runtime of tests/vectors has to say: of
 a line that isn't one of a run its cause, and of a run that isn't complete the pairs that are left. Each of these lines is
 put behind the journal, and `ol check` has to find one entry more. Then some bytes of the text are changed, twice; where
@@ -50,6 +51,12 @@ def cause(view, entries, line, told):
             return f"{name} is gone, by line {by[0]}"
         return f"line {int(name.split('.')[0]) + 2} made no {name}" if "." in name else f"the net has no node {name}"
     x, y = names.index(first), names.index(second)
+    for node, named in ((x, second), (y, first)):
+        place = net.linked[node, 0]
+        if place[0] != "f" and place[1] == 0 and "." in named:
+            faced, ticket = names[place[0]], named.split(".")[0]
+            if faced != named and faced.split(".")[0] == ticket and "." in faced:
+                return f"{names[node]} faces {faced}: the copies of line {int(ticket) + 2} are numbered otherwise"
     place = net.linked[x, 0]
     if place[0] == "f":
         return f"{first} faces free port {place[1]}"
@@ -62,17 +69,28 @@ def cause(view, entries, line, told):
     if told and told[0] != rule:
         return f"the rule is {rule}"
     wave = 1 + weights[x, 0]
-    return f"the wave is {wave}" if told and int(told[1]) != wave else None
+    return f"the wave is {wave}: {joined(view, entries, first, second)}, of weight {wave - 1}" if told and int(told[1]) != wave else None
+
+
+def joined(view, entries, first, second):
+    """By which line the link of these two came: the first net after which they are joined."""
+    for count in range(len(entries) + 1):
+        net, names, _ = plain.replayed(view, entries[:count])
+        if first in names and second in names and net.linked.get((names.index(first), 0)) == (names.index(second), 0):
+            return f"line {count + 1} made the link" if count else "the first net has the link"
 
 
 def changed(chance, lines, at):
     """A line of a journal with something else in it."""
     rule, wave, first, second = lines[at].split()
-    what = chance.choice(["rule", "wave", "first", "second", "both"])
+    what = chance.choice(["rule", "wave", "first", "second", "both", "copy"])
     if what == "rule":
         rule = chance.choice(["beta", "fan", "croissant", "bracket", "cross-fan", "cross-croissant", "erase"])
     elif what == "wave":
         wave = str(chance.randint(1, 9))
+    elif what == "copy":
+        first, second = (name if "." not in name else f"{name.split('.')[0]}.{chance.randint(0, 3)}" for name in (first, second))
+        first, second = sorted((first, second), key=key)
     else:
         known = [name for line in lines[1:] for name in line.split()[2:]]
         drawn = lambda: chance.choice(known + [f"{chance.randint(0, len(lines))}.{chance.randint(0, 3)}", str(chance.randint(0, 30))])
@@ -160,6 +178,9 @@ def journal_fault(view, form, entries, file, programs, causes):
         bad = int(found.split()[-1]) - 2
         why = cause(view, told[:bad], told[bad], told[bad].split()[:2] if form == 2 else None)
         wanted_answer += f"{why}\n"
+        if answer(ol, ["check", "--translation", "1", file, "-"], text)[1].startswith(("complete", "run ")):
+            wanted_answer += "it is a run of translation 1\n"
+            causes["a run of translation 1"] += 1
         causes[" ".join(word for word in str(why).split() if not word[0].isdigit())] += 1
     if found.startswith("run "):
         more_told, more = left(view, told)
@@ -178,8 +199,9 @@ def faults_in(file, programs, chance, causes, whole):
     """What is wrong with what is said of a journal of the term: a changed one, or, where it isn't to be whole, its first lines."""
     ol, ol_bench = programs
     view = answer(ol, ["view", file])[1]
-    order = chance.choice(["least", "demand"])
-    lines = answer(ol_bench, ["journal", "--order", order, "--fuel", "200", file])[1].splitlines()
+    order, translation = chance.choice(["least", "demand"]), chance.choice("12222")
+    asked = ["--order", order, "--translation", translation, "--fuel", "200", file]
+    lines = answer(ol_bench, ["journal", *asked])[1].splitlines()
     if len(lines) < 2:
         return
     at = chance.randint(1, len(lines) - 1)

@@ -1,5 +1,5 @@
 -- A pair that waits has one wave, whether others that wait are rewritten before it or not.
-use Rattle.std.proofs.Common.{◌≡◌, ℕ, suc, ◌+◌, ◌≤◌, List, [], ◌∷◌, ◌++◌, length, inl, inr, Some}
+use Rattle.std.proofs.Common.{◌≡◌, ℕ, suc, ◌+◌, List, [], ◌∷◌, ◌++◌, length, inl, inr, Some}
 use Rattle.std.proofs.Common.{refl, sym, ap, ◌∙◌, subst, arith}
 use Rattle.ol_law_edges.specs.Edges.{IsIn, Edge, on, here}
 use Rattle.ol_law_edges.proofs.Composing.{HasEdge, edge_of_apart, contracted_swap}
@@ -24,7 +24,7 @@ use Rattle.ol_diamond.proofs.WaveEntries.{IsWaveEntry, WavedRun, ends, goes, ent
 use Rattle.ol_diamond.proofs.WaveSteps.{step_has_wave}
 use Rattle.ol_explain.specs.Found.{IsOfPair}
 use Rattle.ol_replay.specs.Replays.{AreRising}
-use Rattle.ol_explain.proofs.Waits.{AreNamed, AllWait, steps, faces_of, apart, apart_named, all_stay}
+use Rattle.ol_explain.proofs.Waits.{AllWait, steps, faces_of, apart, apart_named, all_stay}
 
 -- a link weighs as much from either end
 abbrev pub Balanced : WeightedNet NodeName → Type 0

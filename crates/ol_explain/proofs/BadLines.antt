@@ -1,5 +1,5 @@
 -- A journal that was followed to a line that is none of the grammar, and what `explain` says of it.
-use Rattle.std.proofs.Common.{◌≡◌, ◌≢◌, ℕ, ◌+◌, ◌<◌, ◌≤◌, List, [], ◌∷◌, ◌++◌, length, length-drop, drop, Option, None, Some, ◌⊎◌, inl, inr}
+use Rattle.std.proofs.Common.{◌≡◌, ℕ, ◌+◌, ◌<◌, ◌≤◌, List, ◌++◌, length, length-drop, drop, None, ◌⊎◌, inl, inr}
 use Rattle.std.proofs.Common.{refl, sym, ap, ◌∙◌, subst, arith}
 use Rattle.std.specs.Prelude.{codes}
 use Rattle.ol_net.specs.Graph.{Graph}
@@ -16,7 +16,7 @@ use Rattle.ol_replay.specs.Replays.{net_here}
 use Rattle.ol_explain.specs.Wanted.{IsReached, bytes_at, end_at}
 use Rattle.ol_explain.specs.Wanted as wanted
 use Rattle.ol_explain.specs.Fields.{IsBrokenBy, IsBadBy, broken, unordered}
-use Rattle.ol_explain.proofs.Told.{IsGood, at_good, IsNoLine}
+use Rattle.ol_explain.proofs.Told.{at_good, IsNoLine}
 use Rattle.ol_explain.proofs.Reasoned.{full}
 
 pub at_the_header : (old : Graph) (text out : List ℕ) → IsFound (start_net_of_graph old) text (BadText 1) →

@@ -1,5 +1,5 @@
 -- Fields of a line: how they begin, what ends them, and what is left behind them.
-use Rattle.std.proofs.Common.{◌≡◌, ◌≢◌, ℕ, suc, ◌+◌, ◌-◌, ◌*◌, ◌<◌, ◌≤◌, Bool, true, false, if◌then◌else◌, ◌&&◌, ◌==◌, nat_le}
+use Rattle.std.proofs.Common.{◌≡◌, ◌≢◌, ℕ, ◌+◌, ◌-◌, ◌*◌, ◌<◌, ◌≤◌, Bool, true, false, if◌then◌else◌, ◌&&◌, ◌==◌, nat_le}
 use Rattle.std.proofs.Common.{List, [], ◌∷◌, ◌++◌, append_assoc, length, length-append, length-drop, take, drop, get_or, eqb-true, eq-eqb, Option, None, Some}
 use Rattle.std.proofs.Common.{◌⊎◌, inl, inr, refl, sym, ap, ◌∙◌, subst, arith}
 use Rattle.std.specs.Prelude.{option_and_then, option_map, codes}
@@ -13,7 +13,7 @@ use Rattle.ol_rules.specs.declared.journal.NodeName.{NodeName}
 use Rattle.ol_rules.specs.declared.journal.NodeName.TheVariants.{Init, Born}
 use Rattle.ol_view.specs.declared.forms.Form.{Form}
 use Rattle.ol_view.specs.declared.forms.Form.TheVariants.{One, Two}
-use Rattle.ol_view.specs.TraceTexts.{name_text, line_text}
+use Rattle.ol_view.specs.TraceTexts.{name_text}
 use Rattle.ol_view.specs.RuleNames.{rule_text}
 use Rattle.ol_view.specs.Forms.{header_of}
 use Rattle.ol_view.specs.LineReading.{is_digit, number_on, front_number, place_on, name_on, front_name, behind, all_rules, front_rule}

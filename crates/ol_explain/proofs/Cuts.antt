@@ -1,17 +1,16 @@
 -- Where a line breaks off, told by its fields.
-use Rattle.std.proofs.Common.{◌≡◌, ◌≢◌, ℕ, suc, ◌+◌, ◌-◌, ◌<◌, ◌≤◌, Bool, true, false}
-use Rattle.std.proofs.Common.{List, [], ◌∷◌, ◌++◌, append_assoc, length, length-append, length-drop, take, drop, Option, None, Some}
-use Rattle.std.proofs.Common.{◌⊎◌, inl, inr, refl, sym, ap, ◌∙◌, subst, arith}
-use Rattle.std.specs.Prelude.{◌↔◌, codes}
+use Rattle.std.proofs.Common.{◌≡◌, ◌≢◌, ℕ, ◌+◌, ◌<◌, ◌≤◌, Bool, true, false}
+use Rattle.std.proofs.Common.{List, [], ◌∷◌, ◌++◌, append_assoc, length, length-append, length-drop, drop, Option, None, Some}
+use Rattle.std.proofs.Common.{inl, inr, refl, sym, ap, ◌∙◌, subst, arith}
+use Rattle.std.specs.Prelude.{codes}
 use Rattle.std.specs.List.{slice_range}
 use Rattle.std.specs.Fmt.{decimal}
-use Rattle.std.proofs.lemmas.List.{append-nil, append_cancel_right, drop-drop, length-take-le}
+use Rattle.std.proofs.lemmas.List.{append-nil, append_cancel_right, drop-drop}
 use Rattle.std.proofs.lemmas.List.Folds.{drop_split}
 use Rattle.ol_net.specs.declared.parts.Rule.{Rule}
 use Rattle.ol_net.specs.declared.parts.Rule.TheVariants as rule
 use Rattle.ol_rules.specs.declared.journal.NodeName.{NodeName}
-use Rattle.ol_rules.specs.declared.journal.NodeName.TheVariants.{Init, Born}
-use Rattle.ol_rules.specs.declared.journal.Entry.{Entry}
+use Rattle.ol_rules.specs.declared.journal.NodeName.TheVariants.{Init}
 use Rattle.ol_rules.specs.Names.{comes_before}
 use Rattle.ol_view.specs.declared.forms.Form.{Form}
 use Rattle.ol_view.specs.declared.forms.Form.TheVariants.{One, Two}
@@ -20,7 +19,6 @@ use Rattle.ol_view.specs.RuleNames.{rule_text}
 use Rattle.ol_view.specs.Checks.{HasNoLine}
 use Rattle.ol_explain.specs.declared.wanting.Field.{Field}
 use Rattle.ol_explain.specs.declared.wanting.Field.TheVariants as field
-use Rattle.ol_explain.specs.declared.wanting.Fault.{Fault}
 use Rattle.ol_explain.specs.declared.wanting.Fault.TheVariants as fault
 use Rattle.ol_explain.specs.Afters.{line_with}
 use Rattle.ol_explain.specs.Wanted.{IsLine, IsWanted, IsWhole, BreaksOff, AreThose, empty, with, without, bytes_at, greater_at}

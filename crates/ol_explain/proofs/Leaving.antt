@@ -1,17 +1,16 @@
 -- The pairs that are left after a run: what was found node by node, with the waves that a replay gives of the first.
-use Rattle.std.proofs.Common.{◌≡◌, ℕ, zero, suc, ◌+◌, ◌-◌, ◌<◌, ◌≤◌, List, [], ◌∷◌, ◌++◌, length, take, drop}
-use Rattle.std.proofs.Common.{true, ◌⊎◌, inl, inr, refl, sym, ap, ◌∙◌, subst, arith}
+use Rattle.std.proofs.Common.{◌≡◌, ℕ, zero, suc, ◌+◌, ◌-◌, ◌≤◌, List, [], ◌∷◌, ◌++◌, length, take, drop}
+use Rattle.std.proofs.Common.{inl, inr, refl, sym, ap, ◌∙◌, subst, arith}
 use Rattle.std.proofs.Common.{append_assoc, length-drop, Some}
 use Rattle.std.proofs.lemmas.List.{drop_at, take_all}
 use Rattle.std.specs.Prelude.{slice_get}
 use Rattle.ol_law_edges.specs.Edges.{IsIn}
 use Rattle.ol_net.specs.Graph.{Graph}
-use Rattle.ol_net.specs.Nets.{NamedNet, IsNet, SameNet}
+use Rattle.ol_net.specs.Nets.{NamedNet, IsNet}
 use Rattle.ol_net.specs.Numbered.{net_of}
 use Rattle.ol_rules.specs.declared.journal.NodeName.{NodeName}
 use Rattle.ol_rules.specs.declared.journal.Entry.{Entry}
 use Rattle.ol_rules.specs.Laws.{AreNamedBefore}
-use Rattle.ol_rules.specs.Names.{comes_before}
 use Rattle.ol_rules.specs.Runs.{IsRun}
 use Rattle.ol_rules.proofs.OneEnd.{one_end, step_net, step_before}
 use Rattle.ol_rules.proofs.Relation.{same_refl, same_sym}
@@ -20,7 +19,7 @@ use Rattle.ol_diamond.specs.Waves.{WeightedNet, weightless, AreWaves, IsWavesOf}
 use Rattle.ol_diamond.proofs.OneStep.{last_step}
 use Rattle.ol_diamond.proofs.OneThreadRuns.{run_net}
 use Rattle.ol_diamond.proofs.WaveEntries.{WavedRun, waved_on, run_of, waves_of_run}
-use Rattle.ol_diamond.proofs.WaveRuns.{WavedTo, waved_of, waves_to}
+use Rattle.ol_diamond.proofs.WaveRuns.{waved_of, waves_to}
 use Rattle.ol_diamond.proofs.WeightedJournals.{journal_has_one_waves}
 use Rattle.ol_view.specs.EachForm.{wave_line_text, wave_lines_text}
 use Rattle.ol_view.specs.Checks.{start_net_of_graph}
@@ -30,8 +29,8 @@ use Rattle.ol_explain.specs.Left.{GoesOnWith, AreInOrder, AreLeft, lines_of, mor
 use Rattle.ol_explain.specs.Found.{IsOfPair}
 use Rattle.ol_replay.specs.Replays.{AreRising}
 use Rattle.ol_explain.proofs.Waits.{AllWait, of_step, pair_same, run_all}
-use Rattle.ol_explain.proofs.Alone.{Balanced, balanced, balanced_first, IsNext, AllNext, all_next, others_next}
-use Rattle.ol_explain.proofs.Alone.{Parted, parted}
+use Rattle.ol_explain.proofs.Alone.{balanced, balanced_first, IsNext, AllNext, all_next, others_next}
+use Rattle.ol_explain.proofs.Alone.{parted}
 
 -- ---- entries and their waves, side by side
 

@@ -1,5 +1,5 @@
 -- The text of the pairs that are left, from what was found node by node and what a replay gave.
-use Rattle.std.proofs.Common.{◌≡◌, ℕ, ◌+◌, ◌≤◌, List, [], ◌∷◌, ◌++◌, length, length-append, length-take, take, drop}
+use Rattle.std.proofs.Common.{◌≡◌, ℕ, ◌+◌, ◌≤◌, List, [], ◌++◌, length, length-append, length-take, drop}
 use Rattle.std.proofs.Common.{refl, ap, ◌∙◌, subst, arith}
 use Rattle.ol_law_edges.specs.Edges.{IsIn}
 use Rattle.ol_net.specs.Graph.{Graph}
@@ -8,7 +8,7 @@ use Rattle.ol_net.specs.Numbered.{net_of}
 use Rattle.ol_rules.specs.declared.journal.NodeName.{NodeName}
 use Rattle.ol_rules.specs.declared.journal.Entry.{Entry}
 use Rattle.ol_rules.specs.Runs.{IsRun}
-use Rattle.ol_diamond.specs.Waves.{IsWavesOf, AreWaves}
+use Rattle.ol_diamond.specs.Waves.{IsWavesOf}
 use Rattle.ol_diamond.proofs.WeightedJournals.{journal_has_one_waves}
 use Rattle.ol_rules.proofs.StartNets.{start_net, start_named}
 use Rattle.ol_view.specs.declared.forms.Form.{Form}

@@ -1,9 +1,12 @@
+pub mod Steps
 pub mod Ways
+pub mod Unasked
 pub mod Told
 pub mod WhyNot
 pub mod Rules
 pub mod Breaks
 pub mod Cuts
+pub mod Joins
 pub mod Reasoned
 pub mod BadLines
 pub mod Waits

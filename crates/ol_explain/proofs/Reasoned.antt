@@ -1,10 +1,12 @@
 -- A journal that was followed, and what `explain` says of it.
-use Rattle.std.proofs.Common.{◌≡◌, ◌≢◌, ℕ, ◌+◌, ◌<◌, ◌≤◌, List, length, length-drop, drop, Option, ◌⊎◌, inl, inr}
+use Rattle.std.proofs.Common.{◌≡◌, ◌≢◌, ℕ, ◌+◌, ◌<◌, ◌≤◌, List, length, length-drop, drop, Option, None, Some, ◌⊎◌, inl, inr}
 use Rattle.std.proofs.Common.{refl, sym, ap, ◌∙◌, subst, arith}
 use Rattle.std.specs.Prelude.{IfSome}
 use Rattle.std.proofs.lemmas.List.{append-nil}
 use Rattle.std.proofs.Math.ListN.{drop_of_length-le}
 use Rattle.ol_net.specs.Graph.{Graph}
+use Rattle.ol_net.specs.Nets.{IsNet}
+use Rattle.ol_net.specs.Numbered.{net_of}
 use Rattle.ol_diamond.specs.declared.weighing.Rewritten.{Rewritten}
 use Rattle.ol_view.specs.declared.answers.Check.{Check}
 use Rattle.ol_view.specs.declared.answers.Check.TheVariants.{Complete, Run, BadText}
@@ -18,8 +20,9 @@ use Rattle.ol_replay.specs.declared.replaying.Replay.{Replay}
 use Rattle.ol_explain.specs.Explained.{cause_words, IsExplainedOf, not_a_run}
 use Rattle.ol_explain.specs.Followed.{Stops, otherwise}
 use Rattle.ol_replay.specs.Replays.{net_here}
-use Rattle.ol_explain.specs.Reasons.{IsOffBy}
+use Rattle.ol_explain.specs.Reasons.{AreJoined, IsOffBy}
 use Rattle.ol_explain.specs.Found.{IsToldBy}
+use Rattle.ol_explain.proofs.Joins.{joined_by}
 use Rattle.ol_explain.proofs.Told.{at_good}
 
 module _ (old : Graph) (text : List ℕ) (most : ℕ) (r : Replay) (at : ℕ) where
@@ -50,7 +53,7 @@ module _ (old : Graph) (text : List ℕ) (most : ℕ) (r : Replay) (at : ℕ) wh
 
   -- the cause that was found is that of the line
   pub explains : (line : Line) (made : Option Rewritten) → Stops old text most r at (stop.Otherwise line made) →
-      (out : List ℕ) → IsOffBy r line made out → IsExplainedOf old text out end.NotARun
+      (out : List ℕ) → IsOffBy old r line made out → IsExplainedOf old text out end.NotARun
   explains line made (otherwise {form = form} {waves = waves} t b f o) out off =
       not_a_run f (record {
         form = form;
@@ -65,10 +68,17 @@ module _ (old : Graph) (text : List ℕ) (most : ℕ) (r : Replay) (at : ℕ) wh
         line_is = refl;
         here = o.begins;
         cause = off.cause;
-        is = off.is form waves old text at o;
+        is = off.is form waves text at o;
         words_are = ap (λ a. cause_words a line.second off.cause) (sym o.first)
             ∙ ap (λ b. cause_words o.entry.first b off.cause) (sym o.second);
       }) off.text_is
+
+  -- what was made was made of two nodes that are joined
+  pub made_joined : IsNet (net_of old) → (line : Line) (made : Option Rewritten) →
+      Stops old text most r at (stop.Otherwise line made) → AreJoined r line made
+  made_joined net line None s = tt
+  made_joined net line (Some of) (otherwise {form = form} {waves = waves} t b f o) =
+      joined_by old net r form waves text at line of t o
 
   -- what was made isn't what the line tells
   pub made_wrong : (line : Line) (made : Option Rewritten) → Stops old text most r at (stop.Otherwise line made) →

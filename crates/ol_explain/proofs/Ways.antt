@@ -1,8 +1,7 @@
 -- A journal that is followed line by line: each line that is good is one entry more, and the run makes its step.
-use Rattle.std.proofs.Common.{◌≡◌, ◌≢◌, ℕ, suc, ◌+◌, ◌*◌, ◌<◌, ◌≤◌, true, List, [], ◌∷◌, ◌++◌}
-use Rattle.std.proofs.Common.{append_assoc, get_or, length, length-append, drop, Option, None, Some, ◌⊎◌, inl, inr}
+use Rattle.std.proofs.Common.{◌≡◌, ◌≢◌, ℕ, suc, ◌+◌, ◌*◌, ◌≤◌, true, List, [], ◌∷◌, ◌++◌}
+use Rattle.std.proofs.Common.{append_assoc, get_or, length, length-append, drop, Option, None, Some}
 use Rattle.std.proofs.Common.{refl, sym, ap, ◌∙◌, subst, arith}
-use Rattle.std.proofs.lemmas.Bool.{cases_lt}
 use Rattle.std.specs.Prelude.{IfSome, IfNone, IsSomeAnd}
 use Rattle.ol_net.specs.declared.parts.Rule.{Rule}
 use Rattle.ol_net.specs.Graph.{Graph}
@@ -12,7 +11,7 @@ use Rattle.ol_rules.specs.declared.journal.NodeName.{NodeName}
 use Rattle.ol_rules.specs.declared.journal.Entry.{Entry}
 use Rattle.ol_rules.specs.Names.{comes_before}
 use Rattle.ol_rules.specs.Runs.{IsEntryStep, IsRun}
-use Rattle.ol_rules.proofs.NameOrder.{Names, names_apart, names_after, not_before, not_before_itself}
+use Rattle.ol_rules.proofs.NameOrder.{Names, names_apart, names_after}
 use Rattle.ol_rules.proofs.OneEnd.{one_end}
 use Rattle.ol_rules.proofs.Relation.{same_refl, same_sym}
 use Rattle.ol_rules.proofs.Same.{active_same}
@@ -21,7 +20,6 @@ use Rattle.ol_diamond.specs.declared.weighing.Rewritten.{Rewritten}
 use Rattle.ol_diamond.specs.PortWeights.{WeighsEntry}
 use Rattle.ol_diamond.specs.Replaying.{AreIdle, AreIdleNumbers}
 use Rattle.ol_diamond.specs.Waves.{weightless}
-use Rattle.ol_diamond.proofs.OneStep.{one_entry_rule}
 use Rattle.ol_diamond.proofs.Replays.{Index, few_more}
 use Rattle.ol_diamond.proofs.WaveEntries.{IsWaveEntry, WavedRun, entry_of, waved_on, run_of, waves_of_run}
 use Rattle.ol_diamond.proofs.WaveRuns.{waves_to}
@@ -36,14 +34,13 @@ use Rattle.ol_view.specs.Checks.{start_net_of_graph, IsRunTold}
 use Rattle.ol_view.proofs.Entries.{Read, line_there, IsOfEntry, of_entry, first_tells_nothing}
 use Rattle.ol_view.proofs.Finding.{UnderWay}
 use Rattle.ol_view.proofs.FormTexts.{text_on}
-use Rattle.ol_view.proofs.OneVerdict.{not_idle}
 use Rattle.ol_view.proofs.Replays.{idle_names}
 use Rattle.ol_replay.specs.declared.replaying.Replay.{Replay}
-use Rattle.ol_replay.specs.Replays.{IsReplay, ReplaysPair, ReplaysNamed, AreApart}
+use Rattle.ol_replay.specs.Replays.{IsReplay, ReplaysNamed, AreApart}
 use Rattle.ol_explain.specs.Followed.{IsTold, IsOff}
 use Rattle.ol_replay.specs.Replays.{net_here}
-use Rattle.ol_replay.proofs.KeptRuns as kept
 use Rattle.ol_replay.proofs.KeptRuns.{run_named, advanced}
+use Rattle.ol_explain.proofs.Steps as steps
 
 -- The text up to `at` is the trace of the run of these entries, which leads to g.
 pub record Way (form : Form) (old : Graph) (text : List ℕ) (g : Graph) (bases weights : List ℕ)
@@ -143,25 +140,6 @@ module _ (form : Form) (old : Graph) (text : List ℕ) (g : Graph) (bases weight
             (start_named (net_of old)) w.is_run),
       )
 
-  names : Names (length old.nodes) (length r.net.nodes) (length r.run.journal) u.m
-  names = record { room = u.named.room; initial = u.named.initial; rising = u.named.rising; born = u.named.born }
-
-  index : Index r.numbers.bases.items (length r.net.nodes) (length r.run.journal) u.m
-  index = record { tickets = u.tickets; last = u.given; finds = u.finds; found = u.found }
-
-  -- the node of the smaller name has the smaller number
-  lesser : (x y : ℕ) → comes_before (u.m x) (u.m y) ≡ true → x < y
-  lesser x y b = go (cases_lt x y) (cases_lt y x)
-    where
-      go : (x < y) ⊎ (y ≤ x) → (y < x) ⊎ (x ≤ y) → x < y
-      go (inl l) k = l
-      go (inr l) (inl k) = let c = not_before (u.m y) (u.m x) (u.named.rising y x k) in absurd (cc)
-      go (inr l) (inr k) =
-          let e : x ≡ y = omega arith in
-          let d = not_before_itself (u.m y) in
-          let c : comes_before (u.m y) (u.m y) ≡ true = subst (λ z. comes_before (u.m z) (u.m y) ≡ true) e b in
-          absurd (cc)
-
   module _ (t : Option (Rule × ℕ)) (a b : NodeName) (rest : List ℕ) (d : length r.run.journal ≢ 8000000)
       (e : ◌≡◌ {A = Read} (front_entry form (drop at text)) (Some (t, a, b, rest)))
       (g' : Graph) (bases' weights' : List ℕ) (rule : Rule) (wave : ℕ)
@@ -192,14 +170,8 @@ module _ (form : Form) (old : Graph) (text : List ℕ) (g : Graph) (bases weight
 
     -- the run makes the step too
     pub not_apart : AreApart r a b → ⊥
-    not_apart apart = not_idle here (net_under u.m (net_of r.net)) there (length r.run.journal) own a b
-        (same_to (net_under u.m (net_of r.net)) u.run) entry_step refl refl
-        (idle_names r.net r.numbers.bases.items (length old.nodes) (length r.run.journal) u.m a b names index idle)
-      where
-        idle : AreIdleNumbers r.net r.numbers.bases.items a b
-        idle f h p q = apart f h p q (lesser f h
-            (subst (λ z. comes_before z (u.m h) ≡ true) (sym (u.found a f p).1)
-            (subst (λ z. comes_before a z ≡ true) (sym (u.found b h q).1) ordered)))
+    not_apart apart = steps.not_apart old r u here there (length r.run.journal) own entry_step
+        (same_to (net_under u.m (net_of r.net)) u.run) apart
 
     -- the run with this entry, in this wave
     pub runs : (next : NamedNet NodeName)
@@ -221,30 +193,11 @@ module _ (form : Form) (old : Graph) (text : List ℕ) (g : Graph) (bases weight
             (let q : 0 + length r.run.journal ≡ length r.run.journal = omega arith in q) w.is_run step
 
     module _ (r' : Replay) (adv : ReplaysNamed r r' a b) where
-      abbrev after : ReplaysPair r r' adv.x adv.y
-      after = adv.pair
-
-      is_first : u.m adv.x ≡ a
-      is_first = (u.found a adv.x adv.first_is).1
-
-      is_second : u.m adv.y ≡ b
-      is_second = (u.found b adv.y adv.second_is).1
-
-      one_rule : rule ≡ after.advances.rule
-      one_rule = one_entry_rule here (net_under u.m (net_of r.net)) there
-          (kept.there old r r' adv.x adv.y u after) (length r.run.journal) (length r.run.journal) own
-          (kept.entry old r r' adv.x adv.y u after)
-          (net_is w.m g (names_apart (length old.nodes) (length g.nodes) (length r.run.journal) w.m w.named)
-          x.named.old_net)
-          (same_to (net_under u.m (net_of r.net)) u.run) entry_step
-          (kept.step old r r' adv.x adv.y u after) (sym is_first)
-
       written : r'.run.journal ≡ r.run.journal ++ own ∷ []
-      written = kept.written old r r' adv.x adv.y u after
-          ∙ ap (λ (k : Rule). r.run.journal ++ record { rule = k; first = u.m adv.x; second = u.m adv.y } ∷ [])
-          (sym one_rule)
-          ∙ ap (λ (z : NodeName). r.run.journal ++ record { rule = rule; first = z; second = u.m adv.y } ∷ []) is_first
-          ∙ ap (λ (z : NodeName). r.run.journal ++ record { rule = rule; first = a; second = z } ∷ []) is_second
+      written = steps.written old r u here there (length r.run.journal) own entry_step
+          (same_to (net_under u.m (net_of r.net)) u.run)
+          (net_is w.m g (names_apart (length old.nodes) (length g.nodes) (length r.run.journal) w.m w.named)
+          x.named.old_net) r' adv
 
       -- one line more
       pub one_more : (next : ℕ) → rest ≡ drop next text → TellsOf t rule wave →
@@ -285,7 +238,7 @@ module _ (form : Form) (old : Graph) (text : List ℕ) (g : Graph) (bases weight
           }
 
       pub advanced_on : IsReplay old r'
-      advanced_on = advanced old r r' adv.x adv.y u after
+      advanced_on = advanced old r r' adv.x adv.y u adv.pair
 
 -- the line that was tried is so, whatever was made of it
 module _ (form : Form) (old : Graph) (text : List ℕ) (g : Graph) (bases weights : List ℕ)

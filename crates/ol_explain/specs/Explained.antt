@@ -1,5 +1,5 @@
 -- What a journal is found to be: the pairs that are left after a run, what bad text wants, and of a line that isn't one of a run why.
-use Rattle.std.specs.Prelude.{◌≡◌, ◌≢◌, ℕ, ◌+◌, ◌≤◌, ◌<◌, List, [], ◌∷◌, ◌++◌, length, codes, slice_get, Some, ◌⊎◌}
+use Rattle.std.specs.Prelude.{◌≡◌, ◌≢◌, ℕ, zero, suc, ◌+◌, ◌-◌, ◌≤◌, ◌<◌, List, [], ◌∷◌, ◌++◌, length, take, codes, slice_get, Some, ◌⊎◌}
 use Rattle.std.specs.Fmt.{decimal}
 use Rattle.ol_net.specs.declared.parts.Kind.{Kind}
 use Rattle.ol_net.specs.declared.parts.Rule.{Rule}
@@ -24,6 +24,7 @@ use Rattle.ol_subjects.specs.Subjects.{IsSubject, Refuses}
 use Rattle.ol_explain.specs.Afters.{line_with}
 use Rattle.ol_explain.specs.Left.{TellsLeft}
 use Rattle.ol_explain.specs.Wanted.{IsBadLine}
+use Rattle.ol_explain.specs.Others.{TellsOther}
 use Rattle.ol_explain.specs.declared.causes.Cause.{Cause}
 use Rattle.ol_explain.specs.declared.causes.Cause.TheVariants as cause
 
@@ -55,8 +56,34 @@ Decides last e x = (x ≡ e.first) ⊎ ((x ≡ e.second) × IsThere last e.first
 abbrev pub AreThere : NamedNet NodeName → Entry → Type 0
 AreThere last e = IsThere last e.first × IsThere last e.second
 
+-- The principal port of x is joined to that of the node with this ticket and this place, and y is of
+-- the same ticket and has another place.
+pub record FacesCopy (N : NamedNet NodeName) (x y : NodeName) (ticket place : ℕ) : Type 0 where
+  pub faces : Linked N (slot x 0) (slot (Born ticket place) 0)
+  pub other : ℕ
+  pub of_ticket : y ≡ Born ticket other
+  pub otherwise : other ≢ place
+
+abbrev pub FacesNoCopy : NamedNet NodeName → NodeName → NodeName → Type 0
+FacesNoCopy N x y = (ticket place : ℕ) → FacesCopy N x y ticket place → ⊥
+
+-- neither of the entry's nodes faces a node that the other one's ticket made at another place
+abbrev pub FaceNoCopies : NamedNet NodeName → Entry → Type 0
+FaceNoCopies N e = FacesNoCopy N e.first e.second × FacesNoCopy N e.second e.first
+
+-- The principal ports of a and b are joined after so many entries of the journal, and before that
+-- they aren't.
+pub record IsJoinedAfter (net : NamedNet NodeName) (journal : List Entry) (a b : NodeName) (n : ℕ) : Type 0 where
+  pub within : n ≤ length journal
+  pub after : NamedNet NodeName
+  pub run : IsRun net 0 (take n journal) after
+  pub joined : Linked after (slot a 0) (slot b 0)
+  pub first : (k : ℕ) (N : NamedNet NodeName) → k < n → IsRun net 0 (take k journal) N →
+      Linked N (slot a 0) (slot b 0) → ⊥
+
 -- Why a line that tells this entry and this wave isn't the next one of a run, whose entries and
--- waves lead from the net to the last one. Line m + 2 is that of entry m.
+-- waves lead from the net to the last one. Line m + 2 is that of entry m. A wave is one more than
+-- the weight of the link of its two nodes.
 pub data IsCause (form : Form) (net : NamedNet NodeName) (journal : List Entry) (waves : List ℕ)
     (last : NamedNet NodeName) (e : Entry) (wave : ℕ) : Cause → Type 0 where
   not_born : {ticket place : ℕ} → Decides last e (Born ticket place) → length journal ≤ ticket →
@@ -66,19 +93,26 @@ pub data IsCause (form : Form) (net : NamedNet NodeName) (journal : List Entry) 
       IsCause form net journal waves last e wave (cause.Gone x line)
   never : {x : NodeName} → Decides last e x → IsGone last x → IsOfBefore journal x →
       NoneNames journal x → IsCause form net journal waves last e wave (cause.Never x)
-  faces_free : {k : ℕ} → AreThere last e → Linked last (slot e.first 0) (free k) →
+  faces_copy : {ticket place : ℕ} → AreThere last e → FacesCopy last e.first e.second ticket place →
+      IsCause form net journal waves last e wave (cause.FacesCopy e.first ticket place)
+  copy_faces : {ticket place : ℕ} → AreThere last e → FacesNoCopy last e.first e.second →
+      FacesCopy last e.second e.first ticket place →
+      IsCause form net journal waves last e wave (cause.FacesCopy e.second ticket place)
+  faces_free : {k : ℕ} → AreThere last e → FaceNoCopies last e →
+      Linked last (slot e.first 0) (free k) →
       IsCause form net journal waves last e wave (cause.FacesFree k)
-  faces_slot : {y : NodeName} {s : ℕ} → AreThere last e → Linked last (slot e.first 0) (slot y s) →
-      slot y s ≢ slot e.second 0 →
+  faces_slot : {y : NodeName} {s : ℕ} → AreThere last e → FaceNoCopies last e →
+      Linked last (slot e.first 0) (slot y s) → slot y s ≢ slot e.second 0 →
       IsCause form net journal waves last e wave (cause.FacesSlot y s)
   no_rule : IsStuck last e.first e.second →
       IsCause form net journal waves last e wave cause.NoRule
   other_rule : {r : Rule} {next : NamedNet NodeName} → form ≡ Two →
       IsRun net 0 (journal ++ record { rule = r; first = e.first; second = e.second } ∷ []) next →
       r ≢ e.rule → IsCause form net journal waves last e wave (cause.OtherRule r)
-  other_wave : {w : ℕ} {next : NamedNet NodeName} → form ≡ Two →
+  other_wave : {w joined : ℕ} {next : NamedNet NodeName} → form ≡ Two →
       IsRunTold Two net (journal ++ e ∷ []) (waves ++ w ∷ []) next → w ≢ wave →
-      IsCause form net journal waves last e wave (cause.OtherWave w)
+      IsJoinedAfter net journal e.first e.second joined →
+      IsCause form net journal waves last e wave (cause.OtherWave w joined)
 
 -- where a name that never was a node would have come from
 abbrev pub never_text : NodeName → List ℕ
@@ -86,17 +120,31 @@ never_text (Init k) = codes "the net has no node " ++ decimal k
 never_text (Born ticket place) =
     codes "line " ++ decimal (ticket + 2) ++ codes " made no " ++ name_text (Born ticket place)
 
+-- the name of a copy, and that the copies of its line are numbered otherwise
+abbrev pub copy_text : ℕ → ℕ → List ℕ
+copy_text ticket place = name_text (Born ticket place) ++ codes ": the copies of line "
+    ++ decimal (ticket + 2) ++ codes " are numbered otherwise"
+
+-- by which line a link came, the first ones of the net or that of entry n, and what it weighs
+abbrev pub link_text : ℕ → ℕ → List ℕ
+link_text zero weight = codes "the first net has the link, of weight " ++ decimal weight
+link_text (suc n) weight =
+    codes "line " ++ decimal (n + 2) ++ codes " made the link, of weight " ++ decimal weight
+
 -- the words of a cause, by the two names of the line
 abbrev pub cause_words : NodeName → NodeName → Cause → List ℕ
 cause_words a b (cause.NotBorn x) = name_text x ++ codes " isn't born yet"
 cause_words a b (cause.Gone x line) = name_text x ++ codes " is gone, by line " ++ decimal line
 cause_words a b (cause.Never x) = never_text x
+cause_words a b (cause.FacesCopy x ticket place) =
+    name_text x ++ codes " faces " ++ copy_text ticket place
 cause_words a b (cause.FacesFree k) = name_text a ++ codes " faces free port " ++ decimal k
 cause_words a b (cause.FacesSlot y s) =
     name_text a ++ codes " faces slot " ++ decimal s ++ codes " of " ++ name_text y
 cause_words a b cause.NoRule = name_text a ++ codes " and " ++ name_text b ++ codes " have no rule"
 cause_words a b (cause.OtherRule r) = codes "the rule is " ++ rule_text r
-cause_words a b (cause.OtherWave w) = codes "the wave is " ++ decimal w
+cause_words a b (cause.OtherWave w joined) =
+    codes "the wave is " ++ decimal w ++ codes ": " ++ link_text joined (w - 1)
 
 -- The line of this number is one of the grammar and isn't the next one of a run, and these words
 -- tell its cause.
@@ -134,8 +182,10 @@ pub data IsExplainedOf (g : Graph) (journal text : List ℕ) : End → Type 0 wh
       text ≡ line_with (codes "not a run at line ") line ++ words ++ codes "\n" →
       IsExplainedOf g journal text end.NotARun
 
--- The answer to a file with a term or a net, and to one with a journal.
+-- The answer to a file with a term or a net, and to one with a journal: what is found against its
+-- net, and below it what is said of the other translation.
 pub data IsExplained (bytes journal text : List ℕ) : Subject → End → Type 0 where
   refused : {subject : Subject} → Refuses subject bytes text → IsExplained bytes journal text subject end.Refused
-  answered : {subject : Subject} {g : Graph} {e : End} → IsSubject subject bytes g →
-      IsExplainedOf g journal text e → IsExplained bytes journal text subject e
+  answered : {subject : Subject} {g : Graph} {e : End} {found more : List ℕ} → IsSubject subject bytes g →
+      IsExplainedOf g journal found e → TellsOther bytes journal subject e more →
+      text ≡ found ++ more → IsExplained bytes journal text subject e

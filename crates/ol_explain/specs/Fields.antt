@@ -1,18 +1,16 @@
 -- Private: words of private contracts alone: the fields of a line, each before the byte that ends
 -- it.
-use Rattle.std.specs.Prelude.{◌≡◌, ◌≢◌, ℕ, ◌+◌, ◌≤◌, ◌<◌, true, false, ◌||◌, ◌==◌, List, [], ◌∷◌, ◌++◌, length, drop, Option, None, Some, ◌⊎◌, ◌↔◌, codes}
+use Rattle.std.specs.Prelude.{◌≡◌, ◌≢◌, ℕ, ◌+◌, ◌≤◌, false, List, [], ◌∷◌, ◌++◌, length, drop, Option, Some, ◌⊎◌, ◌↔◌, codes}
 use Rattle.std.specs.Fmt.{decimal}
 use Rattle.ol_net.specs.declared.parts.Rule.{Rule}
 use Rattle.ol_rules.specs.declared.journal.NodeName.{NodeName}
-use Rattle.ol_rules.specs.declared.journal.Entry.{Entry}
 use Rattle.ol_rules.specs.Names.{comes_before}
 use Rattle.ol_view.specs.declared.forms.Form.{Form}
 use Rattle.ol_view.specs.TraceTexts.{name_text, line_text, MayBeWritten}
 use Rattle.ol_view.specs.RuleNames.{rule_text}
 use Rattle.ol_view.specs.Forms.{header_of, line_of}
-use Rattle.ol_view.specs.LineReading.{is_digit}
 use Rattle.ol_explain.specs.Afters.{line_with}
-use Rattle.ol_explain.specs.Wanted.{MayBeTold, IsLine, IsWhole, BreaksOff, AreWanted, bytes_at, greater_at}
+use Rattle.ol_explain.specs.Wanted.{IsLine, IsWhole, BreaksOff, AreWanted, bytes_at, greater_at}
 use Rattle.ol_explain.specs.declared.wanting.Field.{Field}
 use Rattle.ol_explain.specs.declared.wanting.Field.TheVariants as field
 use Rattle.ol_explain.specs.declared.wanting.Fault.{Fault}

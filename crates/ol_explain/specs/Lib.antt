@@ -3,6 +3,7 @@ pub mod NamedTexts
 pub mod Afters
 pub mod Left
 pub mod Wanted
+pub mod Others
 pub mod Explained
 pub mod Judged
 pub mod Tallies

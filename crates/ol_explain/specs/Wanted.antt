@@ -1,5 +1,5 @@
 -- Of a line that isn't one of a journal: the byte at which it breaks off, and what is wanted there.
-use Rattle.std.specs.Prelude.{◌≡◌, ◌≢◌, ℕ, suc, ◌+◌, ◌≤◌, ◌<◌, Bool, true, false, ◌&&◌, ◌==◌, nat_lt, nat_le, if◌then◌else◌}
+use Rattle.std.specs.Prelude.{◌≡◌, ◌≢◌, ℕ, suc, ◌+◌, ◌≤◌, ◌<◌, Bool, true, false, ◌&&◌, ◌==◌, nat_lt, if◌then◌else◌}
 use Rattle.std.specs.Prelude.{List, [], ◌∷◌, ◌++◌, length, count_by, codes, Option, None, Some}
 use Rattle.std.specs.Fmt.{decimal}
 use Rattle.ol_net.specs.Graph.{Graph}

@@ -1,43 +1,74 @@
 //! Why a line of a journal isn't one of a run.
 
-ghost use Rattle.std.specs.Prelude.{◌≡◌, ◌≢◌, ◌≤◌, ◌<◌, ◌++◌, true, false, length, Some};
-ghost use Rattle.std.specs.Prelude.{string_bytes, slice_get, OnOk, IfSome, IfNone};
+ghost use Rattle.std.specs.Prelude.{◌≡◌, ◌≢◌, ℕ, ◌≤◌, ◌<◌, ◌++◌, true, false, length, Some};
+ghost use Rattle.std.specs.Prelude.{string_bytes, slice_get, OnOk, IfOk, IfSome, IfNone};
+ghost use Rattle.ol_net.specs.Nets.{slot, Linked};
 ghost use Rattle.ol_rules.specs.declared.journal.Entry.{Entry};
 ghost use Rattle.ol_view.specs.LineReading.{TellsOf};
-ghost use Rattle.ol_replay.specs.Replays.{net_here};
-ghost use Rattle.ol_explain.specs.Explained.{IsGone, Names, NoneNames, never_text, cause_words};
+ghost use Rattle.ol_replay.specs.Replays.{names_of, net_here, IsReplay};
+ghost use Rattle.ol_explain.specs.Explained.{IsGone, Names, NoneNames, FacesCopy, FacesNoCopy};
+ghost use Rattle.ol_explain.specs.Explained.{never_text, copy_text, link_text, cause_words};
 ghost use Rattle.ol_explain.specs.Reasons.{IsReplayed, IsLive, IsNodeNamed};
-ghost use Rattle.ol_explain.specs.Reasons.{IsCauseAway, IsCauseIdle, IsCauseOther, IsCauseOff};
-ghost use Rattle.ol_limits.specs.Limits.{most_fuel};
+ghost use Rattle.ol_explain.specs.Reasons.{IsFaced, IsOtherCopy, NoCopies};
+ghost use Rattle.ol_explain.specs.Reasons.{IsCauseAway, IsCauseIdle, IsCauseOff, AreJoined};
+ghost use Rattle.ol_limits.specs.Limits.{most_fuel, most_nodes};
 
+use crate::joining::joined_after;
 use crate::naming::{put, put_long, put_number};
 use ol_diamond::Rewritten;
 use ol_memory::NoMemory;
-use ol_net::{NodeId, Port, Rule};
+use ol_net::{Net, NodeId, Port, Rule};
 use ol_replay::Replay;
 use ol_rules::{Entry, Journal, NodeName};
 use ol_view::{Line, put_name, rule_word};
+use std::alloc::Global;
 
 /// Why a line isn't the next one of a run.
 #[derive(Clone, Copy)]
 pub enum Cause {
     /// No entry so far could have made this node.
-    NotBorn { name: NodeName },
+    NotBorn {
+        name: NodeName,
+    },
     /// This node went by that line.
-    Gone { name: NodeName, line: u32 },
+    Gone {
+        name: NodeName,
+        line: u32,
+    },
     /// This node is none of the net, and no line names it: there never was one.
-    Never { name: NodeName },
+    Never {
+        name: NodeName,
+    },
+    /// The principal port of this node, which is one of the two, is joined to that of the node with
+    /// this ticket and this place; the other one of the two is of the same ticket, and has another
+    /// place.
+    FacesCopy {
+        name: NodeName,
+        ticket: u32,
+        place: u8,
+    },
     /// The principal port of the first node is joined to this free port.
-    FacesFree { port: u32 },
+    FacesFree {
+        port: u32,
+    },
     /// The principal port of the first node is joined to this slot, which isn't the principal port
     /// of the second one.
-    FacesSlot { name: NodeName, slot: u8 },
+    FacesSlot {
+        name: NodeName,
+        slot: u8,
+    },
     /// The two face each other, and no rule fits.
     NoRule,
     /// The pair is active by this rule.
-    OtherRule { rule: Rule },
-    /// The pair is active in this wave.
-    OtherWave { wave: u32 },
+    OtherRule {
+        rule: Rule,
+    },
+    /// The pair is active in this wave, and its nodes are joined for the first time after so many
+    /// entries.
+    OtherWave {
+        wave: u32,
+        joined: u32,
+    },
 }
 
 fn same_name(a: NodeName, b: NodeName) -> bool
@@ -107,11 +138,70 @@ fn away(replay: &Replay, name: NodeName) -> Cause
     }
 }
 
-// Why two nodes are no active pair.
-fn idle(replay: &Replay, x: NodeId, y: NodeId) -> Cause
+// The node whose principal port that of a node is joined to.
+fn faced(replay: &Replay, x: NodeId) -> Option<NodeName>
+    requires replay { IsReplayed replay.now }
+    requires live { IsLive replay.now x }
+    ensures { IsFaced replay.now x result }
+{
+    replay.net.is_net();
+    match replay.net.partner(Port::Of { node: x, slot: 0 }) {
+        Some(Port::Free(_)) => None,
+        Some(Port::Of { node, slot }) => {
+            if slot == 0 {
+                let name = replay.run.names.name_of(node);
+                return Some(name);
+            }
+            None
+        }
+        None => unreachable!(),
+    }
+}
+
+// The ticket and the place of the first one, where the other is of the same ticket and has another
+// place.
+fn other_copy(faced: NodeName, named: NodeName) -> Option<(u32, u8)>
+    ensures copy { IfSome result (λ c. IsOtherCopy faced named c.0 c.1) }
+    ensures none { IfNone result ((ticket place : ℕ) → IsOtherCopy faced named ticket place → ⊥) }
+{
+    let NodeName::Born { ticket, place } = faced else {
+        return None;
+    };
+    let NodeName::Born {
+        ticket: same,
+        place: other,
+    } = named
+    else {
+        return None;
+    };
+    if same == ticket && other != place {
+        return Some((ticket, place));
+    }
+    None
+}
+
+// The ticket and the place of the node that a node faces, where a name is of the same ticket and has
+// another place.
+fn copy_faced(replay: &Replay, x: NodeId, named: NodeName) -> Option<(u32, u8)>
+    requires replay { IsReplayed replay.now }
+    requires live { IsLive replay.now x }
+    ensures copy { IfSome result (λ c.
+        FacesCopy (net_here replay.now) (names_of replay.now x.0) named c.0 c.1) }
+    ensures none { IfNone result
+        (FacesNoCopy (net_here replay.now) (names_of replay.now x.0) named) }
+{
+    let Some(faced) = faced(replay, x) else {
+        return None;
+    };
+    other_copy(faced, named)
+}
+
+// What the first of two nodes that are no active pair is joined to, or that no rule fits.
+fn joined(replay: &Replay, x: NodeId, y: NodeId) -> Cause
     requires replay { IsReplayed replay.now }
     requires first { IsLive replay.now x }
     requires second { IsLive replay.now y }
+    requires copies { NoCopies replay.now x y }
     ensures { IsCauseIdle replay.now x.0 y.0 result }
 {
     replay.net.is_net();
@@ -128,39 +218,88 @@ fn idle(replay: &Replay, x: NodeId, y: NodeId) -> Cause
     }
 }
 
+// Why two nodes are no active pair.
+fn idle(replay: &Replay, x: NodeId, y: NodeId) -> Cause
+    requires replay { IsReplayed replay.now }
+    requires first { IsLive replay.now x }
+    requires second { IsLive replay.now y }
+    ensures { IsCauseIdle replay.now x.0 y.0 result }
+{
+    let first = replay.run.names.name_of(x);
+    let second = replay.run.names.name_of(y);
+    if let Some((ticket, place)) = copy_faced(replay, x, second) {
+        let name = first;
+        return Cause::FacesCopy {
+            name,
+            ticket,
+            place,
+        };
+    }
+    if let Some((ticket, place)) = copy_faced(replay, y, first) {
+        let name = second;
+        return Cause::FacesCopy {
+            name,
+            ticket,
+            place,
+        };
+    }
+    joined(replay, x, y)
+}
+
 // Which of the two that a line tells is another.
-fn other(line: Line, of: Rewritten) -> Cause
+fn other(
+    alloc: Global,
+    net: &Net,
+    replay: &Replay,
+    line: Line,
+    of: Rewritten,
+) -> Result<Cause, NoMemory>
+    requires few { length net.now.nodes ≤ most_nodes }
+    requires entries { length replay.now.run.journal ≤ most_fuel }
+    requires replay { IsReplay net.now replay.now }
+    requires joined { Linked (net_here replay.now) (slot line.first 0) (slot line.second 0) }
     requires wrong { TellsOf line.told of.rule of.wave → ⊥ }
-    ensures { IsCauseOther line of result }
+    ensures { IfOk result (IsCauseOff net.now replay.now line (Some of)) }
 {
     let Some((rule, _)) = line.told else {
         unreachable!()
     };
     if same_rule(rule, of.rule) {
         let wave = of.wave;
-        return Cause::OtherWave { wave };
+        let joined = joined_after(alloc, net, replay, line.first, line.second)?;
+        return Ok(Cause::OtherWave { wave, joined });
     }
     let rule = of.rule;
-    Cause::OtherRule { rule }
+    Ok(Cause::OtherRule { rule })
 }
 
-/// Why a line isn't the next one of a run, of whose pair this was made.
-pub fn cause_of(replay: &Replay, line: Line, made: Option<Rewritten>) -> Cause
-    requires few { length replay.now.run.journal ≤ most_fuel }
-    requires replay { IsReplayed replay.now }
+/// Why a line isn't the next one of a run from the net, of whose pair this was made. `NoMemory`: no
+/// memory was found.
+pub fn cause_of(
+    alloc: Global,
+    net: &Net,
+    replay: &Replay,
+    line: Line,
+    made: Option<Rewritten>,
+) -> Result<Cause, NoMemory>
+    requires few { length net.now.nodes ≤ most_nodes }
+    requires entries { length replay.now.run.journal ≤ most_fuel }
+    requires replay { IsReplay net.now replay.now }
+    requires joined { AreJoined replay.now line made }
     requires wrong { IfSome made (λ of. TellsOf line.told of.rule of.wave → ⊥) }
-    ensures { IsCauseOff replay.now line made result }
+    ensures { IfOk result (IsCauseOff net.now replay.now line made) }
 {
     if let Some(of) = made {
-        return other(line, of);
+        let cause = other(alloc, net, replay, line, of)?;
+        return Ok(cause);
     }
     let Some(x) = live(replay, line.first) else {
-        return away(replay, line.first);
+        return Ok(away(replay, line.first));
     };
     let Some(y) = live(replay, line.second) else {
-        return away(replay, line.second);
+        return Ok(away(replay, line.second));
     };
-    idle(replay, x, y)
+    Ok(idle(replay, x, y))
 }
 
 // Appends where a name that never was a node would have come from.
@@ -179,6 +318,32 @@ fn put_never(text: &mut String, name: NodeName) -> Result<(), NoMemory>
             put_name(text, name)
         }
     }
+}
+
+// Appends the name of a copy, and that the copies of its line are numbered otherwise.
+fn put_copy(text: &mut String, ticket: u32, place: u8) -> Result<(), NoMemory>
+    ensures { OnOk result (string_bytes text.new
+        ≡ string_bytes text.old ++ copy_text ticket place) }
+{
+    put_name(text, NodeName::Born { ticket, place })?;
+    put(text, ": the copies of line ")?;
+    put_long(text, ticket as u64 + 2)?;
+    put(text, " are numbered otherwise")
+}
+
+// Appends by which line a link came, and what it weighs.
+fn put_link(text: &mut String, joined: u32, weight: u32) -> Result<(), NoMemory>
+    ensures { OnOk result (string_bytes text.new
+        ≡ string_bytes text.old ++ link_text joined weight) }
+{
+    if joined == 0 {
+        put(text, "the first net has the link, of weight ")?;
+        return put_number(text, weight);
+    }
+    put(text, "line ")?;
+    put_long(text, joined as u64 + 1)?;
+    put(text, " made the link, of weight ")?;
+    put_number(text, weight)
 }
 
 /// Appends the words of a cause.
@@ -202,6 +367,15 @@ pub fn put_cause(
             put_number(text, line)
         }
         Cause::Never { name } => put_never(text, name),
+        Cause::FacesCopy {
+            name,
+            ticket,
+            place,
+        } => {
+            put_name(text, name)?;
+            put(text, " faces ")?;
+            put_copy(text, ticket, place)
+        }
         Cause::FacesFree { port } => {
             put_name(text, first)?;
             put(text, " faces free port ")?;
@@ -224,9 +398,11 @@ pub fn put_cause(
             put(text, "the rule is ")?;
             put(text, rule_word(rule))
         }
-        Cause::OtherWave { wave } => {
+        Cause::OtherWave { wave, joined } => {
             put(text, "the wave is ")?;
-            put_number(text, wave)
+            put_number(text, wave)?;
+            put(text, ": ")?;
+            put_link(text, joined, wave.saturating_sub(1))
         }
     }
 }

@@ -4,7 +4,7 @@
 ghost use Rattle.std.specs.Prelude.{◌≡◌, ◌≤◌, ◌<◌, length, IfOk, IfSome};
 ghost use Rattle.ol_view.specs.LineReading.{TellsOf};
 ghost use Rattle.ol_explain.specs.Found.{IsToldBy};
-ghost use Rattle.ol_explain.specs.Reasons.{IsReplayed, IsOffBy};
+ghost use Rattle.ol_explain.specs.Reasons.{AreJoined, IsOffBy};
 ghost use Rattle.ol_replay.specs.Replays.{IsReplay};
 ghost use Rattle.ol_explain.specs.Explained.{IsExplained, IsExplainedOf};
 ghost use Rattle.ol_subjects.specs.Subjects.{most_bytes};
@@ -15,6 +15,7 @@ use crate::following::{Stop, follow};
 use crate::judging::complete;
 use crate::left::run_and_left;
 use crate::naming::{put, put_number};
+use crate::others::put_other;
 use crate::wanting::{bad_header, bad_line, past_the_end};
 use ol_diamond::Rewritten;
 use ol_limits::MOST_FUEL;
@@ -28,17 +29,20 @@ use std::alloc::Global;
 // The answer of a line that isn't the next one of a run.
 fn off(
     alloc: Global,
+    net: &Net,
     replay: &Replay,
     line: Line,
     made: Option<Rewritten>,
 ) -> Result<Answer, NoMemory>
-    requires few { length replay.now.run.journal < most_fuel }
-    requires replay { IsReplayed replay.now }
+    requires few { length net.now.nodes ≤ most_nodes }
+    requires entries { length replay.now.run.journal < most_fuel }
+    requires replay { IsReplay net.now replay.now }
+    requires joined { AreJoined replay.now line made }
     requires wrong { IfSome made (λ of. TellsOf line.told of.rule of.wave → ⊥) }
-    ensures text { IfOk result (λ a. IsOffBy replay.now line made a.text.items) }
+    ensures text { IfOk result (λ a. IsOffBy net.now replay.now line made a.text.items) }
     ensures end { IfOk result (λ a. a.end ≡ End.NotARun) }
 {
-    let cause = cause_of(replay, line, made);
+    let cause = cause_of(alloc, net, replay, line, made)?;
     let mut text = String::new(alloc);
     put(&mut text, "not a run at line ")?;
     put_number(&mut text, replay.run.journal.len() + 2)?;
@@ -76,6 +80,7 @@ fn of_net(alloc: Global, net: &Net, journal: &[u8]) -> Result<Answer, NoMemory>
     requires few { length net.now.nodes ≤ most_nodes }
     ensures { IfOk result (λ a. IsExplainedOf net.now journal.now a.text.items a.end) }
 {
+    net.is_net();
     let mut followed = follow(alloc, net, journal, MOST_FUEL)?;
     match followed.stop {
         Stop::NoHeader => {
@@ -96,7 +101,7 @@ fn of_net(alloc: Global, net: &Net, journal: &[u8]) -> Result<Answer, NoMemory>
             Ok(answer)
         }
         Stop::Otherwise { line, made } => {
-            let answer = off(alloc, &followed.replay, line, made)?;
+            let answer = off(alloc, net, &followed.replay, line, made)?;
             Ok(answer)
         }
     }
@@ -116,8 +121,12 @@ fn of_net(alloc: Global, net: &Net, journal: &[u8]) -> Result<Answer, NoMemory>
 ///   begins, and that `the end, after 8000000 entries` is wanted.
 /// - `NotARun`: the number of the first bad line, which is one of the grammar, and its cause: a name
 ///   of a node that isn't born yet, that is gone, with the line by which it went, or that never was
-///   one; what the first node faces, where it isn't the second one; that the two have no rule; or
-///   which rule or which wave is the pair's, where the line tells another.
+///   one; what one of the two nodes faces, where it is a copy that the ticket of the other one made
+///   at another place, and that the copies of its line are numbered otherwise; what the first node
+///   faces, where it isn't the second one; that the two have no rule; which rule is the pair's, where
+///   the line tells another; or which wave, with the line that made the link of the two, and what
+///   the link weighs. Where the journal of a term is one of a run of the other translation, complete
+///   or not, a further line says so.
 /// - `Refused`: `ol` refuses the file with the term or the net, by this line.
 ///
 /// The file has at most 1,048,576 bytes with a term, and 33,554,432 with a net. `NoMemory`: no
@@ -137,7 +146,8 @@ pub fn explained(
             Ok(Answer { text, end })
         }
         NetRead::Net(net) => {
-            let answer = of_net(alloc, &net, journal)?;
+            let mut answer = of_net(alloc, &net, journal)?;
+            put_other(alloc, &mut answer, bytes, journal, subject)?;
             Ok(answer)
         }
     }

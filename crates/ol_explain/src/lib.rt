@@ -6,17 +6,21 @@
 //! - `judging`: the command `check`: what a journal is found to be, as a line
 //! - `tallying`: what a journal is found to be, by its value, and how often each rule stands in its run
 //! - `causes`: why a line of a journal isn't one of a run
+//! - `joining`: after which entry of a journal two nodes are joined
 //! - `left`: the pairs that are left after a run
 //! - `wanting`: where a line that isn't one of a journal breaks off, and what is wanted there
+//! - `others`: whether it is one of a run of the other translation
 //! - `naming`: a net as a text, under the names of a run
 #![tactic(auto)]
 
 mod causes;
 mod explaining;
 mod following;
+mod joining;
 mod judging;
 mod left;
 mod naming;
+mod others;
 mod pausing;
 mod tallying;
 mod wanting;

@@ -1,31 +1,32 @@
 use Rattle.std.proofs.Common.{subst}
-use Rattle.ol_net.specs.Nets.{slot, Linked}
-use Rattle.ol_net.specs.Numbered.{net_of, numbered_port}
-use Rattle.ol_explain.proofs.WhyNot.{idle_free, idle_slot, idle_stuck}
+use Rattle.ol_replay.specs.Replays.{names_of, net_here}
+use Rattle.ol_explain.specs.Explained.{FacesCopy, FacesNoCopy}
+use Rattle.ol_explain.proofs.WhyNot.{idle_first, idle_second}
 use Rattle.ol_explain.proofs.causes.idle.Goals as goal
 
-pub returns-then-node-y : goal.returns-then-node-y
-returns-then-node-y c =
+pub returns-in-Some : goal.returns-in-Some
+returns-in-Some c =
     let u = c.requires.replay in
-    let l = subst (λ q. Linked (net_of c.args.replay.now.net) (slot c.args.x.0 0) (numbered_port q))
-    c.in-Some-Of.field-0-is c.in-Some-Of.ensures.linked in
-    idle_stuck u.0 c.args.replay.now u.1 c.args.x c.args.y c.requires.first c.requires.second
-    (subst (λ n. Linked (net_of c.args.replay.now.net) (slot c.args.x.0 0) (slot n 0)) c.if-node-y.true
-    (subst (λ s. Linked (net_of c.args.replay.now.net) (slot c.args.x.0 0) (slot c.in-Some-Of.node.0 s))
-    c.if-slot-eq0.true l))
+    let r = c.args.replay.now in
+    idle_first u.0 r u.1 c.args.x c.args.y c.requires.first c.requires.second c.in-Some.ticket c.in-Some.place
+    (subst (λ n. FacesCopy (net_here r) (names_of r c.args.x.0) n c.in-Some.ticket c.in-Some.place)
+    c.name_of-second.ensures c.in-Some.ensures.copy) c.name_of-first.result c.name_of-first.ensures
 
-pub returns-in-Some-Free : goal.returns-in-Some-Free
-returns-in-Some-Free c =
+pub returns-in-Some-copy_faced : goal.returns-in-Some-copy_faced
+returns-in-Some-copy_faced c =
     let u = c.requires.replay in
-    idle_free u.0 c.args.replay.now u.1 c.args.x c.args.y c.requires.first c.requires.second c.in-Some-Free.port
-    (subst (λ q. Linked (net_of c.args.replay.now.net) (slot c.args.x.0 0) (numbered_port q))
-    c.in-Some-Free.field-0-is c.in-Some-Free.ensures.linked)
+    let r = c.args.replay.now in
+    let s = c.in-Some-copy_faced in
+    idle_second u.0 r u.1 c.args.x c.args.y c.requires.first c.requires.second
+    (subst (λ n. FacesNoCopy (net_here r) (names_of r c.args.x.0) n) c.name_of-second.ensures c.in_default.ensures.none)
+    s.ticket s.place
+    (subst (λ n. FacesCopy (net_here r) (names_of r c.args.y.0) n s.ticket s.place)
+    c.name_of-first.ensures s.ensures.copy) c.name_of-second.result c.name_of-second.ensures
 
-pub returns-else-slot-eq0 : goal.returns-else-slot-eq0
-returns-else-slot-eq0 c =
-    let u = c.requires.replay in
-    idle_slot u.0 c.args.replay.now u.1 c.args.x c.args.y c.requires.first c.requires.second
-    c.in-Some-Of.node.0 c.in-Some-Of.slot
-    (subst (λ q. Linked (net_of c.args.replay.now.net) (slot c.args.x.0 0) (numbered_port q))
-    c.in-Some-Of.field-0-is c.in-Some-Of.ensures.linked) c.else-slot-eq0.either c.name_of-name.result
-    c.name_of-name.ensures
+pub joined-requires-clause-copies : goal.joined-requires-clause-copies
+joined-requires-clause-copies c =
+    let r = c.args.replay.now in (
+      subst (λ n. FacesNoCopy (net_here r) (names_of r c.args.x.0) n) c.name_of-second.ensures c.in_default.ensures.none,
+      subst (λ n. FacesNoCopy (net_here r) (names_of r c.args.y.0) n) c.name_of-first.ensures
+          c.in_default-copy_faced.ensures.none,
+    )

@@ -5,7 +5,7 @@ use Rattle.std.specs.Fmt.{decimal}
 use Rattle.std.proofs.lemmas.List.{append_assoc}
 use Rattle.ol_view.specs.TraceTexts.{name_text}
 use Rattle.ol_view.specs.RuleNames.{rule_text}
-use Rattle.ol_explain.specs.Explained.{cause_words}
+use Rattle.ol_explain.specs.Explained.{copy_text, link_text, cause_words}
 use Rattle.ol_explain.proofs.causes.put_cause.Goals as goal
 
 two : (b0 b1 w n : List ℕ) → b1 ≡ b0 ++ w → b1 ++ n ≡ b0 ++ (w ++ n)
@@ -18,6 +18,20 @@ four b0 b1 b2 b3 a1 a2 a3 a4 e1 e2 e3 = search (rules, append_assoc)
 five : (b0 b1 b2 b3 b4 a1 a2 a3 a4 a5 : List ℕ) → b1 ≡ b0 ++ a1 → b2 ≡ b1 ++ a2 → b3 ≡ b2 ++ a3 → b4 ≡ b3 ++ a4 →
     b4 ++ a5 ≡ b0 ++ (a1 ++ a2 ++ a3 ++ a4 ++ a5)
 five b0 b1 b2 b3 b4 a1 a2 a3 a4 a5 e1 e2 e3 e4 = search (rules, append_assoc)
+
+three : (b0 b1 b2 a1 a2 a3 : List ℕ) → b1 ≡ b0 ++ a1 → b2 ≡ b1 ++ a2 → b2 ++ a3 ≡ b0 ++ (a1 ++ a2 ++ a3)
+three b0 b1 b2 a1 a2 a3 e1 e2 = search (rules, append_assoc)
+
+pub returns-in_ok-put-in-FacesCopy : goal.returns-in_ok-put-in-FacesCopy
+returns-in_ok-put-in-FacesCopy c =
+    let b0 = string_bytes c.args.text.now in
+    let end = c.put_copy in
+    subst (λ words. OnOk end.result (string_bytes end.new.text ≡ words))
+    (three b0 (string_bytes c.put_name-in-FacesCopy.new.text) (string_bytes c.put-in-FacesCopy.new.text)
+    (name_text c.in-FacesCopy.name) (codes " faces ") (copy_text c.in-FacesCopy.ticket c.in-FacesCopy.place)
+    c.in_ok-put_name-in-FacesCopy.ensures c.in_ok-put-in-FacesCopy.ensures
+    ∙ ap (λ x. b0 ++ cause_words c.args.first c.args.second x) (sym c.in-FacesCopy.is))
+    end.ensures
 
 pub returns-in_ok-put-in-FacesSlot-2 : goal.returns-in_ok-put-in-FacesSlot-2
 returns-in_ok-put-in-FacesSlot-2 c =
@@ -55,12 +69,17 @@ returns-in_ok-put-in-OtherRule c =
     ∙ ap (λ x. b0 ++ cause_words c.args.first c.args.second x) (sym c.in-OtherRule.is))
     end.ensures
 
-pub returns-in_ok-put-in-OtherWave : goal.returns-in_ok-put-in-OtherWave
-returns-in_ok-put-in-OtherWave c =
+pub returns-in_ok-put-in-OtherWave-2 : goal.returns-in_ok-put-in-OtherWave-2
+returns-in_ok-put-in-OtherWave-2 c =
     let b0 = string_bytes c.args.text.now in
-    let end = c.put_number-in-OtherWave in
+    let w = c.in-OtherWave.wave in
+    let end = c.put_link in
     subst (λ words. OnOk end.result (string_bytes end.new.text ≡ words))
-    (two b0 (string_bytes c.put-in-OtherWave.new.text) (codes "the wave is ") (decimal c.in-OtherWave.wave)
-    c.in_ok-put-in-OtherWave.ensures
+    (four b0 (string_bytes c.put-in-OtherWave.new.text) (string_bytes c.put_number-in-OtherWave.new.text)
+    (string_bytes c.put-in-OtherWave-2.new.text) (codes "the wave is ") (decimal w) (codes ": ")
+    (link_text c.in-OtherWave.joined c.saturating_sub.result)
+    c.in_ok-put-in-OtherWave.ensures c.in_ok-put_number-in-OtherWave.ensures c.in_ok-put-in-OtherWave-2.ensures
+    ∙ ap (λ n. b0 ++ (codes "the wave is " ++ decimal w ++ codes ": " ++ link_text c.in-OtherWave.joined n))
+    c.saturating_sub.ensures
     ∙ ap (λ x. b0 ++ cause_words c.args.first c.args.second x) (sym c.in-OtherWave.is))
     end.ensures

@@ -3,7 +3,7 @@ use Rattle.ol_explain.specs.Explained.{IsExplainedOf}
 use Rattle.ol_explain.specs.Followed.{Stops}
 use Rattle.ol_explain.proofs.Told.{at_header, no_header_here, no_line_here, at_other}
 use Rattle.ol_explain.proofs.BadLines.{at_the_header, at_the_line, at_the_end}
-use Rattle.ol_explain.proofs.Reasoned.{whole, explains, made_wrong}
+use Rattle.ol_explain.proofs.Reasoned.{whole, explains, made_joined, made_wrong}
 use Rattle.ol_explain.proofs.explaining.of_net.Goals as goal
 
 pub bad_header-requires : goal.bad_header-requires
@@ -73,12 +73,20 @@ returns-in-NoLine c =
     (at_the_line c.args.net.now c.args.journal.now 8000000 f.replay f.at refl c.in-NoLine.form n
     (c.len-bad.result + 2) q a.answer.text.items a.ensures.text)
 
-pub off-requires-clause-few : goal.off-requires-clause-few
-off-requires-clause-few c =
+pub off-requires-clause-entries : goal.off-requires-clause-entries
+off-requires-clause-entries c =
     let f = c.in_ok-followed.followed in
     let s = subst (λ s. Stops c.args.net.now c.args.journal.now 8000000 f.replay f.at s)
     c.in-Otherwise.is c.in_ok-followed.ensures.stops in
     (at_other c.args.net.now c.args.journal.now 8000000 f.replay f.at c.in-Otherwise.line c.in-Otherwise.made s).0
+
+pub off-requires-clause-joined : goal.off-requires-clause-joined
+off-requires-clause-joined c =
+    let f = c.in_ok-followed.followed in
+    let s = subst (λ s. Stops c.args.net.now c.args.journal.now 8000000 f.replay f.at s)
+    c.in-Otherwise.is c.in_ok-followed.ensures.stops in
+    made_joined c.args.net.now c.args.journal.now 8000000 f.replay f.at c.is_net.ensures.net c.in-Otherwise.line
+    c.in-Otherwise.made s
 
 pub off-requires-clause-wrong : goal.off-requires-clause-wrong
 off-requires-clause-wrong c =
