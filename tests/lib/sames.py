@@ -4,7 +4,8 @@
 
 N terms are drawn at random, 1,000 where nothing is said. The net of each, after some interactions, is given other numbers
 of nodes: the two are `same`. Then two of its links are exchanged, or a node gets another index: `ol-bench same` has to
-say what tests/vectors/netfiles.py says, and, where the two differ, `different`. The last line is 'N passed, M failed'.
+say what tests/vectors/netfiles.py says, and, where the two differ, `different`, with the port and what it is joined to
+by a walk of this script's own. What `ol net` writes, counts and all, is `same` as itself. The last line is 'N passed, M failed'.
 
 The programs are those that the variables OL and OL_BENCH name, else those of tests/bench.
 """
@@ -28,6 +29,34 @@ def raised(net, chance):
     return net._replace(nodes={**net.nodes, n: (kind, str(int(index) + 1))})
 
 
+def words(net, port):
+    """A port, and behind a slot the kind and the index of its node."""
+    if port is None:
+        return "nothing"
+    return f"f{port[1]}" if port[0] == "f" else f"{port[0]}.{port[1]} of {' '.join(net.nodes[port[0]])}"
+
+
+def first_unlike(here, there):
+    """The line of the first port of the walk where two nets differ, or None where all that free ports reach is alike."""
+    if here.free != there.free:
+        return f"different at f{min(here.free, there.free)}: {'here' if here.free > there.free else 'there'} alone\n"
+    places = [(("f", k), ("f", k)) for k in range(here.free)]
+    fellow, back = {}, {}
+    for p, q in places:  # grows while it is gone through
+        x, y = here.linked.get(p), there.linked.get(q)
+        if x is None and y is None or x is not None and x == y and x[0] == "f":
+            continue
+        if x and y and x[0] != "f" != y[0] and x[1] == y[1]:
+            if fellow.get(x[0]) == y[0]:
+                continue
+            if x[0] not in fellow and y[0] not in back and here.nodes[x[0]] == there.nodes[y[0]]:
+                fellow[x[0]], back[y[0]] = y[0], x[0]
+                places += [((x[0], s), (y[0], s)) for s in range(3)]
+                continue
+        return f"different at {words(here, p).split()[0]}: {words(here, x)} here, {words(there, y)} there\n"
+    return None
+
+
 def faults_of(term, programs, chance):
     """What is wrong with the answers to the net of a term, after some interactions."""
     ol, ol_bench = programs
@@ -43,6 +72,13 @@ def faults_of(term, programs, chance):
             status, text = answer(ol_bench, ["same", file, "-"], netfiles.write(other))
             if (status, text == "same\n", text.startswith("different ")) != (int(not is_one), is_one, not is_one):
                 yield f"{change.__name__}: {status} {text}"
+            told = first_unlike(net, other)
+            if told and text != told:
+                yield f"{change.__name__}: {text!r}, not {told!r}"
+    with random_terms.in_file(answer(ol, ["net", "--fuel", "20", "-"], netfiles.write(net))[1]) as file:
+        got = answer(ol_bench, ["same", file, file])
+        if got != (0, "same\n"):
+            yield f"counts before the net: {got}"
 
 
 def faults(programs, chance):

@@ -4,3 +4,4 @@ pub mod OneNet
 pub mod Renumbered
 pub mod Seeking
 pub mod Trying
+pub mod Heads

@@ -233,6 +233,6 @@ module _ (a b : Graph) (from : ℕ) (had : List (ℕ × ℕ)) (at : ℕ) (met : 
       (on w inside (subst (λ (ok : Bool). Answers (GoesOn a b met at) ok m) t (seen ok m h)))
 
   pub stops_here : (ok : Bool) (m : List (ℕ × ℕ)) → ok ≡ false →
-      Answers (AreAlike a b met (partner_of a p) (partner_of b q)) ok m → Finds a b from had (Some p) m
+      Answers (AreAlike a b met (partner_of a p) (partner_of b q)) ok m → Finds a b from had (Some (p, q)) m
   stops_here ok m t h =
-      (at, met, w, inside, subst (λ (ok : Bool). Answers (GoesOn a b met at) ok m) t (seen ok m h), first_port)
+      (at, met, w, inside, subst (λ (ok : Bool). Answers (GoesOn a b met at) ok m) t (seen ok m h), first_port, second_port)

@@ -31,13 +31,13 @@ abbrev pub Answers : (List (ℕ × ℕ) → Type 0) → Bool → List (ℕ × �
 Answers Step true met' = Step met'
 Answers Step false met' = (m : List (ℕ × ℕ)) → Step m → ⊥
 
--- What a walk from a place on found: the port of the first net where it stopped, or None where it
+-- What a walk from a place on found: the ports of the two nets where it stopped, or None where it
 -- came to its end.
-abbrev pub Finds : Graph → Graph → ℕ → List (ℕ × ℕ) → Option Port → List (ℕ × ℕ) → Type 0
+abbrev pub Finds : Graph → Graph → ℕ → List (ℕ × ℕ) → Option (Port × Port) → List (ℕ × ℕ) → Type 0
 Finds a b from had None met = Walks a b from had (a.free + 3 * length met) met
 Finds a b from had (Some p) met = (at : ℕ) × (m : List (ℕ × ℕ)) × Walks a b from had at m
     × (at < a.free + 3 * length m) × ((m' : List (ℕ × ℕ)) → GoesOn a b m at m' → ⊥)
-    × (p ≡ port_on a.free (pair_at a.free m at).0 at)
+    × (p.0 ≡ port_on a.free (pair_at a.free m at).0 at) × (p.1 ≡ port_on a.free (pair_at a.free m at).1 at)
 
 -- each node of the net has met one, by its table
 abbrev pub EachMet : Graph → List (Option ℕ) → Type 0

@@ -1,7 +1,7 @@
 -- Whether two nets are one up to the numbers of their nodes, and where they differ.
-use Rattle.std.specs.Prelude.{◌≡◌, ◌≢◌, ℕ, suc, ◌+◌, ◌-◌, ◌*◌, ◌/◌, ◌%◌, ◌<◌, min, nat_lt, ◌⊎◌}
+use Rattle.std.specs.Prelude.{◌≡◌, ◌≢◌, ℕ, suc, ◌+◌, ◌-◌, ◌*◌, ◌/◌, ◌%◌, ◌<◌, nat_lt, ◌⊎◌}
 use Rattle.std.specs.Prelude.{if◌then◌else◌, List, [], ◌∷◌, ◌++◌, length, codes, Option, None, Some}
-use Rattle.std.specs.Prelude.{slice_index_or}
+use Rattle.std.specs.Prelude.{slice_index_or, slice_get, drop}
 use Rattle.std.specs.Fmt.{decimal}
 use Rattle.ol_law_edges.specs.Edges.{IsIn}
 use Rattle.ol_net.specs.declared.parts.Kind.{Kind}
@@ -10,7 +10,7 @@ use Rattle.ol_net.specs.declared.parts.Port.TheVariants.{Free, Of}
 use Rattle.ol_net.specs.Graph.{Graph, kind_at, partner_of}
 use Rattle.ol_net.specs.Nets.{NamedNet, HasNode, SameNet, net_under}
 use Rattle.ol_net.specs.Numbered.{net_of}
-use Rattle.ol_net.specs.PartTexts.{port_text}
+use Rattle.ol_net.specs.PartTexts.{kind_text, index_text, port_text}
 use Rattle.ol_view.specs.Laws.{IsTable}
 use Rattle.ol_subjects.specs.declared.answers.End.{End}
 use Rattle.ol_subjects.specs.declared.answers.End.TheVariants.{Yes, No, Refused}
@@ -68,13 +68,36 @@ pub data Walks (a b : Graph) (from : ℕ) (had : List (ℕ × ℕ)) : ℕ → Li
   on : {at : ℕ} {met met' : List (ℕ × ℕ)} → Walks a b from had at met →
       at < a.free + 3 * length met → GoesOn a b met at met' → Walks a b from had (suc at) met'
 
--- The first port of a walk where the two nets differ: a free port that one of them lacks; or a port
--- of the first net whose partner is unlike that of the other's port at the same place.
-pub data DiffersAt (a b : Graph) : Port → Type 0 where
-  lacks : a.free ≢ b.free → DiffersAt a b (Free (min a.free b.free))
+-- the kind and the index of a node
+abbrev pub node_words : Option (Kind × ℕ) → List ℕ
+node_words None = []
+node_words (Some k) = codes " of " ++ kind_text k.0 ++ codes " " ++ index_text k.0 k.1
+
+-- a port, and behind a slot the kind and the index of its node
+abbrev pub end_words : Graph → Port → List ℕ
+end_words g (Free k) = port_text (Free k)
+end_words g (Of n s) = port_text (Of n s) ++ node_words (kind_at g.nodes n.0)
+
+-- what a port is joined to
+abbrev pub partner_words : Graph → Option Port → List ℕ
+partner_words g None = codes "nothing"
+partner_words g (Some p) = end_words g p
+
+-- what two ports are joined to, one of each net
+abbrev pub both_words : Graph → Graph → Port → Port → List ℕ
+both_words a b p q = partner_words a (partner_of a p) ++ codes " here, "
+    ++ partner_words b (partner_of b q) ++ codes " there"
+
+-- The first port of a walk where the two nets differ, and how: a free port that only one of them
+-- has; or a port of the first net whose partner is unlike that of the other's port at the same place.
+pub data DiffersAt (a b : Graph) : Port → List ℕ → Type 0 where
+  only_first : b.free < a.free → DiffersAt a b (Free b.free) (codes "here alone")
+  only_second : a.free < b.free → DiffersAt a b (Free a.free) (codes "there alone")
   differs : {at : ℕ} {met : List (ℕ × ℕ)} → a.free ≡ b.free → Walks a b 0 [] at met →
       at < a.free + 3 * length met → ((met' : List (ℕ × ℕ)) → GoesOn a b met at met' → ⊥) →
       DiffersAt a b (port_on a.free (pair_at a.free met at).0 at)
+      (both_words a b (port_on a.free (pair_at a.free met at).0 at)
+      (port_on a.free (pair_at a.free met at).1 at))
 
 -- all that a free port reaches is alike
 pub record ReachAlike (a b : Graph) (met : List (ℕ × ℕ)) : Type 0 where
@@ -156,17 +179,38 @@ mutual
 -- another; the search is given up only where 1,000 tries are in vain and one more is wanted.
 pub data IsComparison (a b : Graph) (text : List ℕ) : End → Type 0 where
   one : AreOne a b → text ≡ codes "same\n" → IsComparison a b text Yes
-  differ : {p : Port} → (AreOne a b → ⊥) → DiffersAt a b p →
-      text ≡ codes "different at " ++ port_text p ++ codes "\n" → IsComparison a b text No
+  differ : {p : Port} {words : List ℕ} → (AreOne a b → ⊥) → DiffersAt a b p words →
+      text ≡ codes "different at " ++ port_text p ++ codes ": " ++ words ++ codes "\n" →
+      IsComparison a b text No
   parts_differ : {met : List (ℕ × ℕ)} → (AreOne a b → ⊥) → ReachAlike a b met →
       text ≡ codes "different in parts that no free port reaches\n" → IsComparison a b text No
   left : {met : List (ℕ × ℕ)} → ReachAlike a b met → Spends a b met 1000 →
       text ≡ left_text a b met → IsComparison a b text No
 
+-- the first byte, or one behind a line feed
+abbrev pub BeginsLine : List ℕ → ℕ → Type 0
+BeginsLine bytes at = (at ≡ 0) ⊎ (slice_get bytes (at - 1) ≡ Some 10)
+
+-- the line `ol net 1` stands at this byte
+pub record HasHead (bytes : List ℕ) (at : ℕ) : Type 0 where
+  pub begins : BeginsLine bytes at
+  pub rest : List ℕ
+  pub stands : drop at bytes ≡ codes "ol net 1\n" ++ rest
+
+-- The bytes of a file that are read as a net: those from its first line `ol net 1` on, which stands
+-- behind nine counts and the stuck pairs where `ol net` wrote the file; and all of them, where there
+-- is no such line.
+pub data IsNetPart (bytes : List ℕ) : List ℕ → Type 0 where
+  from : {at : ℕ} → HasHead bytes at → ((k : ℕ) → k < at → HasHead bytes k → ⊥) →
+      IsNetPart bytes (drop at bytes)
+  whole : ((k : ℕ) → HasHead bytes k → ⊥) → IsNetPart bytes bytes
+
 -- The answer to two files, each with a net, which its tables have.
 pub data IsSame (first second : List ℕ) (text : List ℕ) : End → Type 0 where
-  refused_first : Refuses Net first text → IsSame first second text Refused
-  refused_second : {a : Graph} → IsSubject Net first a → Refuses Net second text →
+  refused_first : {p : List ℕ} → IsNetPart first p → Refuses Net p text →
       IsSame first second text Refused
-  compared : {a b : Graph} {e : End} → IsTable a → IsTable b → IsSubject Net first a →
-      IsSubject Net second b → IsComparison a b text e → IsSame first second text e
+  refused_second : {p q : List ℕ} {a : Graph} → IsNetPart first p → IsNetPart second q →
+      IsSubject Net p a → Refuses Net q text → IsSame first second text Refused
+  compared : {p q : List ℕ} {a b : Graph} {e : End} → IsNetPart first p → IsNetPart second q →
+      IsTable a → IsTable b → IsSubject Net p a → IsSubject Net q b → IsComparison a b text e →
+      IsSame first second text e

@@ -7,17 +7,18 @@ ghost use Rattle.ol_net.specs.Numbered.{net_of};
 ghost use Rattle.ol_net.specs.PartTexts.{port_text};
 ghost use Rattle.ol_net.specs.declared.parts.Kind.{Kind};
 ghost use Rattle.ol_net.specs.declared.parts.NodeId.{NodeId};
-ghost use Rattle.ol_net.specs.declared.parts.Port.TheVariants.{Of};
+ghost use Rattle.ol_net.specs.declared.parts.Port.TheVariants.{Free, Of};
 ghost use Rattle.ol_same.specs.Same.{pair_at, port_on, left_text, AreAlike, Meets, ReachAlike};
+ghost use Rattle.ol_same.specs.Same.{node_words, partner_words, both_words};
 ghost use Rattle.ol_same.specs.Same.{IsFirstAlone, IsComparison, IsSame};
 ghost use Rattle.ol_same.specs.Meetings.{met_by, Answers, TellPairs, AreTables, EachMet, Finds};
 ghost use Rattle.ol_same.specs.Walked.{HasWalked, SearchedFrom, SearchedAt};
-ghost use Rattle.ol_subjects.specs.Subjects.{IsSubject};
 ghost use Rattle.ol_limits.specs.Limits.{most_net_bytes};
 
+use crate::reading::read_part;
 use ol_memory::NoMemory;
-use ol_net::{Kind, Net, NodeId, Port};
-use ol_subjects::{Answer, End, NetRead, Subject, put, put_number, put_shown, read_subject};
+use ol_net::{IndexOf, Kind, Net, NodeId, Port};
+use ol_subjects::{Answer, End, NetRead, put, put_number, put_shown};
 use std::alloc::Global;
 
 // The pairs of nodes that have met, one of each net, in the order in which they did; and whom each
@@ -190,9 +191,9 @@ fn port_on(free: u32, node: u32, at: usize) -> Port
     }
 }
 
-// Walks on over two nets, from a place: the port of the first net where they differ, or None where
-// the walk came to its end.
-fn walk(a: &Net, b: &Net, met: &mut Met, from: usize) -> Result<Option<Port>, NoMemory>
+// Walks on over two nets, from a place: the port of each net where they differ, or None where the
+// walk came to its end.
+fn walk(a: &Net, b: &Net, met: &mut Met, from: usize) -> Result<Option<(Port, Port)>, NoMemory>
     requires from { from ≤ a.now.free + 3 * length met.old.pairs.items }
     requires tables { AreTables a.now b.now met.old }
     ensures tables { OnOk result (AreTables a.now b.now met.new) }
@@ -206,8 +207,9 @@ fn walk(a: &Net, b: &Net, met: &mut Met, from: usize) -> Result<Option<Port>, No
     while at < free as usize + 3 * met.pairs.len() {
         let (x, y) = pair_at(free, &met.pairs, at);
         let port = port_on(free, x, at);
-        if !match_partners(a, b, met, port, port_on(free, y, at))? {
-            return Ok(Some(port));
+        let other = port_on(free, y, at);
+        if !match_partners(a, b, met, port, other)? {
+            return Ok(Some((port, other)));
         }
         at += 1;
     }
@@ -386,15 +388,85 @@ fn answer_of(alloc: Global, words: &[u8], end: End) -> Result<Answer, NoMemory>
     Ok(Answer { text, end })
 }
 
-// The answer that two nets differ at this port.
-fn difference(alloc: Global, port: Port) -> Result<Answer, NoMemory>
-    ensures text { IfOk result (λ x.
-        x.text.items ≡ codes "different at " ++ port_text port ++ codes "\n") }
-    ensures no { IfOk result (λ x. x.end ≡ End.No) }
+// Appends what a port is joined to: a port, and behind a slot the kind and the index of its node.
+fn put_partner(alloc: Global, text: &mut Vec<u8>, net: &Net, of: Port) -> Result<(), NoMemory>
+    ensures { OnOk result (text.new.items
+        ≡ text.old.items ++ partner_words net.now (partner_of net.now of)) }
+{
+    let Some(end) = net.partner(of) else {
+        return put(text, b"nothing");
+    };
+    put_shown(alloc, text, &end)?;
+    let Port::Of { node, .. } = end else {
+        return Ok(());
+    };
+    put_node(alloc, text, net, node)
+}
+
+// Appends the kind and the index of a node.
+fn put_node(alloc: Global, text: &mut Vec<u8>, net: &Net, node: NodeId) -> Result<(), NoMemory>
+    ensures { OnOk result (text.new.items
+        ≡ text.old.items ++ node_words (kind_at net.now.nodes node.0)) }
+{
+    let Some((kind, index)) = net.kind_of(node) else {
+        return Ok(());
+    };
+    put(text, b" of ")?;
+    put_shown(alloc, text, &kind)?;
+    put(text, b" ")?;
+    put_shown(alloc, text, &IndexOf { kind, index })
+}
+
+// Appends what two ports are joined to, one of each net.
+fn put_both(
+    alloc: Global,
+    text: &mut Vec<u8>,
+    a: &Net,
+    b: &Net,
+    ports: (Port, Port),
+) -> Result<(), NoMemory>
+    ensures { OnOk result (text.new.items
+        ≡ text.old.items ++ both_words a.now b.now ports.0 ports.1) }
+{
+    put_partner(alloc, text, a, ports.0)?;
+    put(text, b" here, ")?;
+    put_partner(alloc, text, b, ports.1)?;
+    put(text, b" there")
+}
+
+// The beginning of the line that two nets differ at this port.
+fn difference(alloc: Global, port: Port) -> Result<Vec<u8>, NoMemory>
+    ensures { IfOk result (λ text.
+        text.items ≡ codes "different at " ++ port_text port ++ codes ": ") }
 {
     let mut text = Vec::new(alloc);
     put(&mut text, b"different at ")?;
     put_shown(alloc, &mut text, &port)?;
+    put(&mut text, b": ")?;
+    Ok(text)
+}
+
+// The answer that only one net has this free port.
+fn one_has(alloc: Global, port: u32, words: &[u8]) -> Result<Answer, NoMemory>
+    ensures text { IfOk result (λ x. x.text.items
+        ≡ codes "different at " ++ port_text (Free port) ++ codes ": " ++ words.now ++ codes "\n") }
+    ensures no { IfOk result (λ x. x.end ≡ End.No) }
+{
+    let mut text = difference(alloc, Port::Free(port))?;
+    put(&mut text, words)?;
+    put(&mut text, b"\n")?;
+    let end = End::No;
+    Ok(Answer { text, end })
+}
+
+// The answer that two nets differ at these ports.
+fn unlike(alloc: Global, a: &Net, b: &Net, ports: (Port, Port)) -> Result<Answer, NoMemory>
+    ensures text { IfOk result (λ x. x.text.items ≡ codes "different at " ++ port_text ports.0
+        ++ codes ": " ++ both_words a.now b.now ports.0 ports.1 ++ codes "\n") }
+    ensures no { IfOk result (λ x. x.end ≡ End.No) }
+{
+    let mut text = difference(alloc, ports.0)?;
+    put_both(alloc, &mut text, a, b, ports)?;
     put(&mut text, b"\n")?;
     let end = End::No;
     Ok(Answer { text, end })
@@ -454,8 +526,8 @@ fn compare_walks(alloc: Global, a: &Net, b: &Net) -> Result<Answer, NoMemory>
     b.is_tabled();
     let mut met = Met::new(alloc, a, b)?;
     match walk(a, b, &mut met, 0)? {
-        Some(port) => {
-            let answer = difference(alloc, port)?;
+        Some(ports) => {
+            let answer = unlike(alloc, a, b, ports)?;
             Ok(answer)
         }
         None => {
@@ -470,8 +542,12 @@ fn compare(alloc: Global, a: &Net, b: &Net) -> Result<Answer, NoMemory>
     ensures { IfOk result (λ x. IsComparison a.now b.now x.text.items x.end) }
 {
     let (first, second) = (a.free_ports(), b.free_ports());
-    if first != second {
-        let answer = difference(alloc, Port::Free(first.min(second)))?;
+    if first > second {
+        let answer = one_has(alloc, second, b"here alone")?;
+        return Ok(answer);
+    }
+    if first < second {
+        let answer = one_has(alloc, first, b"there alone")?;
         return Ok(answer);
     }
     let answer = compare_walks(alloc, a, b)?;
@@ -479,17 +555,21 @@ fn compare(alloc: Global, a: &Net, b: &Net) -> Result<Answer, NoMemory>
 }
 
 /// Whether two nets are one up to the numbers of their nodes. Each file has a net, in at most
-/// 33,554,432 bytes. A walk goes over both nets at once, from the free ports, in their order: at each
-/// node that it comes to, its slots are next, behind those of the nodes before.
+/// 33,554,432 bytes. What stands before the first line `ol net 1` is passed over, as the counts and
+/// the pairs that `ol net` writes before a last net. A walk goes over both nets at once, from the
+/// free ports, in their order: at each node that it comes to, its slots are next, behind those of the
+/// nodes before.
 ///
 /// - `Yes`: some renaming of nodes takes the one net to the other.
 /// - `No`: none does, and the text names the first port, of the first net, whose partner is unlike
-///   that of the other net's port at the same place of the walk; or the free port that one net lacks.
-///   Or all that free ports reach is alike, and the text says that the other parts differ. Nodes of
-///   these parts are tried against one another, depth first. The search gives up only where 1,000
-///   tries are in vain and one more is wanted: then the text has how many nodes of each net no free
-///   port reaches.
-/// - `Refused`: `ol` refuses the first file or else the second, by this line.
+///   that of the other net's port at the same place of the walk, with both partners: a free port, or
+///   a slot with the kind and the index of its node. Or it names the free port that one net lacks,
+///   and says which net has it. Or all that free ports reach is alike, and the text says that the
+///   other parts differ. Nodes of these parts are tried against one another, depth first. The search
+///   gives up only where 1,000 tries are in vain and one more is wanted: then the text has how many
+///   nodes of each net no free port reaches.
+/// - `Refused`: `ol` refuses the net of the first file or else that of the second, by this line, which
+///   counts lines from the line `ol net 1`.
 ///
 /// `NoMemory`: no memory was found.
 pub fn same(alloc: Global, first: &[u8], second: &[u8]) -> Result<Answer, NoMemory>
@@ -497,14 +577,14 @@ pub fn same(alloc: Global, first: &[u8], second: &[u8]) -> Result<Answer, NoMemo
     requires short_second { length second.now ≤ most_net_bytes }
     ensures { IfOk result (λ x. IsSame first.now second.now x.text.items x.end) }
 {
-    let a = match read_subject(alloc, first, Subject::Net)? {
+    let a = match read_part(alloc, first)? {
         NetRead::Net(net) => net,
         NetRead::Refused(text) => {
             let end = End::Refused;
             return Ok(Answer { text, end });
         }
     };
-    let b = match read_subject(alloc, second, Subject::Net)? {
+    let b = match read_part(alloc, second)? {
         NetRead::Net(net) => net,
         NetRead::Refused(text) => {
             let end = End::Refused;

@@ -163,7 +163,7 @@ try_pair-returns-in-Some-2-clause-found t c =
     c.in_ok-put_pair.ensures.pairs ∙ ap (λ (ps : List (ℕ × ℕ)). ps ++ (c.args.x.0, c.args.y.0) ∷ []) c.in_ok-more.ensures.pairs in
     let meets = meets_new a b met.pairs.items met.there.items met.back.items c.requires.tables.tell c.args.x.0 c.args.y.0
     had c.requires.alone o k e in
-    let g = subst (λ (o : Option Port). Finds a b from had o c.walk.new.met.pairs.items) c.in-Some-2.is c.in_ok-walk.ensures.found in
+    let g = subst (λ (o : Option (Port × Port)). Finds a b from had o c.walk.new.met.pairs.items) c.in-Some-2.is c.in_ok-walk.ensures.found in
     let may : MayMeet a b met.pairs.items c.args.x.0 c.args.y.0 = (
       are_new a b met.pairs.items met.there.items
           met.back.items c.requires.tables.tell c.args.x.0 c.args.y.0 c.requires.alone o,
@@ -200,7 +200,7 @@ try_pair-seek-requires t c =
     had c.requires.alone o k e in
     let size : c.len.result ≡ length met.pairs.items = search rules in
     let from_is : from ≡ a.free + 3 * length met.pairs.items = omega (arith, size, c.free_ports.ensures.free) in
-    let g = subst (λ (o : Option Port). Finds a b from had o c.walk.new.met.pairs.items) c.in-None.is c.in_ok-walk.ensures.found in
+    let g = subst (λ (o : Option (Port × Port)). Finds a b from had o c.walk.new.met.pairs.items) c.in-None.is c.in_ok-walk.ensures.found in
     let w = seeded_by a b c.is_tabled.ensures.tables c.is_tabled-2.ensures.tables met.pairs.items
     met.there.items met.back.items c.requires.tables.tell c.args.x.0 c.requires.alone c.requires.there c.args.y.0
     had from o k e from_is c.requires.walked in
@@ -222,7 +222,7 @@ try_pair-returns-clause-found t c =
     c.in_ok-put_pair.ensures.pairs ∙ ap (λ (ps : List (ℕ × ℕ)). ps ++ (c.args.x.0, c.args.y.0) ∷ []) c.in_ok-more.ensures.pairs in
     let meets = meets_new a b met.pairs.items met.there.items met.back.items c.requires.tables.tell c.args.x.0 c.args.y.0
     had c.requires.alone o k e in
-    let g = subst (λ (o : Option Port). Finds a b from had o c.walk.new.met.pairs.items) c.in-None.is c.in_ok-walk.ensures.found in
+    let g = subst (λ (o : Option (Port × Port)). Finds a b from had o c.walk.new.met.pairs.items) c.in-None.is c.in_ok-walk.ensures.found in
     let may : MayMeet a b met.pairs.items c.args.x.0 c.args.y.0 = (
       are_new a b met.pairs.items met.there.items
           met.back.items c.requires.tables.tell c.args.x.0 c.args.y.0 c.requires.alone o,

@@ -16,8 +16,8 @@ loop-at-preserved c =
       c.in_ok-match_partners.ensures.tables,
       steps_on c.args.a.now c.args.b.now c.args.from c.args.met.now.pairs.items l.at l.met.pairs.items l.invariant.1
           c.free_ports-free.result c.len.result c.free_ports-free.ensures.free size c.loop-at-test.true
-          c.pair_at-x.result.0 c.pair_at-x.result.1 c.port_on-port.result c.port_on.result pair c.port_on-port.ensures
-          c.port_on.ensures c.in_ok-match_partners.field-0 c.match_partners.new.met.pairs.items yes
+          c.pair_at-x.result.0 c.pair_at-x.result.1 c.port_on-port.result c.port_on-other.result pair
+          c.port_on-port.ensures c.port_on-other.ensures c.in_ok-match_partners.field-0 c.match_partners.new.met.pairs.items yes
           c.in_ok-match_partners.ensures.told,
     )
 
