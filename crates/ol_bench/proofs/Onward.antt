@@ -1,6 +1,7 @@
 -- What comes of a file that gives no bytes, and what is written of an answer.
 use Rattle.std.proofs.Common.{◌≡◌, ℕ, ◌<◌, ◌≤◌, ◌↔◌, ◌⊎◌, inl, inr, Bool, List, Option, length}
-use Rattle.std.proofs.Common.{refl, subst, sym, Vec, Global, Result, Ok, Err, IfOk, arith}
+use Rattle.std.proofs.Common.{refl, subst, sym, ap, ◌∙◌, Vec, Global, Result, Ok, Err, IfOk, arith, [], ◌∷◌, ◌++◌, ◌+◌, drop, slice_index_or}
+use Rattle.std.proofs.lemmas.List.{drop_more}
 use Rattle.std.specs.Result.{IsErrOf}
 use Rattle.ol_io.specs.declared.calls.ReadAll.{ReadAll}
 use Rattle.ol_io.specs.declared.calls.ReadAll.TheVariants as read
@@ -17,7 +18,9 @@ use Rattle.ol_bench.specs.declared.asked.OnOne.{OnOne}
 use Rattle.ol_bench.specs.declared.asked.OnTwo.{OnTwo}
 use Rattle.ol_bench.specs.declared.top.Status.{Status}
 use Rattle.ol_bench.specs.Commands.{IsAnswerToOne, IsAnswerToTwo, IsCauseOfOne, IsCauseOfTwo, IsCauseOnward}
-use Rattle.ol_bench.specs.Commands.{content_of, contents_of}
+use Rattle.ol_bench.specs.Commands.{content_of, contents_of, of_term, IsStudent, IsCauseOfStudents, IsCauseOfSolution, IsCauseOfGrade}
+use Rattle.ol_grades.specs.declared.grading.Student.{Student}
+use Rattle.ol_grades.specs.declared.reading.Bounds.{Bounds}
 use Rattle.ol_bench.specs.Inputs.{ComesOf, Files, IsAllWithin, fault, too_long, of_bytes, most_of, after_taking, told_of}
 use Rattle.ol_bench.specs.Taking.{IsReadOnce, IsRefusal}
 use Rattle.ol_bench.specs.Writing.{Change, GoesTo, Told, WritesAnswer, is_shown, status_of, told}
@@ -103,6 +106,67 @@ module _ (files : Files) (faults faults' : ℕ) (text : List ℕ) (e : End) (c :
   two_read command file other bytes mid same all stays cause = of_bytes bytes
       (subst (λ c. IsAllWithin (most_of c) (told_of files file) bytes) same all)
       (subst (λ f. IsCauseOnward command bytes other (after_taking file files) f faults' text e) stays cause)
+
+-- the file at a place is the next of those that are left
+pub next_file : (list : List Given) (at : ℕ) (file : Given) → at < length list → file ≡ slice_index_or list at file →
+    drop at list ≡ file ∷ drop (at + 1) list
+next_file list at file here is = drop_more list at file here ∙ ap (λ x. x ∷ drop (at + 1) list) (sym is)
+
+module _ (files : Files) (faults faults' : ℕ) (text : List ℕ) (e : End) where
+  -- a file of `grade` gives no bytes
+  pub no_bytes : (file : Option (List ℕ)) (OfBytes : List ℕ → List ℕ → End → Type 0) (why : ReadAll) →
+      Counts (read_all_failed (Err why)) faults faults' →
+      (IsErrOf {T = Vec ℕ Global} {E = ReadAll} (Err why) read.TooLong → IsLonger file (most_of of_term)) →
+      IsRefusal why of_term text → e ≡ Refused → ComesOf of_term file faults faults' OfBytes text e
+  no_bytes file OfBytes why counts longer line end =
+      not_read of_term of_term file faults faults' OfBytes text e why counts longer line end refl
+
+  module _ (bounds : Bounds) (inputs solution : List ℕ) (before : List Student) (list : List Given) (at : ℕ)
+      (file : Given) (here : at < length list) (is : file ≡ slice_index_or list at file) where
+    -- the next student's file gives no bytes, or these
+    pub student_not_read : (why : ReadAll) → Counts (read_all_failed (Err why)) faults faults' →
+        (IsErrOf {T = Vec ℕ Global} {E = ReadAll} (Err why) read.TooLong →
+        IsLonger (told_of files file) (most_of of_term)) → IsRefusal why of_term text → e ≡ Refused →
+        IsCauseOfStudents bounds inputs solution before (drop at list) files faults faults' text e
+    student_not_read why counts longer line end =
+        subst (λ left. IsCauseOfStudents bounds inputs solution before left files faults faults' text e)
+        (sym (next_file list at file here is))
+        (no_bytes (told_of files file) _ why counts longer line end)
+
+    pub student_read : (more : List Student) (bytes : List ℕ) (mid : ℕ) →
+        IsAllWithin (most_of of_term) (told_of files file) bytes → mid ≡ faults →
+        ((s : Student) × IsStudent file bytes s × (more ≡ before ++ s ∷ [])) →
+        IsCauseOfStudents bounds inputs solution more (drop (at + 1) list) (after_taking file files) mid faults' text e →
+        IsCauseOfStudents bounds inputs solution before (drop at list) files faults faults' text e
+    student_read more bytes mid all stays (s, student, one) cause =
+        subst (λ left. IsCauseOfStudents bounds inputs solution before left files faults faults' text e)
+        (sym (next_file list at file here is))
+        (of_bytes bytes all (
+          s,
+          student,
+          subst (λ f. IsCauseOfStudents bounds inputs solution (before ++ s ∷ [])
+              (drop (at + 1) list) (after_taking file files) f faults' text e) stays
+              (subst (λ r. IsCauseOfStudents bounds inputs solution r (drop (at + 1) list) (after_taking file files)
+              mid faults' text e) one cause),
+        ))
+
+  -- the file with the solution has these bytes, or that with the inputs
+  pub solution_read : (bounds : Bounds) (inputs : List ℕ) (file : Given) (students : List Given) (bytes : List ℕ)
+      (before : List Student) (mid : ℕ) → IsAllWithin (most_of of_term) (told_of files file) bytes → mid ≡ faults →
+      before ≡ [] → IsCauseOfStudents bounds inputs bytes before students (after_taking file files) mid faults' text e →
+      IsCauseOfSolution bounds inputs file students files faults faults' text e
+  solution_read bounds inputs file students bytes before mid all stays none cause = of_bytes bytes all
+      (subst (λ f. IsCauseOfStudents bounds inputs bytes [] students (after_taking file files) f faults' text e) stays
+      (subst (λ r. IsCauseOfStudents bounds inputs bytes r students (after_taking file files) mid faults' text e)
+      none cause))
+
+  pub inputs_read : (bounds : Bounds) (file solution : Given) (students : List Given) (bytes : List ℕ) (mid : ℕ) →
+      IsAllWithin (most_of of_term) (told_of files file) bytes → mid ≡ faults →
+      IsCauseOfSolution bounds bytes solution students (after_taking file files) mid faults' text e →
+      IsCauseOfGrade bounds file solution students files faults faults' text e
+  inputs_read bounds file solution students bytes mid all stays cause = of_bytes bytes all
+      (subst (λ f. IsCauseOfSolution bounds bytes solution students (after_taking file files) f faults' text e)
+      stays cause)
 
 -- the readings of the first of two files, and those after it
 pub parts : (g : Given) (files : Files) (tells : List ℕ → Option (List ℕ))

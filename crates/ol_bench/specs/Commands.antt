@@ -1,5 +1,6 @@
 -- The commands: what each asks of its files, and what is answered.
-use Rattle.std.specs.Prelude.{◌≡◌, ℕ, ◌+◌, ◌≤◌, List, ◌⊎◌}
+use Rattle.std.specs.Prelude.{◌≡◌, ℕ, ◌+◌, ◌≤◌, List, [], ◌∷◌, ◌++◌, ◌⊎◌, length}
+use Rattle.std.specs.Prelude.{codes, string_bytes}
 use Rattle.ol_limits.specs.Limits.{most_fuel}
 use Rattle.ol_term.specs.declared.translations.Translation.TheVariants as translation
 use Rattle.ol_subjects.specs.declared.answers.End.{End}
@@ -7,6 +8,7 @@ use Rattle.ol_subjects.specs.declared.subjects.Subject.TheVariants as subject
 use Rattle.ol_bench.specs.declared.asked.Content.{Content}
 use Rattle.ol_bench.specs.declared.asked.Content.TheVariants.{Subject, Journal}
 use Rattle.ol_bench.specs.declared.asked.Given.{Given}
+use Rattle.ol_bench.specs.declared.asked.Given.TheVariants as given
 use Rattle.ol_bench.specs.declared.asked.OnOne.{OnOne}
 use Rattle.ol_bench.specs.declared.asked.OnOne.TheVariants as one
 use Rattle.ol_bench.specs.declared.asked.OnTwo.{OnTwo}
@@ -18,12 +20,19 @@ use Rattle.ol_places.specs.Places.{IsWhere}
 use Rattle.ol_places.specs.Wanted.{IsStop}
 use Rattle.ol_steps.specs.Steps.{IsStepsOf}
 use Rattle.ol_derivations.specs.Derivations.{IsDerivation}
-use Rattle.ol_orders.specs.Tables.{IsCounted}
+use Rattle.ol_counts.specs.Counted.{IsCounted}
 use Rattle.ol_orders.specs.Orders.{IsJournal}
 use Rattle.ol_explain.specs.Afters.{IsAfter}
 use Rattle.ol_explain.specs.Explained.{IsExplained}
 use Rattle.ol_explain.specs.Judged.{IsJudged}
 use Rattle.ol_same.specs.Same.{IsSame}
+use Rattle.ol_free.specs.Frees.{IsFree}
+use Rattle.ol_waves.specs.Answers.{IsWavesAnswer}
+use Rattle.ol_stories.specs.Stories.{IsStoryAnswer}
+use Rattle.ol_grades.specs.declared.grading.Student.{Student}
+use Rattle.ol_grades.specs.declared.reading.Bounds.{Bounds}
+use Rattle.ol_grades.specs.Grades.{IsGraded}
+use Rattle.ol_decoding.specs.Shown.{IsShown}
 
 -- ---- a command on one file
 
@@ -33,8 +42,12 @@ content_of (one.Where byte) = Journal
 content_of one.Stop = Subject (subject.Term translation.Two)
 content_of one.Derivation = Subject (subject.Term translation.Two)
 content_of (one.Steps how most) = Subject (subject.Term translation.Two)
-content_of (one.Counts s bounds) = Subject s
+content_of (one.Counts s bounds columns) = Subject s
 content_of (one.Journal s order fuel heads) = Subject s
+content_of one.Free = Subject (subject.Term translation.Two)
+content_of (one.Waves s fuel) = Subject s
+content_of (one.Story s fuel) = Subject s
+content_of (one.Show translation fuel heads) = Subject (subject.Term translation)
 
 -- its numbers are within their bounds
 abbrev pub IsOneWithin : OnOne → Type 0
@@ -42,8 +55,12 @@ IsOneWithin (one.Where byte) = Unit {0}
 IsOneWithin one.Stop = Unit {0}
 IsOneWithin one.Derivation = Unit {0}
 IsOneWithin (one.Steps how most) = Unit {0}
-IsOneWithin (one.Counts s bounds) = Unit {0}
+IsOneWithin (one.Counts s bounds columns) = Unit {0}
 IsOneWithin (one.Journal s order fuel heads) = Unit {0}
+IsOneWithin one.Free = Unit {0}
+IsOneWithin (one.Waves s fuel) = Unit {0}
+IsOneWithin (one.Story s fuel) = Unit {0}
+IsOneWithin (one.Show translation fuel heads) = Unit {0}
 
 -- the answer to the bytes of the file
 abbrev pub IsAnswerToOne : OnOne → List ℕ → List ℕ → End → Type 0
@@ -51,9 +68,14 @@ IsAnswerToOne (one.Where byte) bytes text e = IsWhere bytes byte text e
 IsAnswerToOne one.Stop bytes text e = IsStop bytes text e
 IsAnswerToOne one.Derivation bytes text e = IsDerivation bytes text e
 IsAnswerToOne (one.Steps how most) bytes text e = IsStepsOf bytes how most text e
-IsAnswerToOne (one.Counts s bounds) bytes text e = IsCounted bytes bounds text s e
+IsAnswerToOne (one.Counts s bounds columns) bytes text e = IsCounted bytes bounds columns text s e
 IsAnswerToOne (one.Journal s order fuel heads) bytes text e =
     IsJournal bytes order fuel.most heads.most text s e
+IsAnswerToOne one.Free bytes text e = IsFree bytes text e
+IsAnswerToOne (one.Waves s fuel) bytes text e = IsWavesAnswer bytes fuel.most text s e
+IsAnswerToOne (one.Story s fuel) bytes text e = IsStoryAnswer bytes fuel.most text s e
+IsAnswerToOne (one.Show translation fuel heads) bytes text e =
+    IsShown bytes translation fuel.most heads.most text e
 
 -- ---- a command on two files
 
@@ -78,17 +100,73 @@ IsAnswerToTwo (two.Check s) bytes more text e = IsJudged bytes more text s e
 IsAnswerToTwo (two.Explain s) bytes more text e = IsExplained bytes more text s e
 IsAnswerToTwo two.Same bytes more text e = IsSame bytes more text e
 
+-- ---- students' functions
+
+-- the most files of students
+abbrev pub most_students : ℕ
+most_students = 1000
+
+-- what stands in each file
+abbrev pub of_term : Content
+of_term = Subject (subject.Term translation.Two)
+
+-- the name of a file, or the option behind which a text stands
+abbrev pub student_name : Given → List ℕ
+student_name (given.Name file) = string_bytes file
+student_name (given.Text text) = codes "-e"
+
+-- a student whose file has these bytes
+pub record IsStudent (file : Given) (bytes : List ℕ) (s : Student) : Type 0 where
+  pub name : s.name.items ≡ student_name file
+  pub text : s.bytes.items ≡ bytes
+
+-- The answer on these inputs and this solution, where the files of these students were read, and then the files that are
+-- left are read.
+abbrev pub IsCauseOfStudents : Bounds → (inputs solution : List ℕ) → List Student → List Given → Files →
+    (faults faults' : ℕ) → List ℕ → End → Type 0
+IsCauseOfStudents bounds inputs solution read [] files faults faults' text e =
+    (faults' ≡ faults) × IsGraded inputs solution read bounds text e
+IsCauseOfStudents bounds inputs solution read (file ∷ left) files faults faults' text e =
+    ComesOf of_term (told_of files file) faults faults'
+    (λ bytes text e. (s : Student) × IsStudent file bytes s
+    × IsCauseOfStudents bounds inputs solution (read ++ s ∷ []) left (after_taking file files)
+    faults faults' text e) text e
+
+-- the answer on these inputs, where the solution and the students' files are read
+abbrev pub IsCauseOfSolution : Bounds → (inputs : List ℕ) → Given → List Given → Files →
+    (faults faults' : ℕ) → List ℕ → End → Type 0
+IsCauseOfSolution bounds inputs file students files faults faults' text e =
+    ComesOf of_term (told_of files file) faults faults'
+    (λ solution text e. IsCauseOfStudents bounds inputs solution [] students
+    (after_taking file files) faults faults' text e) text e
+
+-- the answer, where all files are read
+abbrev pub IsCauseOfGrade : Bounds → (inputs solution : Given) → List Given → Files →
+    (faults faults' : ℕ) → List ℕ → End → Type 0
+IsCauseOfGrade bounds inputs solution students files faults faults' text e =
+    ComesOf of_term (told_of files inputs) faults faults'
+    (λ bytes text e. IsCauseOfSolution bounds bytes solution students (after_taking inputs files)
+    faults faults' text e) text e
+
 -- ---- what is asked
 
 -- the numbers are within their bounds
 abbrev pub IsWithinBounds : Asked → Type 0
 IsWithinBounds (asked.One file command) = IsOneWithin command
 IsWithinBounds (asked.Two file other command) = IsTwoWithin command
+IsWithinBounds (asked.Grade inputs solution students bounds) = length students.items ≤ most_students
+
+-- one of these files has this name
+abbrev pub HaveName : List Given → List ℕ → Type 0
+HaveName [] name = ⊥
+HaveName (file ∷ files) name = IsNamed file name ⊎ HaveName files name
 
 -- a file of this name is asked for
 abbrev pub Names : Asked → List ℕ → Type 0
 Names (asked.One file command) name = IsNamed file name
 Names (asked.Two file other command) name = IsNamed file name ⊎ IsNamed other name
+Names (asked.Grade inputs solution students bounds) name =
+    IsNamed inputs name ⊎ (IsNamed solution name ⊎ HaveName students.items name)
 
 -- The answer of a command on one file, whose bytes are told, by the calls of the source that had
 -- failed before and that now have.
@@ -118,3 +196,5 @@ IsCause (asked.One file command) files faults faults' text e =
     IsCauseOfOne command file files faults faults' text e
 IsCause (asked.Two file other command) files faults faults' text e =
     IsCauseOfTwo command file other files faults faults' text e
+IsCause (asked.Grade inputs solution students bounds) files faults faults' text e =
+    IsCauseOfGrade bounds inputs solution students.items files faults faults' text e

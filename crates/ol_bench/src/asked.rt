@@ -7,16 +7,22 @@ ghost use Rattle.std.specs.Prelude.{◌≡◌, ◌≤◌, length, IfOk};
 ghost use Rattle.ol_bench.specs.Inputs.{most_of};
 ghost use Rattle.ol_bench.specs.Commands.{IsOneWithin, IsTwoWithin, IsAnswerToOne, IsAnswerToTwo, content_of, contents_of};
 
+use ol_counts::{Bounds, Columns, counted};
+use ol_decoding::show;
 use ol_derivations::derivation;
 use ol_explain::{after, explained, judged};
+use ol_free::free_names;
+use ol_grades::Bounds as Following;
 use ol_limits::{Fuel, Heads, MOST_JOURNAL_BYTES};
 use ol_memory::NoMemory;
-use ol_orders::{Bounds, Order, counted, journal};
+use ol_orders::{Order, journal};
 use ol_places::{stop, whereabouts};
 use ol_same::same;
 use ol_steps::{Shown, steps};
+use ol_stories::story;
 use ol_subjects::{Answer, Subject, most_bytes};
 use ol_term::Translation;
+use ol_waves::wave_table;
 use std::alloc::Global;
 
 /// Where the bytes of a file come from.
@@ -48,7 +54,7 @@ pub fn most_of(content: Content) -> usize
 }
 
 // A term by the second translation, where the translation plays no part.
-const TERM: Subject = Subject::Term(Translation::Two);
+pub const TERM: Subject = Subject::Term(Translation::Two);
 
 /// A command on one file.
 #[derive(Clone, Copy)]
@@ -67,17 +73,37 @@ pub enum OnOne {
         how: Shown,
         most: u32,
     },
-    /// Interactions and beta steps of three ways to reduce, each within its bound; of leftmost
-    /// steps any number.
+    /// What the ways of reducing cost that have a column, each within its bound; of steps and of
+    /// moves any number.
     Counts {
         subject: Subject,
         bounds: Bounds,
+        columns: Columns,
     },
     /// The journal of a run in this order: of at most `fuel` interactions, and on demand of at
     /// most `heads` subterms.
     Journal {
         subject: Subject,
         order: Order,
+        fuel: Fuel,
+        heads: Heads,
+    },
+    /// The free names of a text, with line and column.
+    Free,
+    /// How many pairs each wave of a run has, of at most `fuel` interactions.
+    Waves {
+        subject: Subject,
+        fuel: Fuel,
+    },
+    /// Each step of the run that takes the least pair, of at most `fuel` interactions.
+    Story {
+        subject: Subject,
+        fuel: Fuel,
+    },
+    /// The normal form of a term, and which values it encodes. `demand` finds it by at most `fuel`
+    /// interactions, and asks for at most `heads` subterms.
+    Show {
+        translation: Translation,
         fuel: Fuel,
         heads: Heads,
     },
@@ -95,6 +121,10 @@ impl OnOne {
             OnOne::Steps { .. } => Content::Subject(TERM),
             OnOne::Counts { subject, .. } => Content::Subject(subject),
             OnOne::Journal { subject, .. } => Content::Subject(subject),
+            OnOne::Free => Content::Subject(TERM),
+            OnOne::Waves { subject, .. } => Content::Subject(subject),
+            OnOne::Story { subject, .. } => Content::Subject(subject),
+            OnOne::Show { translation, .. } => Content::Subject(Subject::Term(translation)),
         }
     }
 
@@ -121,8 +151,12 @@ impl OnOne {
                 let answer = steps(alloc, bytes, how, most)?;
                 Ok(answer)
             }
-            OnOne::Counts { subject, bounds } => {
-                let answer = counted(alloc, bytes, subject, bounds)?;
+            OnOne::Counts {
+                subject,
+                bounds,
+                columns,
+            } => {
+                let answer = counted(alloc, bytes, subject, bounds, columns)?;
                 Ok(answer)
             }
             OnOne::Journal {
@@ -132,6 +166,26 @@ impl OnOne {
                 heads,
             } => {
                 let answer = journal(alloc, bytes, subject, order, fuel, heads)?;
+                Ok(answer)
+            }
+            OnOne::Free => {
+                let answer = free_names(alloc, bytes)?;
+                Ok(answer)
+            }
+            OnOne::Waves { subject, fuel } => {
+                let answer = wave_table(alloc, bytes, subject, fuel)?;
+                Ok(answer)
+            }
+            OnOne::Story { subject, fuel } => {
+                let answer = story(alloc, bytes, subject, fuel)?;
+                Ok(answer)
+            }
+            OnOne::Show {
+                translation,
+                fuel,
+                heads,
+            } => {
+                let answer = show(alloc, bytes, translation, fuel, heads)?;
                 Ok(answer)
             }
         }
@@ -198,8 +252,8 @@ impl OnTwo {
     }
 }
 
-/// What is asked: a command, and where the bytes of its files come from. Of two files the first one
-/// is read first.
+/// What is asked: a command, and where the bytes of its files come from. They are read in the order
+/// in which they stand here.
 #[derive(Drop)]
 pub enum Asked {
     One {
@@ -210,5 +264,13 @@ pub enum Asked {
         file: Given,
         other: Given,
         command: OnTwo,
+    },
+    /// What is said of students' functions, each compared with a solution on the same inputs: of at
+    /// most 1,000 students. Each of them is named as his file.
+    Grade {
+        inputs: Given,
+        solution: Given,
+        students: Vec<Given>,
+        bounds: Following,
     },
 }

@@ -1,17 +1,19 @@
 //! A command, from its files to what is written.
 
-ghost use Rattle.std.specs.Prelude.{◌≡◌, ℕ, List, Option, ◌≤◌, length, true, IfOk};
+ghost use Rattle.std.specs.Prelude.{◌≡◌, ℕ, List, [], ◌∷◌, ◌++◌, Option, ◌≤◌, length, drop, true, IfOk};
 ghost use Rattle.ol_io.specs.Readings.{AreOfSince};
 ghost use Rattle.ol_bench.specs.Inputs.{IsNamed, most_of};
 ghost use Rattle.ol_bench.specs.Commands.{IsCause, IsCauseOfOne, IsCauseOfTwo, IsCauseOnward, IsOneWithin, IsTwoWithin, IsWithinBounds, Names, contents_of};
+ghost use Rattle.ol_bench.specs.Commands.{HaveName, IsCauseOfGrade, IsCauseOfSolution, IsCauseOfStudents, IsStudent, student_name};
 ghost use Rattle.ol_bench.specs.Statuses.{status_number};
 ghost use Rattle.ol_bench.specs.Writing.{Told, WritesAnswer, change_of, is_shown, status_of};
 
-use crate::asked::{Asked, Given, OnOne, OnTwo};
+use crate::asked::{Asked, Content, Given, OnOne, OnTwo, TERM};
 use crate::taking::{bytes_of, refusal};
+use ol_grades::{Bounds as Following, Student, grade};
 use ol_io::{Sink, Source, Written, write_all};
 use ol_memory::NoMemory;
-use ol_subjects::{Answer, End};
+use ol_subjects::{Answer, End, put};
 use std::alloc::Global;
 
 /// How a call of the bench ended.
@@ -149,6 +151,138 @@ fn of_two<S: Source>(
     }
 }
 
+// The name of a student, as it stands before what is said of him.
+fn student_name(file: &Given, alloc: Global) -> Result<Vec<u8>, NoMemory>
+    ensures { IfOk result (λ name. name.items ≡ student_name file.now) }
+{
+    let mut name = Vec::new(alloc);
+    match file {
+        Given::Name(file) => put(&mut name, file.as_bytes())?,
+        Given::Text(_) => put(&mut name, b"-e")?,
+    }
+    Ok(name)
+}
+
+// The students with one more, whose file has these bytes.
+fn with_student(
+    alloc: Global,
+    students: Vec<Student>,
+    file: &Given,
+    bytes: Vec<u8>,
+) -> Result<Vec<Student>, NoMemory>
+    ensures { IfOk result (λ more. (s : Student) × IsStudent file.now bytes.items s
+        × (more.items ≡ students.items ++ s ∷ [])) }
+{
+    let mut students = students;
+    let name = student_name(file, alloc)?;
+    students.push(Student { name, bytes })?;
+    Ok(students)
+}
+
+// The answer on these inputs and this solution, where the files of these students were read, and
+// those from `at` on are left.
+fn of_students<S: Source>(
+    alloc: Global,
+    src: &mut S,
+    bounds: Following,
+    inputs: &[u8],
+    solution: &[u8],
+    read: Vec<Student>,
+    files: &[Given],
+    at: usize,
+) -> Result<Answer, NoMemory>
+    requires known { (name : List ℕ) → HaveName (drop at files.now) name
+        → S.knows src.old name ≡ true }
+    requires place { at ≤ length files.now }
+    ensures caused { (told : ℕ → List ℕ → Option (List ℕ))
+        → AreOfSince told (S.readings src.old) (S.readings src.new)
+        → IfOk result (λ a. IsCauseOfStudents bounds inputs.now solution.now read.items
+        (drop at files.now) told (S.faults src.old) (S.faults src.new) a.text.items a.end) }
+    ensures told { AreOfSince (λ _. S.contents src.old) (S.readings src.old) (S.readings src.new) }
+{
+    if at == files.len() {
+        let answer = grade(alloc, inputs, solution, &read, bounds)?;
+        return Ok(answer);
+    }
+    let content = Content::Subject(TERM);
+    let file = &files[at];
+    match bytes_of(alloc, src, file, content) {
+        Err(fault) => {
+            let answer = refusal(alloc, fault, content)?;
+            Ok(answer)
+        }
+        Ok(bytes) => {
+            let more = with_student(alloc, read, file, bytes)?;
+            let answer = of_students(alloc, src, bounds, inputs, solution, more, files, at + 1)?;
+            Ok(answer)
+        }
+    }
+}
+
+// The answer on these inputs, where the solution and the students' files are read.
+fn of_solution<S: Source>(
+    alloc: Global,
+    src: &mut S,
+    bounds: Following,
+    inputs: &[u8],
+    solution: &Given,
+    students: &[Given],
+) -> Result<Answer, NoMemory>
+    requires solution { (name : List ℕ) → IsNamed solution.now name → S.knows src.old name ≡ true }
+    requires students { (name : List ℕ) → HaveName students.now name
+        → S.knows src.old name ≡ true }
+    ensures caused { (files : ℕ → List ℕ → Option (List ℕ))
+        → AreOfSince files (S.readings src.old) (S.readings src.new)
+        → IfOk result (λ a. IsCauseOfSolution bounds inputs.now solution.now students.now files
+        (S.faults src.old) (S.faults src.new) a.text.items a.end) }
+    ensures told { AreOfSince (λ _. S.contents src.old) (S.readings src.old) (S.readings src.new) }
+{
+    let content = Content::Subject(TERM);
+    match bytes_of(alloc, src, solution, content) {
+        Err(fault) => {
+            let answer = refusal(alloc, fault, content)?;
+            Ok(answer)
+        }
+        Ok(bytes) => {
+            let none = Vec::new(alloc);
+            let answer = of_students(alloc, src, bounds, inputs, &bytes, none, students, 0)?;
+            Ok(answer)
+        }
+    }
+}
+
+// What is said of students' functions.
+fn of_grade<S: Source>(
+    alloc: Global,
+    src: &mut S,
+    bounds: Following,
+    inputs: &Given,
+    solution: &Given,
+    students: &[Given],
+) -> Result<Answer, NoMemory>
+    requires inputs { (name : List ℕ) → IsNamed inputs.now name → S.knows src.old name ≡ true }
+    requires solution { (name : List ℕ) → IsNamed solution.now name → S.knows src.old name ≡ true }
+    requires students { (name : List ℕ) → HaveName students.now name
+        → S.knows src.old name ≡ true }
+    ensures caused { (files : ℕ → List ℕ → Option (List ℕ))
+        → AreOfSince files (S.readings src.old) (S.readings src.new)
+        → IfOk result (λ a. IsCauseOfGrade bounds inputs.now solution.now students.now files
+        (S.faults src.old) (S.faults src.new) a.text.items a.end) }
+    ensures told { AreOfSince (λ _. S.contents src.old) (S.readings src.old) (S.readings src.new) }
+{
+    let content = Content::Subject(TERM);
+    match bytes_of(alloc, src, inputs, content) {
+        Err(fault) => {
+            let answer = refusal(alloc, fault, content)?;
+            Ok(answer)
+        }
+        Ok(bytes) => {
+            let answer = of_solution(alloc, src, bounds, &bytes, solution, students)?;
+            Ok(answer)
+        }
+    }
+}
+
 // The answer to what is asked.
 fn answer<S: Source>(alloc: Global, asked: &Asked, src: &mut S) -> Result<Answer, NoMemory>
     requires known { (name : List ℕ) → Names asked.now name → S.knows src.old name ≡ true }
@@ -166,6 +300,12 @@ fn answer<S: Source>(alloc: Global, asked: &Asked, src: &mut S) -> Result<Answer
             other,
             command,
         } => of_two(alloc, src, file, other, *command),
+        Asked::Grade {
+            inputs,
+            solution,
+            students,
+            bounds,
+        } => of_grade(alloc, src, *bounds, inputs, solution, students),
     }
 }
 

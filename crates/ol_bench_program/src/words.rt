@@ -1,14 +1,17 @@
 //! The words of a command line, read by clap.
 
-ghost use Rattle.std.specs.Prelude.{◌≤◌, IfOk, IfSome};
-ghost use Rattle.ol_bench.specs.Commands.{IsOneWithin, IsTwoWithin, IsWithinBounds};
+ghost use Rattle.std.specs.Prelude.{◌≤◌, length, IfOk, IfSome};
+ghost use Rattle.ol_bench.specs.Commands.{IsOneWithin, IsTwoWithin, IsWithinBounds, most_students};
+ghost use Rattle.ol_limits.specs.Limits.{most_fuel};
 
 use clap::{Arg, ArgAction, ArgMatches, Command, Error};
 use ol_bench::{Asked, Given, OnOne, OnTwo};
+use ol_counts::{Bounds, Columns};
+use ol_grades::Bounds as Following;
 use ol_limits::{
     Fuel, Heads, MOST_FUEL, MOST_HEADS, MOST_JOURNAL_BYTES, MOST_STEPS, PLAIN_FUEL, PLAIN_HEADS,
 };
-use ol_orders::{Bounds, Order};
+use ol_orders::Order;
 use ol_steps::Shown;
 use ol_strategies::Order as Reduction;
 use ol_subjects::Subject;
@@ -23,6 +26,19 @@ const OF_TWO: &str =
     "the file with the term or the net, `-` for standard input; with -e the file with the journal";
 
 const TRANSLATION: &str = "how the term becomes a net, 1 or 2; by itself 2";
+
+const PLAIN_FUEL_HELP: &str = "the most interactions, by itself 200000";
+
+// How many interactions `story` tells by itself.
+const STORY_FUEL: u32 = 1_000;
+
+// How many moves the machine of call-by-need makes by itself, and at most.
+const PLAIN_MOVES: u32 = 1_000_000;
+
+const MOST_MOVES: u32 = 8_000_000;
+
+// How many students `grade` compares at most.
+const MOST_STUDENTS: usize = 1_000;
 
 // The name of a file, behind this name.
 fn file<'a>(alloc: Global, id: &'a str, help: &'a str) -> Arg<'a> {
@@ -77,23 +93,22 @@ fn of_subject<'a>(alloc: Global, command: Command<'a>) -> Result<Command<'a>, Al
         .arg(number(alloc, "translation", 1, 2, TRANSLATION))
 }
 
+// The most interactions of a run.
+fn fuel<'a>(alloc: Global, help: &'a str) -> Arg<'a> {
+    number(alloc, "fuel", 0, MOST_FUEL as i64, help)
+}
+
+// The most places that `demand` asks.
+fn heads<'a>(alloc: Global) -> Arg<'a> {
+    let help = "the most places that `demand` asks, by itself 4096";
+    number(alloc, "heads", 1, MOST_HEADS as i64, help)
+}
+
 // A command that reads a term or a net, and runs it.
 fn of_run<'a>(alloc: Global, command: Command<'a>) -> Result<Command<'a>, AllocError> {
-    let fuel = number(
-        alloc,
-        "fuel",
-        0,
-        MOST_FUEL as i64,
-        "the most interactions, by itself 200000",
-    );
-    let heads = number(
-        alloc,
-        "heads",
-        1,
-        MOST_HEADS as i64,
-        "the most places that `demand` asks, by itself 4096",
-    );
-    of_subject(alloc, command)?.arg(fuel)?.arg(heads)
+    of_subject(alloc, command)?
+        .arg(fuel(alloc, PLAIN_FUEL_HELP))?
+        .arg(heads(alloc))
 }
 
 // A command that reads a term or a net, and a journal. With `-e` only the journal has a file, and
@@ -168,6 +183,11 @@ fn steps<'a>(alloc: Global) -> Result<Command<'a>, AllocError> {
             "the leftmost redex comes first, as it does by itself",
         ))?
         .arg(order)?
+        .arg(flag(
+            alloc,
+            "mark",
+            "a line of carets under the redex that comes next",
+        ))?
         .arg(number(
             alloc,
             "most",
@@ -180,16 +200,56 @@ fn steps<'a>(alloc: Global) -> Result<Command<'a>, AllocError> {
 
 fn counts<'a>(alloc: Global) -> Result<Command<'a>, AllocError> {
     let command = Command::new(alloc, "counts").about(
-        "Interactions and beta steps of a run, a run on demand and leftmost reduction",
+        "What a term costs by ways of reducing it, a column each",
     );
-    let most = number(
-        alloc,
-        "most",
-        0,
-        MOST_STEPS as i64,
-        "the most leftmost steps, by itself 1000",
+    let steps = "the most steps of leftmost and applicative order, by itself 1000";
+    let most = number(alloc, "most", 0, MOST_STEPS as i64, steps);
+    let by_need = "the most moves of call-by-need, by itself 1000000";
+    let moves = number(alloc, "moves", 0, MOST_MOVES as i64, by_need);
+    let command = of_run(alloc, command)?
+        .arg(most)?
+        .arg(moves)?
+        .arg(flag(alloc, "no-run", "no column for `run`"))?
+        .arg(flag(alloc, "no-demand", "no column for `demand`"))?
+        .arg(flag(alloc, "no-leftmost", "no column for leftmost order"))?
+        .arg(flag(alloc, "applicative", "a column for applicative order"))?
+        .arg(flag(alloc, "need", "a column for call-by-need"))?;
+    of_term(alloc, command, OF_TERM_OR_NET)
+}
+
+fn free<'a>(alloc: Global) -> Result<Command<'a>, AllocError> {
+    let command = Command::new(alloc, "free").about(
+        "The free names of a term, each with its line and column",
     );
-    of_term(alloc, of_run(alloc, command)?.arg(most)?, OF_TERM_OR_NET)
+    of_term(alloc, command, OF_TERM)
+}
+
+fn waves<'a>(alloc: Global) -> Result<Command<'a>, AllocError> {
+    let command = Command::new(alloc, "waves").about(
+        "How many pairs each wave of a run has, by rule",
+    );
+    let command = of_subject(alloc, command)?.arg(fuel(alloc, PLAIN_FUEL_HELP))?;
+    of_term(alloc, command, OF_TERM_OR_NET)
+}
+
+fn story<'a>(alloc: Global) -> Result<Command<'a>, AllocError> {
+    let command = Command::new(alloc, "story").about(
+        "Each step of the run that takes the least pair: nodes, births, and the pairs that are left",
+    );
+    let help = "the most interactions, by itself 1000";
+    let command = of_subject(alloc, command)?.arg(fuel(alloc, help))?;
+    of_term(alloc, command, OF_TERM_OR_NET)
+}
+
+fn show<'a>(alloc: Global) -> Result<Command<'a>, AllocError> {
+    let command = Command::new(alloc, "show")
+        .about(
+            "The normal form of a term, and which numerals, booleans, pairs and lists it encodes",
+        )
+        .arg(number(alloc, "translation", 1, 2, TRANSLATION))?
+        .arg(fuel(alloc, PLAIN_FUEL_HELP))?
+        .arg(heads(alloc))?;
+    of_term(alloc, command, OF_TERM)
 }
 
 fn places<'a>(alloc: Global) -> Result<Command<'a>, AllocError> {
@@ -220,6 +280,28 @@ fn same<'a>(alloc: Global) -> Result<Command<'a>, AllocError> {
         .arg(file(alloc, "other", help).required(true))
 }
 
+fn grade<'a>(alloc: Global) -> Result<Command<'a>, AllocError> {
+    let on = Arg::new(alloc, "on")
+        .long("on")
+        .value_name("inputs")
+        .required(true)
+        .action(ArgAction::Set)
+        .help("the file with the inputs, one a line");
+    let students = Arg::new(alloc, "student")
+        .required(true)
+        .action(ArgAction::Append)
+        .num_args(1..=MOST_STUDENTS as usize)
+        .help("the files with the students' functions");
+    Command::new(alloc, "grade")
+        .about("Whether students' functions give what a solution gives, on some inputs")
+        .arg(on)?
+        .arg(number(alloc, "translation", 1, 2, TRANSLATION))?
+        .arg(fuel(alloc, PLAIN_FUEL_HELP))?
+        .arg(heads(alloc))?
+        .arg(file(alloc, "name", "the file with the solution").required(true))?
+        .arg(students)
+}
+
 fn command<'a>(alloc: Global) -> Result<Command<'a>, AllocError> {
     Command::new(alloc, "ol-bench")
         .bin_name("ol-bench")?
@@ -233,7 +315,12 @@ fn command<'a>(alloc: Global) -> Result<Command<'a>, AllocError> {
         .subcommand(counts(alloc)?)?
         .subcommand(same(alloc)?)?
         .subcommand(places(alloc)?)?
-        .subcommand(derivation(alloc)?)
+        .subcommand(derivation(alloc)?)?
+        .subcommand(free(alloc)?)?
+        .subcommand(waves(alloc)?)?
+        .subcommand(story(alloc)?)?
+        .subcommand(show(alloc)?)?
+        .subcommand(grade(alloc)?)
 }
 
 // The number of an option: what it is by itself where it isn't given, and one of its ends where it
@@ -258,14 +345,37 @@ fn number_of(found: &ArgMatches, id: &str, least: u32, most: u32, default: u32) 
     }
 }
 
+fn translation_of(found: &ArgMatches) -> Translation {
+    if number_of(found, "translation", 1, 2, 2) == 1 {
+        Translation::One
+    } else {
+        Translation::Two
+    }
+}
+
 fn subject_of(found: &ArgMatches) -> Subject {
     if found.get_flag("net") {
-        return Subject::Net;
-    }
-    if number_of(found, "translation", 1, 2, 2) == 1 {
-        Subject::Term(Translation::One)
+        Subject::Net
     } else {
-        Subject::Term(Translation::Two)
+        Subject::Term(translation_of(found))
+    }
+}
+
+// How many interactions a run makes at most: this many, if the words don't say.
+fn fuel_of(found: &ArgMatches, default: u32) -> Fuel
+    requires { default ≤ most_fuel }
+{
+    Fuel::of(number_of(found, "fuel", 0, MOST_FUEL, default))
+}
+
+// Which ways of reducing have a column.
+fn columns_of(found: &ArgMatches) -> Columns {
+    Columns {
+        run: !found.get_flag("no-run"),
+        demand: !found.get_flag("no-demand"),
+        leftmost: !found.get_flag("no-leftmost"),
+        applicative: found.get_flag("applicative"),
+        need: found.get_flag("need"),
     }
 }
 
@@ -329,12 +439,13 @@ fn on_one(name: &str, found: &ArgMatches) -> OnOne
     ensures { IsOneWithin result }
 {
     let subject = subject_of(found);
-    let fuel = Fuel::of(number_of(found, "fuel", 0, MOST_FUEL, PLAIN_FUEL));
+    let fuel = fuel_of(found, PLAIN_FUEL);
     let heads = Heads::of(number_of(found, "heads", 1, MOST_HEADS, PLAIN_HEADS));
     match name {
         "steps" => OnOne::Steps {
             how: Shown {
                 order: reduction_of(found),
+                marked: found.get_flag("mark"),
             },
             most: number_of(found, "most", 0, MOST_STEPS, 100),
         },
@@ -344,7 +455,9 @@ fn on_one(name: &str, found: &ArgMatches) -> OnOne
                 fuel,
                 heads,
                 steps: number_of(found, "most", 0, MOST_STEPS, 1_000),
+                moves: number_of(found, "moves", 0, MOST_MOVES, PLAIN_MOVES),
             },
+            columns: columns_of(found),
         },
         "journal" => OnOne::Journal {
             subject,
@@ -353,6 +466,17 @@ fn on_one(name: &str, found: &ArgMatches) -> OnOne
             heads,
         },
         "derivation" => OnOne::Derivation,
+        "free" => OnOne::Free,
+        "waves" => OnOne::Waves { subject, fuel },
+        "story" => OnOne::Story {
+            subject,
+            fuel: fuel_of(found, STORY_FUEL),
+        },
+        "show" => OnOne::Show {
+            translation: translation_of(found),
+            fuel,
+            heads,
+        },
         _ => place_of(found),
     }
 }
@@ -413,10 +537,49 @@ fn asked_of_two(
     })
 }
 
+// The files of these names.
+fn files_of(alloc: Global, found: &ArgMatches, id: &str) -> Result<Vec<Given>, Error>
+    ensures { IfOk result (λ files. length files.items ≤ most_students) }
+{
+    let mut files: Vec<Given> = Vec::new(alloc);
+    let Some(names) = found.get_strs(id) else {
+        return Ok(files);
+    };
+    // clap takes no more words.
+    for k in 0..names.len().min(MOST_STUDENTS) {
+        let name = String::from_str(alloc, names[k])?;
+        files.push(Given::Name(name))?;
+    }
+    Ok(files)
+}
+
+// The command `grade`.
+fn grading_of(alloc: Global, found: &ArgMatches) -> Result<Asked, Error>
+    ensures { IfOk result IsWithinBounds }
+{
+    let inputs = file_of(alloc, found, "on")?;
+    let solution = file_of(alloc, found, "name")?;
+    let students = files_of(alloc, found, "student")?;
+    let bounds = Following {
+        translation: translation_of(found),
+        fuel: fuel_of(found, PLAIN_FUEL),
+        heads: Heads::of(number_of(found, "heads", 1, MOST_HEADS, PLAIN_HEADS)),
+    };
+    Ok(Asked::Grade {
+        inputs,
+        solution,
+        students,
+        bounds,
+    })
+}
+
 // What is asked by what was given behind the name of a command.
 fn asked_of(alloc: Global, name: &str, found: &ArgMatches) -> Result<Asked, Error>
     ensures { IfOk result IsWithinBounds }
 {
+    if name == "grade" {
+        return grading_of(alloc, found);
+    }
     let term = term_of(alloc, found)?;
     match on_two(name, found) {
         Some(command) => asked_of_two(alloc, command, found, term),

@@ -11,3 +11,9 @@ pub returns-in-Two-clause-caused : goal.returns-in-Two-clause-caused
 returns-in-Two-clause-caused g c = λ files of.
     subst (λ asked. IfOk c.of_two.result (λ a. IsCause asked files (g.S.Source.faults c.args.src.now)
     (g.S.Source.faults c.of_two.new.src) a.text.items a.end)) (sym c.in-Two.is) (c.of_two.ensures.caused files of)
+
+pub returns-in-Grade-clause-caused : goal.returns-in-Grade-clause-caused
+returns-in-Grade-clause-caused g c = λ files of.
+    subst (λ asked. IfOk c.of_grade.result (λ a. IsCause asked files (g.S.Source.faults c.args.src.now)
+    (g.S.Source.faults c.of_grade.new.src) a.text.items a.end)) (sym c.in-Grade.is)
+    (rw c.deref.ensures.value at (c.of_grade.ensures.caused files of))
