@@ -24,6 +24,7 @@ LONG = [
     Long("refused-memory", "each allocation refused in turn", None),
     Long("workers", "10,000 runs by 2 to 64 workers", None),
     Long("families", "betas and families of 4,000 terms", None),
+    Long("strategies", "`ol-bench counts` on 1,000 terms", None),
     Long("afters", "`ol-bench after` on 1,000 terms", None),
     Long("explains", "`ol-bench explain` on 1,000 terms", None),
     Long("sames", "`ol-bench same` on 1,000 terms", None),
@@ -47,8 +48,7 @@ def run(names):
 def tell_of_others():
     print("Not run here (tests/all --long runs them too), with the seconds that they took on four idle processors, where these were measured:")
     for it in LONG:
-        print(f"  tests/{it.name:14} {it.takes or '-':>4}  {it.tries}")
-    print("tests/strategies tries nothing: it prints a table of the terms that it is given.", flush=True)
+        print(f"  tests/{it.name:14} {it.takes or '-':>4}  {it.tries}", flush=True)
 
 
 def main(words):

@@ -1,6 +1,11 @@
-"""Counts beta steps of terms: by `ol demand`, by `ol run`, by need, and leftmost.
+"""Counts beta steps of terms: by `ol demand`, by `ol run`, by need, and leftmost; and compares `ol-bench counts` with these.
 
     tests/strategies [--most N] [--fuel F] NAME ..
+    tests/strategies [--terms N]
+
+With names, term files, a line is written for each. Without names N terms are drawn at random, 1,000 where nothing is said,
+always the same. Of each the columns `leftmost`, `applicative` and `need` of `ol-bench counts` are compared with what is
+counted here, and its status with the hyphens in them; the last line is 'N passed, M failed'.
 
 By need and leftmost are counted by one small machine, in this file. It has closures: a term with an environment, in
 which each variable has the closure that was bound to it.
@@ -15,21 +20,32 @@ By need: what comes out of a closure is written over it. So each argument is red
 once, however often it is used, as in lazy languages. What stands below an abstraction is reduced anew at each use.
 Leftmost: nothing is written over, so each use reduces its argument anew. These are the steps of leftmost reduction.
 
+For the comparison leftmost reduction is done by substitution too, step by step, and so is applicative order: the function
+first, then the argument, then the redex of both, then what it gives.
+
 The machine stops after N steps, 300,000 where nothing is said, or as many places of the normal form: some seconds. F is
 the fuel of `ol`. Where `ol` doesn't end with status 0, its refusal stands in the column, or its status; where it takes
 more than a minute, it is ended, and `over 60 s` stands there.
 
-The program is what the variable OL names; else the proved crates/ol/out/ol, where it is there; else `ol` on PATH; else
-the script `ol` at the top (tests/lib/which_ol.py).
+The programs are those that the variables OL and OL_BENCH name; else the proved ones, where they are there; else, of `ol`,
+the one on PATH; else the scripts at the top (tests/lib/which_ol.py).
 """
 import os
+import random
 import subprocess
 
 import asking
+import counting
+import progress
+import summing
 import terms
 import which_ol
 
 MOST_SECONDS = 60
+# Of random terms: how many steps are counted by substitution, how large a term may become, and how far the machine goes.
+MOST_STEPS, MOST_SIZE, MOST_PLACES = 150, 600, 1_000
+MOST_MOVES = 100_000  # of the program's machine of call-by-need
+OF_TERM = ["leftmost", "applicative", "need"]
 
 
 class Closure:
@@ -124,12 +140,145 @@ def betas(program, verb, fuel, text):
     return f"{int(lines[1].split()[1]):,}" if ran.returncode == 0 else lines[0] or f"status {ran.returncode}"
 
 
+class TooLarge(Exception):
+    """A term grew past what is followed here."""
+
+
+def lifted(term, by, depth=0):
+    """The term under so many more abstractions: each variable that is bound outside of it is counted anew."""
+    if term[0] == "variable":
+        return ("variable", term[1] + by) if term[1] >= depth else term
+    inside = depth + (term[0] == "abstraction")
+    return tuple(lifted(part, by, inside) if isinstance(part, tuple) else part for part in term)
+
+
+def substituted(body, argument, depth=0):
+    """The body with the argument for its outermost variable."""
+    if body[0] == "variable":
+        if body[1] == depth:
+            return lifted(argument, depth)
+        return ("variable", body[1] - 1) if body[1] > depth else body
+    inside = depth + (body[0] == "abstraction")
+    return tuple(substituted(part, argument, inside) if isinstance(part, tuple) else part for part in body)
+
+
+def size(term):
+    return 1 + sum(size(part) for part in term if isinstance(part, tuple))
+
+
+def contracted(function, argument):
+    """The contractum, where it isn't too large."""
+    found = substituted(function[1], argument)
+    if size(found) > MOST_SIZE:
+        raise TooLarge
+    return found
+
+
+def stepped(term):
+    """The term after one leftmost step; None where there is none."""
+    if term[0] == "application" and term[1][0] == "abstraction":
+        return contracted(term[1], term[2])
+    for place, part in enumerate(term):
+        after = stepped(part) if isinstance(part, tuple) else None
+        if after:
+            return (*term[:place], after, *term[place + 1:])
+    return None
+
+
+def leftmost(term):
+    """How many leftmost steps lead to the normal form."""
+    for steps in range(MOST_STEPS + 1):
+        if size(term) > MOST_SIZE:
+            raise TooLarge
+        term = stepped(term)
+        if term is None:
+            return steps
+    raise TooMany
+
+
+class Applicative:
+    """Applicative order, with its steps."""
+
+    def __init__(self):
+        self.steps = 0
+
+    def normal(self, term):
+        while term[0] == "application":
+            function, argument = self.normal(term[1]), self.normal(term[2])
+            if function[0] != "abstraction":
+                return ("application", function, argument)
+            self.steps += 1
+            if self.steps > MOST_STEPS:
+                raise TooMany
+            term = contracted(function, argument)
+        return ("abstraction", self.normal(term[1])) if term[0] == "abstraction" else term
+
+
+def applicative(term):
+    machine = Applicative()
+    machine.normal(term)
+    return machine.steps
+
+
+def within(count, term):
+    """The count; None where it is more than is followed."""
+    try:
+        return count(term)
+    except TooMany:
+        return None
+
+
+def wanted(term):
+    """What the program's columns have to be: None for a hyphen. A column isn't there where this script gives up."""
+    found = {"leftmost": within(leftmost, term), "applicative": within(applicative, term)}
+    needed = within(Machine(True, MOST_PLACES).normal, term)
+    return found if needed is None else {**found, "need": needed}
+
+
+def faults_in(program, text):
+    """What is wrong with the columns of a term, and how many steps it has; None where a term grows too large."""
+    term = terms.read(text)
+    try:
+        own = wanted(term)
+    except TooLarge:
+        return None
+    if own["leftmost"] is not None and within(Machine(False, MOST_PLACES).normal, term) != own["leftmost"]:
+        return ["the machine and substitution count different leftmost steps"]
+    found, status = counting.columns(program, OF_TERM, ["--most", str(MOST_STEPS), "--moves", str(MOST_MOVES)], text)
+    told = [f"{title}: {found.get(title)}, and {number} is counted" for title, number in own.items()
+            if title not in found or found[title] != number]
+    if set(found) != set(OF_TERM):
+        told.append(f"columns {' '.join(found)}")
+    if status != (1 if None in found.values() else 0):
+        told.append(f"status {status}")
+    return told
+
+
+def compare(program, count):
+    generator, tried, passed, failed = random.Random(1), set(), 0, 0
+    for _ in progress.shown(range(count), count):
+        told = None
+        while told is None:
+            draw = generator.choice([lambda: terms.drawn(generator, generator.randint(6, 40)),
+                                     lambda: terms.combined(generator, generator.randint(3, 7))])
+            text = terms.written(draw())
+            if text not in tried:
+                tried.add(text)
+                told = faults_in(program, text)
+        passed, failed = passed + (not told), failed + bool(told)
+        print("".join(f"{text}: {line}\n" for line in told), end="", flush=True)
+    return summing.told(summing.Sum(passed, failed))
+
+
 def main(words):
     asked = asking.parser(__doc__)
     asked.add_argument("--most", type=asking.positive, default=300_000, metavar="N", help="how many steps of the machine (300,000)")
     asked.add_argument("--fuel", default="200000", metavar="F", help="the fuel of `ol` (200000)")
-    asked.add_argument("names", nargs="+", metavar="NAME")
+    asked.add_argument("--terms", type=asking.positive, default=1_000, metavar="N", help="how many random terms (1,000)")
+    asked.add_argument("names", nargs="*", metavar="NAME")
     asked = asked.parse_args(words)
+    if not asked.names:
+        return compare(which_ol.found("ol-bench"), asked.terms)
     program = which_ol.found()
     texts = [terms.text_of(name) for name in asked.names]
     print(f"{'term':24} {'demand':>12} {'run':>12} {'need':>12} {'leftmost':>14}")

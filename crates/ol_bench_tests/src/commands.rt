@@ -5,9 +5,10 @@ ghost use Rattle.ol_limits.specs.Limits.{most_fuel};
 
 use crate::fakes::{leftmost, named};
 use ol_bench::{Asked, OnOne, Status, bench};
+use ol_counts::{Bounds, Columns};
 use ol_io::{MemFile, MemSink, MemSource};
 use ol_limits::{Fuel, Heads};
-use ol_orders::{Bounds, Order};
+use ol_orders::Order;
 use ol_subjects::Subject;
 use ol_term::Translation;
 use std::alloc::Global;
@@ -97,8 +98,20 @@ fn counts(subject: Subject, fuel: u32) -> OnOne
         fuel: Fuel::of(fuel),
         heads: Heads::of(10),
         steps: 2,
+        moves: 0,
     };
-    OnOne::Counts { subject, bounds }
+    let columns = Columns {
+        run: true,
+        demand: true,
+        leftmost: true,
+        applicative: false,
+        need: false,
+    };
+    OnOne::Counts {
+        subject,
+        bounds,
+        columns,
+    }
 }
 
 fn journal(subject: Subject, order: Order, fuel: u32) -> OnOne

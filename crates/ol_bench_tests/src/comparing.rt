@@ -19,6 +19,27 @@ const TURNED: &[u8] =
 const SECOND: &[u8] =
     b"ol net 1\nfree 1\nnode lam 0\nnode lam 0\nnode eraser -\nlink f0 0.0\nlink 0.1 1.0\nlink 0.2 2.0\nlink 1.1 1.2\n";
 
+// What `ol net` writes of the net of `\x. \y. x`.
+const COUNTED: &[u8] = b"beta 0
+fan 0
+croissant 0
+bracket 0
+cross-fan 0
+cross-croissant 0
+cross-bracket 0
+erase 0
+stuck 0
+ol net 1
+free 1
+node lam 0
+node lam 0
+node eraser -
+link f0 0.0
+link 0.1 1.0
+link 0.2 1.1
+link 1.2 2.0
+";
+
 const WIRE: &[u8] = b"ol net 1\nfree 2\nlink f0 f1\n";
 
 // A part that no free port reaches.
@@ -81,12 +102,37 @@ fn assert_row(rt: &impl Abort, alloc: Global, row: (&[u8], &[u8], End, &str)) ->
 fn nets_are_compared(rt: HostRuntime) -> Result<(), Fail> {
     let parts = "different in parts that no free port reaches\n";
     let left = "alike from the free ports, which don't reach 10 and 10 nodes\n";
-    let rows: [(&[u8], &[u8], End, &str); 10] = [
+    let rows: [(&[u8], &[u8], End, &str); 15] = [
         (FIRST, FIRST, End::Yes, "same\n"),
         (FIRST, TURNED, End::Yes, "same\n"),
-        (TURNED, SECOND, End::No, "different at 2.2\n"),
-        (FIRST, SECOND, End::No, "different at 0.2\n"),
-        (FIRST, WIRE, End::No, "different at f1\n"),
+        (
+            TURNED,
+            SECOND,
+            End::No,
+            "different at 2.2: 1.1 of lam 0 here, 2.0 of eraser - there\n",
+        ),
+        (
+            FIRST,
+            SECOND,
+            End::No,
+            "different at 0.2: 1.1 of lam 0 here, 2.0 of eraser - there\n",
+        ),
+        (FIRST, WIRE, End::No, "different at f1: there alone\n"),
+        (WIRE, FIRST, End::No, "different at f1: here alone\n"),
+        (COUNTED, FIRST, End::Yes, "same\n"),
+        (
+            SECOND,
+            COUNTED,
+            End::No,
+            "different at 0.2: 2.0 of eraser - here, 1.1 of lam 0 there\n",
+        ),
+        (
+            b"ol net 1",
+            b"x\nol net 1\n",
+            End::Refused,
+            "bad net at line 1\n",
+        ),
+        (WIRE, b"x\nol net 1\n", End::Refused, "bad net at line 2\n"),
         (PART, PART, End::Yes, "same\n"),
         (PART, WIRE, End::No, parts),
         (PARTS, OTHERS, End::No, left),

@@ -17,9 +17,11 @@ fn assert_row(rt: &impl Abort, alloc: Global, row: (&str, End, &str)) -> Result<
 #[test]
 fn derivations_are_judged(rt: HostRuntime) -> Result<(), Fail> {
     let at_root = "line 2: one beta step, at ., leftmost\n";
-    let rows: [(&str, End, &str); 14] = [
-        ("", End::Yes, ""),
+    let no_step = "line 2: no beta step of line 1\n";
+    let rows: [(&str, End, &str); 18] = [
+        ("", End::No, "no term\n"),
         ("# nothing\n\n \t\r\n  # more\nx\n", End::Yes, ""),
+        ("\n# nothing\n \t", End::No, "no term\n"),
         ("(\\x. x) y\ny", End::Yes, at_root),
         (
             "\\x. (\\y. y) x\r\n\r\n\\z. z\r\n",
@@ -42,13 +44,16 @@ fn derivations_are_judged(rt: HostRuntime) -> Result<(), Fail> {
             at_root,
         ),
         ("(\\x. x) ((\\x. x) y)\n(\\x. x) y\n", End::Yes, at_root),
-        ("x y\ny x\n", End::No, "line 2: no beta step of line 1\n"),
+        ("x y\ny x\n", End::No, "line 2: not convertible\n"),
+        ("(\\x. x) ((\\x. x) y)\ny\n", End::No, no_step),
+        ("y\n(\\x. x) y\n", End::No, no_step),
+        ("(\\x. x x) (\\x. x x)\ny\n", End::No, no_step),
         ("(\\x. y x) z\ny z\n", End::Yes, at_root),
         ("(\\x y. x y) y\n\\z. y z\n", End::Yes, at_root),
         (
             "(\\x y. x y) y\n\\y. y y\n",
             End::No,
-            "line 2: no beta step of line 1\n",
+            "line 2: not convertible\n",
         ),
         (
             "(\\x. x) y\n(\\x. x\ny\n",

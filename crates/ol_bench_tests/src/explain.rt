@@ -11,7 +11,7 @@ use std::alloc::{AllocError, Global};
 use std::process::Abort;
 use std::test::Fail;
 
-const TERM: &str = "(\\x. x) (\\y. y)";
+pub const TERM: &str = "(\\x. x) (\\y. y)";
 
 const NET: &str =
     "ol net 1\nfree 4\nnode lam 0\nnode lam 0\nlink f0 0.1\nlink f1 0.2\nlink f2 1.1\nlink f3 1.2\nlink 0.0 1.0\n";
@@ -76,7 +76,7 @@ fn assert_told(
 }
 
 // The same, of `explain`.
-fn assert_explained(
+pub fn assert_explained(
     rt: &impl Abort,
     alloc: Global,
     of: (Subject, &str),
@@ -159,7 +159,7 @@ fn causes_are_told(rt: HostRuntime) -> Result<(), Fail> {
         (
             "ol trace 1\n0 1\n2 3\n4 1.1\n1.2 2.0\n",
             Status::NotARun,
-            "not a run at line 5\n1.2 faces free port 0\n",
+            "not a run at line 5\n2.0 faces 1.0: the copies of line 3 are numbered otherwise\n",
         ),
         (
             "ol trace 2\nfan 1 0 1\n",
@@ -169,7 +169,7 @@ fn causes_are_told(rt: HostRuntime) -> Result<(), Fail> {
         (
             "ol trace 2\nbeta 2 0 1\n",
             Status::NotARun,
-            "not a run at line 2\nthe wave is 1\n",
+            "not a run at line 2\nthe wave is 1: the first net has the link, of weight 0\n",
         ),
     ];
     for row in rows {
@@ -222,7 +222,7 @@ fn pairs_that_are_left_are_told(rt: HostRuntime) -> Result<(), Fail> {
 fn a_cause_is_one_of_the_translation(rt: HostRuntime) -> Result<(), Fail> {
     let text = "(\\x. x z) (\\y. y)";
     let journal = "ol trace 2\nbeta 1 0 1\ncross-croissant 2 3 4\n";
-    let faces = "not a run at line 3\n3 faces slot 0 of 6\n";
+    let faces = "not a run at line 3\n3 faces slot 0 of 6\nit is a run of translation 2\n";
     let first = (Subject::Term(Translation::One), text);
     assert_explained(&rt, rt.alloc(), first, (journal, Status::NotARun, faces))?;
     let left = "run 2\nbeta 3 2 1.2\ncross-croissant 3 5 1.1\n";

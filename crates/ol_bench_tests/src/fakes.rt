@@ -19,7 +19,8 @@ pub fn leftmost(most: u32) -> OnOne
     ensures { IsOneWithin result }
 {
     let order = Order::Leftmost;
-    let how = Shown { order };
+    let marked = false;
+    let how = Shown { order, marked };
     OnOne::Steps { how, most }
 }
 

@@ -18,7 +18,8 @@ fn assert_steps(
 ) -> Result<(), Fail> {
     let (source, most, end, wanted) = row;
     assert!(rt; source.len() <= 1_048_576, "{source}");
-    let how = Shown { order };
+    let marked = false;
+    let how = Shown { order, marked };
     let answer = steps(alloc, source.as_bytes(), how, most)
         .ok()
         .ok_or("no memory")?;
