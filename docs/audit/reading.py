@@ -63,6 +63,9 @@ def imports(text, keyword):
     return names, modules, passed
 
 
+MUTUAL = re.compile(r"(?:abbrev )?mutual$")
+
+
 def sectioned(text):
     """The lines of a file, each moved left out of its `mutual` and `module _ .. where` blocks, with the heads of the latter."""
     blocks, opening = [(0, ())], []
@@ -71,13 +74,13 @@ def sectioned(text):
         if not line.strip() or is_comment(line):
             yield '' if opening or column <= blocks[-1][0] else line[blocks[-1][0]:], blocks[-1][1]
             continue
-        if opening and (opening[-1] == 'mutual' or opening[-1].endswith('where')):
-            head = () if opening == ['mutual'] else ('\n'.join(opening),)
+        if opening and (MUTUAL.match(opening[-1]) or opening[-1].endswith('where')):
+            head = () if MUTUAL.match(opening[0]) else ('\n'.join(opening),)
             blocks.append((column, blocks[-1][1] + head))
             opening = []
         while column < blocks[-1][0]:
             blocks.pop()
-        if opening or column == blocks[-1][0] and re.match(r"mutual$|module _", line.strip()):
+        if opening or column == blocks[-1][0] and (MUTUAL.match(line.strip()) or line.strip().startswith('module _')):
             opening.append(line[blocks[-1][0]:].rstrip())
         else:
             yield line[blocks[-1][0]:], blocks[-1][1]
