@@ -75,10 +75,12 @@ def faults_of(term, programs, chance):
             told = first_unlike(net, other)
             if told and text != told:
                 yield f"{change.__name__}: {text!r}, not {told!r}"
-    with random_terms.in_file(answer(ol, ["net", "--fuel", "20", "-"], netfiles.write(net))[1]) as file:
-        got = answer(ol_bench, ["same", file, file])
-        if got != (0, "same\n"):
-            yield f"counts before the net: {got}"
+    status, written = answer(ol, ["net", "--fuel", "20000", "-"], netfiles.write(net))
+    if status == 0:  # else the fuel was used up, and there is no net
+        with random_terms.in_file(written) as file:
+            got = answer(ol_bench, ["same", file, file])
+            if got != (0, "same\n"):
+                yield f"counts before the net: {got}"
 
 
 def faults(programs, chance):
