@@ -1,5 +1,5 @@
 -- A run on its way: the names of its numbers, and what a rewrite adds to it.
-use Rattle.std.specs.Prelude.{◌≡◌, ℕ, suc, ◌+◌, ◌-◌, nat_lt, if◌then◌else◌, List, [], ◌∷◌, ◌++◌, length}
+use Rattle.std.specs.Prelude.{◌≡◌, ℕ, suc, ◌+◌, ◌-◌, ◌≤◌, nat_lt, if◌then◌else◌, List, [], ◌∷◌, ◌++◌, length}
 use Rattle.std.specs.Prelude.{Option, None, Some, slice_get, slice_index_or, ◌⊎◌}
 use Rattle.ol_net.specs.declared.parts.Rule.{Rule}
 use Rattle.ol_net.specs.Graph.{Graph}
@@ -45,12 +45,21 @@ AtMostOneStep old new at = (new ≡ old) ⊎ ((r : Rule) × StepsAt old new at r
 abbrev pub entry_for : UnderWay → Rule → (x y : ℕ) → Entry
 entry_for run rule x y = record { rule = rule; first = name_by run.names x; second = name_by run.names y }
 
--- The second run is the first after the step of x and y.
+-- The second run is the first after the step of x and y, which were an active pair by its rule.
 pub record Advances (old new : UnderWay) (g g' : Graph) (x y : ℕ) : Type 0 where
   pub rule : Rule
+  pub pair : IsPair (net_of g) x y rule
   pub step : StepsAt g g' x rule
   pub start : new.names.start ≡ old.names.start
   pub journal : new.journal ≡ old.journal ++ entry_for old rule x y ∷ []
   pub names : new.names.born.items ≡ old.names.born.items
       ++ names_born (length old.journal) (length g'.nodes - length g.nodes)
   pub is_net : IsNet (net_of g')
+
+-- After want of memory: the journal is as it was, and some names of the next ticket may have come to the names.
+pub record IsLeft (old new : UnderWay) : Type 0 where
+  pub journal : new.journal ≡ old.journal
+  pub start : new.names.start ≡ old.names.start
+  pub added : ℕ
+  pub few : added ≤ 4
+  pub names : new.names.born.items ≡ old.names.born.items ++ names_born (length old.journal) added

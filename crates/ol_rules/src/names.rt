@@ -1,6 +1,6 @@
 //! Which node number has which name, in a run from a net.
 
-ghost use Rattle.std.specs.Prelude.{◌≡◌, ℕ, ◌+◌, ◌<◌, ◌≤◌, ◌++◌, [], ◌∷◌, length, option_map, IfOk, OnOk};
+ghost use Rattle.std.specs.Prelude.{◌≡◌, ℕ, ◌+◌, ◌<◌, ◌≤◌, ◌++◌, [], ◌∷◌, length, option_map, IfOk, OnOk, OnErr};
 ghost use Rattle.ol_rules.specs.Runs.{names_born};
 ghost use Rattle.ol_rules.specs.UnderWay.{name_in, node_number};
 
@@ -44,12 +44,15 @@ impl Names {
         }
     }
 
-    /// Names the nodes that a ticket made, at most four. `NoMemory`: no memory was found.
+    /// Names the nodes that a ticket made, at most four. `NoMemory`: no memory was found, and some
+    /// of them have their names.
     pub fn push(&mut self, ticket: u32, count: u32) -> Result<(), NoMemory>
         requires { count ≤ 4 }
         ensures start { self.new.start ≡ self.old.start }
         ensures born { OnOk result
             (self.new.born.items ≡ self.old.born.items ++ names_born ticket count) }
+        ensures some { OnErr result ((added : ℕ) × (added ≤ count)
+            × (self.new.born.items ≡ self.old.born.items ++ names_born ticket added)) }
     {
         for place in 0..count as u8 {
             self.born.push(NodeName::Born { ticket, place })?;

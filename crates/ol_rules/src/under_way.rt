@@ -5,7 +5,7 @@ ghost use Rattle.ol_net.specs.declared.parts.Rule.{Rule};
 ghost use Rattle.ol_net.specs.Numbered.{net_of};
 ghost use Rattle.ol_net.specs.Pairs.{IsInActive};
 ghost use Rattle.ol_rules.specs.Steps.{StepsAt};
-ghost use Rattle.ol_rules.specs.UnderWay.{IsPair, Advances, AtMostOneStep};
+ghost use Rattle.ol_rules.specs.UnderWay.{IsPair, Advances, AtMostOneStep, IsLeft};
 
 use crate::journal::{Entry, Journal};
 use crate::names::Names;
@@ -50,13 +50,14 @@ impl UnderWay {
     }
 
     /// Rewrites the active pair of these two nodes, and writes it down, `x` before `y`. `NoMemory`:
-    /// no memory was found, and the net is as it was, or one step on.
+    /// no memory was found; the net is as it was, or one step on, and the journal is as it was.
     pub fn rewrite_pair(&mut self, net: &mut Net, x: NodeId, y: NodeId) -> Result<(), NoMemory>
         requires few { length net.old.nodes ≤ 2000000000 }
         requires pair { (r : Rule) × IsPair (net_of net.old) x.0 y.0 r }
         requires journal { length self.old.journal < 4294967295 }
         ensures ok { OnOk result (Advances self.old self.new net.old net.new x.0 y.0) }
         ensures err { OnErr result (AtMostOneStep net.old net.new x.0) }
+        ensures left { OnErr result (IsLeft self.old self.new) }
     {
         net.is_net();
         let first = self.names.name_of(x);

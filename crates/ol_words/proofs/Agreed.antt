@@ -20,7 +20,8 @@ use Rattle.ol_words.specs.declared.jobs.UsageFault.TheVariants.{NoMemory, Refuse
 use Rattle.ol_words.specs.Texts.{Text}
 use Rattle.ol_words.specs.Lines.{Line, line_of}
 use Rattle.ol_words.specs.Numbers.{Limits, setting}
-use Rattle.ol_words.specs.Asked.{Asked, Verb, asks}
+use Rattle.ol_words.specs.declared.jobs.Job.{Job}
+use Rattle.ol_words.specs.Asked.{Verb, asks}
 use Rattle.ol_words.specs.Jobs.{Setting, setting_row, verb_row, options_of, known_of, verb_named}
 use Rattle.ol_words.specs.Jobs.{values_of, number_on, numbers, job_on, job_behind, job_of}
 use Rattle.ol_words.specs.Once.{is_given_once, is_told_once, is_agreed, agreed_verb}
@@ -57,7 +58,7 @@ numbers_twice line (s ∷ rest) e = elim (cases_Bool (is_given_once line (settin
       (number_on line s)) later ∙ none_added (number_on line s)
 ]
 
-none_each : (asks : List ℕ → Option Asked) → ((ns : List ℕ) → asks ns ≡ None) →
+none_each : (asks : List ℕ → Option Job) → ((ns : List ℕ) → asks ns ≡ None) →
     (x : Option (List ℕ)) → option_and_then asks x ≡ None
 none_each asks none None = refl
 none_each asks none (Some ns) = none ns

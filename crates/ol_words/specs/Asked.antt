@@ -6,10 +6,8 @@ use Rattle.ol_term.specs.declared.translations.Translation.{Translation}
 use Rattle.ol_term.specs.declared.translations.Translation.TheVariants.{One, Two}
 use Rattle.ol_words.specs.Texts.{Text}
 use Rattle.ol_words.specs.Numbers.{from_to, number_within}
-pub use Rattle.ol_words.specs.declared.jobs.Job.{Job as Asked}
-pub use Rattle.ol_words.specs.declared.jobs.Job.TheVariants.{Run as run, Walk as walk, View as view, Trace as trace}
-pub use Rattle.ol_words.specs.declared.jobs.Job.TheVariants.{Check as check, Gen as gen, Demand as demand}
-pub use Rattle.ol_words.specs.declared.jobs.Job.TheVariants.{Certify as certify, Net as net, Equal as equal}
+use Rattle.ol_words.specs.declared.jobs.Job.{Job}
+use Rattle.ol_words.specs.declared.jobs.Job.TheVariants as jobs
 
 -- the word behind the program's name is one of these
 pub data Verb : Type 0 where
@@ -25,22 +23,22 @@ abbrev pub is_input : Text → Bool
 is_input name = bytes_eq name (codes "-")
 
 -- standard input can't be both of two files
-abbrev pub of_two : (Text → Text → Asked) → Text → Text → Option Asked
-of_two asked first second = if is_input first && is_input second then None else Some (asked first second)
+abbrev pub of_two : (Text → Text → Job) → Text → Text → Option Job
+of_two job first second = if is_input first && is_input second then None else Some (job first second)
 
 -- what a verb asks for by the numbers of its settings, that of the translation first, and by its names
-abbrev pub asks : Verb → List ℕ → List Text → Option Asked
-asks run_verb (t ∷ workers ∷ fuel ∷ heads ∷ []) (name ∷ []) = Some (run (numbered t) workers fuel heads name)
-asks walk_verb (t ∷ edges ∷ heads ∷ []) (name ∷ []) = Some (walk (numbered t) edges heads name)
-asks view_verb (t ∷ after ∷ []) (name ∷ []) = Some (view (numbered t) after name)
-asks trace_verb (t ∷ workers ∷ fuel ∷ []) (name ∷ []) = Some (trace (numbered t) workers fuel name)
-asks check_verb (t ∷ []) (term ∷ journal ∷ []) = of_two (check (numbered t)) term journal
-asks gen_verb (t ∷ runs ∷ []) (k ∷ []) = option_map (gen (numbered t) (runs == 1)) (number_within (from_to 0 10 0) k)
-asks demand_verb (t ∷ fuel ∷ heads ∷ []) (name ∷ []) = Some (demand (numbered t) fuel heads name)
+abbrev pub asks : Verb → List ℕ → List Text → Option Job
+asks run_verb (t ∷ workers ∷ fuel ∷ heads ∷ []) (name ∷ []) = Some (jobs.Run (numbered t) workers fuel heads name)
+asks walk_verb (t ∷ edges ∷ heads ∷ []) (name ∷ []) = Some (jobs.Walk (numbered t) edges heads name)
+asks view_verb (t ∷ after ∷ []) (name ∷ []) = Some (jobs.View (numbered t) after name)
+asks trace_verb (t ∷ workers ∷ fuel ∷ []) (name ∷ []) = Some (jobs.Trace (numbered t) workers fuel name)
+asks check_verb (t ∷ []) (term ∷ journal ∷ []) = of_two (jobs.Check (numbered t)) term journal
+asks gen_verb (t ∷ runs ∷ []) (k ∷ []) = option_map (jobs.Gen (numbered t) (runs == 1)) (number_within (from_to 0 10 0) k)
+asks demand_verb (t ∷ fuel ∷ heads ∷ []) (name ∷ []) = Some (jobs.Demand (numbered t) fuel heads name)
 asks certify_verb (t ∷ steps ∷ workers ∷ fuel ∷ heads ∷ []) (name ∷ []) = Some
-    (certify (numbered t) steps workers fuel heads name)
+    (jobs.Certify (numbered t) steps workers fuel heads name)
 asks net_verb (t ∷ from_term ∷ workers ∷ fuel ∷ []) (name ∷ []) = Some
-    (net (numbered t) (from_term == 1) workers fuel name)
+    (jobs.Net (numbered t) (from_term == 1) workers fuel name)
 asks equal_verb (t ∷ workers ∷ fuel ∷ heads ∷ []) (first ∷ second ∷ []) = of_two
-    (equal (numbered t) workers fuel heads) first second
+    (jobs.Equal (numbered t) workers fuel heads) first second
 asks _ _ _ = None

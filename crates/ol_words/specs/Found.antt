@@ -7,7 +7,8 @@ use Rattle.ol_term.specs.declared.translations.Translation.{Translation}
 use Rattle.ol_words.specs.Texts.{Text}
 use Rattle.ol_words.specs.Lines.{is_option}
 use Rattle.ol_words.specs.Numbers.{Limits, number_within}
-use Rattle.ol_words.specs.Asked.{Asked, Verb, asks, numbered}
+use Rattle.ol_words.specs.declared.jobs.Job.{Job}
+use Rattle.ol_words.specs.Asked.{Verb, asks, numbered}
 use Rattle.ol_words.specs.Jobs.{Setting, flags_of, numbers, setting_row, translation, verb_row}
 use Rattle.ol_words.specs.Command.{ids_of}
 
@@ -39,10 +40,10 @@ names_by given [] = []
 names_by given (id ∷ ids) = name_before (given id) (names_by given ids)
 
 -- the job of a verb by what is given to each id
-abbrev pub job_by : Verb → (Text → Option Text) → Option Asked
+abbrev pub job_by : Verb → (Text → Option Text) → Option Job
 job_by v given = option_and_then (λ ns. asks v ns (names_by given (ids_of v)))
     (numbers (number_by (flags_of v) given) (verb_row v).settings)
 
 -- the job of a verb by what clap has found
-abbrev pub job_found : Verb → ArgMatches → Option Asked
+abbrev pub job_found : Verb → ArgMatches → Option Job
 job_found v found = job_by v (λ id. first_value (found_of found) id)

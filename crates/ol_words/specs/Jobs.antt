@@ -3,7 +3,8 @@ use Rattle.std.specs.Prelude.{ℕ, List, [], ◌∷◌, Option, None, Some, Bool
 use Rattle.std.specs.Prelude.{filter, find, option_map, option_and_then}
 use Rattle.std.specs.Str.{bytes_eq}
 use Rattle.ol_words.specs.Texts.{Text}
-use Rattle.ol_words.specs.Asked.{Asked, Verb, run_verb, walk_verb, view_verb, trace_verb}
+use Rattle.ol_words.specs.declared.jobs.Job.{Job}
+use Rattle.ol_words.specs.Asked.{Verb, run_verb, walk_verb, view_verb, trace_verb}
 use Rattle.ol_words.specs.Asked.{check_verb, gen_verb, demand_verb, certify_verb, net_verb}
 use Rattle.ol_words.specs.Asked.{equal_verb, asks}
 use Rattle.ol_words.specs.Lines.{Line, Known, line_of}
@@ -102,13 +103,13 @@ numbers number [] = Some []
 numbers number (s ∷ rest) = option_and_then (λ n. option_map (λ more. n ∷ more) (numbers number rest)) (number s)
 
 -- the job of what stands behind a verb
-abbrev pub job_on : Verb → Line → Option Asked
+abbrev pub job_on : Verb → Line → Option Job
 job_on v line = option_and_then (λ ns. asks v ns line.names) (numbers (number_on line) (verb_row v).settings)
 
-abbrev pub job_behind : List Text → Verb → Option Asked
+abbrev pub job_behind : List Text → Verb → Option Job
 job_behind rest v = option_and_then (job_on v) (line_of (known_of v) rest)
 
 -- the job of the words of a command line: the first is the program's name and isn't looked at, the second is the verb
-abbrev pub job_of : List Text → Option Asked
+abbrev pub job_of : List Text → Option Job
 job_of (program ∷ word ∷ rest) = option_and_then (job_behind rest) (verb_named word)
 job_of _ = None

@@ -89,13 +89,13 @@ pub enum Job {
         /// The file with the term, or `-` for standard input.
         name: Word,
     },
-    /// Tell whether a trace is one of a term.
+    /// Tell whether a journal is one of a run of a term.
     Check {
         /// By which translation the term becomes a net.
         translation: Translation,
         /// The file with the term, or `-` for standard input.
         term: Word,
-        /// The file with the trace, or `-` for standard input where the term is in another file.
+        /// The file with the journal, or `-` for standard input where the term is in another file.
         journal: Word,
     },
     /// Make a large term that reduces to an identity.
