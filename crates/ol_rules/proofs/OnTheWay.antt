@@ -13,6 +13,7 @@ use Rattle.ol_net.specs.Parts.{arity}
 use Rattle.ol_net.specs.Graph.{Graph}
 use Rattle.ol_net.specs.Nets.{slot, NamedNet, HasNode, Linked, IsNet, net_under}
 use Rattle.ol_net.specs.Numbered.{net_of}
+use Rattle.ol_net.specs.Pairs.{IsInActive}
 use Rattle.ol_net.proofs.Numbered.{has_node}
 use Rattle.ol_rules.specs.declared.journal.NodeName.{NodeName}
 use Rattle.ol_rules.specs.declared.journal.NodeName.TheVariants.{Init, Born}
@@ -23,7 +24,7 @@ use Rattle.ol_rules.specs.Names.{comes_before, IsNamed}
 use Rattle.ol_rules.specs.Runs.{IsLead, end, names_born, LeadsTo}
 use Rattle.ol_rules.specs.Steps.{births, StepsAt}
 use Rattle.ol_rules.specs.Running.{IsLeast}
-use Rattle.ol_rules.specs.UnderWay.{name_in}
+use Rattle.ol_rules.specs.UnderWay.{name_in, IsPair}
 use Rattle.ol_rules.proofs.NameOrder.{Names, names_apart, names_after, names_after_old, names_on}
 use Rattle.ol_rules.proofs.NameOrder.{names_first, not_before, not_before_itself}
 use Rattle.ol_rules.proofs.Renaming.{net_alike, active_to, active_from, step_under}
@@ -63,6 +64,15 @@ births_few r k l = go (is_meeting r) (few k) (few l)
 
 pub step_few : (g g' : Graph) (at : ℕ) (r : Rule) → StepsAt g g' at r → length g'.nodes ≤ length g.nodes + 4
 step_few g g' at r s = let q = s.numbers in let b = births_few r s.step.active.k s.step.active.l in omega arith
+
+-- what is rewritten was an active pair by this rule
+pub pair_of_step : (g g' : Graph) (x y : ℕ) (r : Rule) → StepsAt g g' x r →
+    Linked (net_of g) (slot x 0) (slot y 0) → IsPair (net_of g) x y r
+pair_of_step g g' x y r s l = (go s.one_of, l)
+  where
+    go : (x ≡ s.f) ⊎ (x ≡ s.g) → IsInActive (net_of g) x r
+    go (inl e) = subst (λ n. IsInActive (net_of g) n r) (sym e) (s.g, inl s.step.active)
+    go (inr e) = subst (λ n. IsInActive (net_of g) n r) (sym e) (s.f, inr s.step.active)
 
 -- the step of x, whose principal port is linked to that of y
 module _ (g g' : Graph) (is_net : IsNet (net_of g)) (x y : ℕ) (r : Rule) (s : StepsAt g g' x r)
