@@ -57,7 +57,7 @@ pub record Advances (old new : UnderWay) (g g' : Graph) (x y : ℕ) : Type 0 whe
   pub is_net : IsNet (net_of g')
 
 -- After want of memory: the journal is as it was, and some names of the next ticket may have come to the names.
-pub record IsLeft (old new : UnderWay) : Type 0 where
+pub record IsInterrupted (old new : UnderWay) : Type 0 where
   pub journal : new.journal ≡ old.journal
   pub start : new.names.start ≡ old.names.start
   pub added : ℕ

@@ -5,7 +5,7 @@ ghost use Rattle.ol_net.specs.declared.parts.Rule.{Rule};
 ghost use Rattle.ol_net.specs.Numbered.{net_of};
 ghost use Rattle.ol_net.specs.Pairs.{IsInActive};
 ghost use Rattle.ol_rules.specs.Steps.{StepsAt};
-ghost use Rattle.ol_rules.specs.UnderWay.{IsPair, Advances, AtMostOneStep, IsLeft};
+ghost use Rattle.ol_rules.specs.UnderWay.{IsPair, Advances, AtMostOneStep, IsInterrupted};
 
 use crate::journal::{Entry, Journal};
 use crate::names::Names;
@@ -57,7 +57,7 @@ impl UnderWay {
         requires journal { length self.old.journal < 4294967295 }
         ensures ok { OnOk result (Advances self.old self.new net.old net.new x.0 y.0) }
         ensures err { OnErr result (AtMostOneStep net.old net.new x.0) }
-        ensures left { OnErr result (IsLeft self.old self.new) }
+        ensures left { OnErr result (IsInterrupted self.old self.new) }
     {
         net.is_net();
         let first = self.names.name_of(x);
