@@ -7,9 +7,10 @@
    What is believed of a caller. Behind each pointer stand as many bytes as the length beside it says;
    what `counts` or `room` points to overlaps nothing else that is given; while a call runs, nothing
    else writes to any of these, and nothing else reads what `counts` or `room` points to. The stack has
-   room for terms 1,000 deep (docs/HOSTILE.md). malloc, realloc and free are those of the C library. No call is made from a signal
-   handler, or from the forked child of a process with threads. Nothing can check these; all else is
-   answered: a null pointer, any length, any bytes, and memory that isn't found. */
+   room for terms 1,000 deep (tests/README.md, "Hostile use"). malloc, realloc and free are those of
+   the C library. No call is made from a signal handler, or from the forked child of a process with
+   threads. Nothing can check these; all else is answered: a null pointer, any length, any bytes, and
+   memory that isn't found. */
 
 #ifndef OLCHECK_H
 #define OLCHECK_H
