@@ -1,6 +1,6 @@
 /* libolcheck: what a runtime's journal is found to be, by the proved checker of `ol check`.
 
-   scripts/library builds libolcheck.a; docs/LIBRARY.md has an example and each answer. No call starts a
+   scripts/library builds libolcheck.a; library/README.md has an example and each answer. No call starts a
    thread, reads a file, writes anywhere but where a pointer says, or ends the process. Calls may run
    side by side, each on memory of its own.
 

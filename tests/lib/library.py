@@ -1,5 +1,5 @@
 """Builds library/check.c with the library for C, and compares what it prints with `ol check`, `ol-bench explain` and `ol run`;
-and what the example of docs/LIBRARY.md prints with what the page says.
+and what the example of library/README.md prints with what the page says.
 
     tests/library [FOLDER]
 
@@ -121,13 +121,13 @@ def write(room, name, text):
 
 
 def try_the_page(folder, room):
-    """The example of docs/LIBRARY.md prints what the page says that it prints."""
-    with open(os.path.join(TOP, "docs", "LIBRARY.md"), encoding="utf-8") as file:
+    """The example of library/README.md prints what the page says that it prints."""
+    with open(os.path.join(TOP, "library", "README.md"), encoding="utf-8") as file:
         source, printed = file.read().split('    #include "olcheck.h"\n')[1].split("\nIt prints:\n")
     blocks = ['#include "olcheck.h"\n' + textwrap.dedent(source), textwrap.dedent(printed.split("\n\n")[0].strip("\n")) + "\n"]
     program = built(write(room, "page.c", blocks[0]), folder, room)
     done = subprocess.run([program], stdout=subprocess.PIPE, text=True)
-    expect("the example of docs/LIBRARY.md", done.stdout == blocks[1])
+    expect("the example of library/README.md", done.stdout == blocks[1])
 
 
 def try_row(number, row, programs, room):
