@@ -1,0 +1,9 @@
+use Rattle.std.proofs.Common.{sym, ◌∙◌, subst, length}
+use Rattle.ol_readback.specs.Texts.{IsNamedNode}
+use Rattle.ol_heads.proofs.Printed.{named_at}
+use Rattle.ol_heads.proofs.printing.put_place.Goals as goal
+
+pub put_variable-requires-clause-free : goal.put_variable-requires-clause-free
+put_variable-requires-clause-free c =
+    let n = length c.args.names.now in
+    subst (IsNamedNode n) (sym c.node_at.ensures ∙ c.in-Head.is) (named_at n c.args.tree.now c.args.k c.requires.free)
