@@ -1,23 +1,74 @@
 -- What is said of a student on an input, and of all files.
-use Rattle.std.proofs.Common.{◌≡◌, ℕ, ◌++◌, true, List, Option, Some, None, sym, ap, ◌∙◌, subst, length, codes, Global}
+use Rattle.std.proofs.Common.{◌≡◌, ℕ, ◌++◌, true, append_assoc, List, Option, Some, None, sym, ap, ◌∙◌, subst, length, codes, Global}
 use Rattle.std.specs.Fmt.{decimal}
 use Rattle.std.specs.List.{AllZip}
 use Rattle.std.specs.declared.vec.Vec.{Vec}
+use Rattle.ol_equal.specs.Paths.{IsPathTo}
+use Rattle.ol_equal.specs.Comparing.{IsComparison}
+use Rattle.ol_equal.specs.Texts.{compared_text}
+use Rattle.ol_equal.specs.declared.answers.Compared.{Compared}
+use Rattle.ol_equal.specs.declared.answers.Compared.TheVariants.{Equal, Different, Cut}
 use Rattle.ol_subjects.specs.declared.answers.End.{End}
 use Rattle.ol_grades.specs.declared.reading.Bounds.{Bounds}
 use Rattle.ol_grades.specs.declared.reading.Lack.{Lack}
 use Rattle.ol_grades.specs.declared.holding.Seen.{Seen}
 use Rattle.ol_grades.specs.declared.grading.Student.{Student}
 use Rattle.ol_grades.specs.Reads.{HasTree, HasNoTree, lack_words}
-use Rattle.ol_grades.specs.Grades.{IsFunction, IsRight, IsWrong, IsGrade, IsNoSolution, IsGraded, on_input}
-use Rattle.ol_grades.specs.Inside.{IsOn, IsSaid}
+use Rattle.ol_grades.specs.Grades.{IsFunction, IsRight, IsWrong, IsGrade, IsNoSolution, IsGraded, names_of, on_input, heads_words}
+use Rattle.ol_grades.specs.Inside.{AddsHeads, IsOn, IsPathOf, IsSaid, IsToldApart}
 
 pub said_on : (bounds : Bounds) (student line : List ℕ) (wanted seen : Seen) (k : ℕ) (told : Option (Vec ℕ Global)) →
     HasTree bounds student line seen → IsSaid wanted seen k told → IsOn bounds student line wanted k told
 said_on bounds student line wanted seen k None h s = record { got = seen; has = h; is = s }
 said_on bounds student line wanted seen k (Some words) h s =
-    subst (IsWrong bounds student line wanted k) (sym s.3)
-    (IsWrong.apart (record { got = seen; has = h; is = s.1 }) s.2)
+    subst (IsWrong bounds student line wanted k) (sym s.told)
+    (IsWrong.apart (record { got = seen; has = h; is = s.is }) s.apart s.there)
+
+-- two trees that aren't equal, and what is said of them
+pub told_apart : (wanted got : Seen) (k : ℕ) (c : Compared) (path told text words : List ℕ) →
+    IsComparison (names_of wanted got) wanted.tree got.tree c → IsPathOf c path → told ≡ compared_text c →
+    text ≡ on_input told k → AddsHeads wanted got path text words → IsToldApart wanted got k words
+told_apart wanted got k Equal path told text words h p t e a = absurd p
+told_apart wanted got k (Different q) path told text words h p t e a = record {
+  c = Different q;
+  is = h;
+  apart = λ e. absurd (cc);
+  expected = a.expected;
+  found = a.found;
+  there = record {
+    place = h.0;
+    path = q;
+    first = h.1;
+    of_wanted = a.of_wanted h.0 (subst (λ path. IsPathTo wanted.tree h.0 path) p h.1.path_in_a);
+    of_got = a.of_got h.0 (subst (λ path. IsPathTo got.tree h.0 path) p h.1.path_in_b);
+  };
+  told = a.told ∙ ap (λ text. text ++ heads_words a.expected a.found) (e ∙ ap (λ told. on_input told k) t);
+}
+told_apart wanted got k (Cut q) path told text words h p t e a = record {
+  c = Cut q;
+  is = h;
+  apart = λ e. absurd (cc);
+  expected = a.expected;
+  found = a.found;
+  there = record {
+    place = h.0;
+    path = q;
+    first = h.1;
+    of_wanted = a.of_wanted h.0 (subst (λ path. IsPathTo wanted.tree h.0 path) p h.1.path_in_a);
+    of_got = a.of_got h.0 (subst (λ path. IsPathTo got.tree h.0 path) p h.1.path_in_b);
+  };
+  told = a.told ∙ ap (λ text. text ++ heads_words a.expected a.found) (e ∙ ap (λ told. on_input told k) t);
+}
+
+pub heads_told : (text a b c d expected found : List ℕ) → a ≡ text ++ codes ": expected " → b ≡ a ++ expected →
+    c ≡ b ++ codes ", got " → d ≡ c ++ found → d ≡ text ++ heads_words expected found
+heads_told text a b c d expected found e f g h =
+    let one = codes ": expected " in
+    let two = codes ", got " in
+    h ∙ ap (λ s. s ++ found)
+    (g ∙ ap (λ s. s ++ two) (f ∙ ap (λ s. s ++ expected) e ∙ append_assoc text one expected)
+    ∙ append_assoc text (one ++ expected) two)
+    ∙ append_assoc text (one ++ expected ++ two) found
 
 pub lacks_on : (bounds : Bounds) (student line : List ℕ) (wanted : Seen) (k : ℕ) (lack : Lack) (words text : List ℕ) →
     text ≡ on_input words k → words ≡ lack_words lack → HasNoTree bounds student line lack →

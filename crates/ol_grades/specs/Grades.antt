@@ -7,10 +7,11 @@ use Rattle.ol_limits.specs.Limits.{most_depth, most_term_bytes}
 use Rattle.ol_term.specs.Trees.{Tree, depth}
 use Rattle.ol_parse.specs.Texts.{IsRefusedAt}
 use Rattle.ol_parse.specs.Parsed.{IsFileOf, IsTooDeep}
-use Rattle.ol_equal.specs.Comparing.{TreeWithNames, IsComparison}
+use Rattle.ol_equal.specs.Comparing.{TreeWithNames, IsComparison, IsFirstApart}
 use Rattle.ol_equal.specs.Texts.{compared_text}
 use Rattle.ol_equal.specs.declared.answers.Compared.{Compared}
 use Rattle.ol_equal.specs.declared.answers.Compared.TheVariants.{Equal}
+use Rattle.ol_heads.specs.Heads.{IsHeadText}
 use Rattle.ol_derivations.specs.Lines.{lines_of, is_left_out}
 use Rattle.ol_derivations.specs.Derivations.{IsTermLine, IsNoTermLine, line_text}
 use Rattle.ol_subjects.specs.declared.answers.End.{End}
@@ -83,10 +84,23 @@ pub record Compares (bounds : Bounds) (student line : List ℕ) (wanted : Seen) 
 abbrev pub IsRight : Bounds → List ℕ → List ℕ → Seen → Type 0
 IsRight bounds student line wanted = Compares bounds student line wanted Equal
 
+-- the texts of what two trees have at the first place where they aren't heads that agree
+pub record HaveThere (wanted got : Seen) (expected found : List ℕ) : Type 0 where
+  pub place : ℕ
+  pub path : List ℕ
+  pub first : IsFirstApart (names_of wanted got) wanted.tree got.tree place path
+  pub of_wanted : IsHeadText wanted.names wanted.tree place expected
+  pub of_got : IsHeadText got.names got.tree place found
+
+-- the words of both
+abbrev pub heads_words : (expected found : List ℕ) → List ℕ
+heads_words expected found = codes ": expected " ++ expected ++ codes ", got " ++ found
+
 -- and on this one, input k, it isn't: the two trees differ, or one of them isn't whole; or the student has none
 pub data IsWrong (bounds : Bounds) (student line : List ℕ) (wanted : Seen) (k : ℕ) : List ℕ → Type 0 where
-  apart : {c : Compared} → Compares bounds student line wanted c → c ≢ Equal →
-      IsWrong bounds student line wanted k (on_input (compared_text c) k)
+  apart : {c : Compared} {expected found : List ℕ} → (h : Compares bounds student line wanted c) → c ≢ Equal →
+      HaveThere wanted h.got expected found →
+      IsWrong bounds student line wanted k (on_input (compared_text c) k ++ heads_words expected found)
   no_tree : {lack : Lack} → HasNoTree bounds student line lack →
       IsWrong bounds student line wanted k (on_input (lack_words lack) k)
 

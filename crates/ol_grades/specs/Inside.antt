@@ -1,5 +1,5 @@
 -- Private: what is found on the way to an answer.
-use Rattle.std.specs.Prelude.{◌≡◌, ◌≢◌, ℕ, ◌<◌, ◌≤◌, Bool, if◌then◌else◌, List, [], ◌∷◌, length, map}
+use Rattle.std.specs.Prelude.{◌≡◌, ◌≢◌, ℕ, ◌<◌, ◌≤◌, Bool, if◌then◌else◌, List, [], ◌∷◌, ◌++◌, length, map}
 use Rattle.std.specs.Prelude.{Option, Some, None}
 use Rattle.std.specs.List.{AllZip}
 use Rattle.std.specs.Borrow.{Bor}
@@ -17,12 +17,14 @@ use Rattle.ol_demand.specs.Answers.{start_of, IsAnswer}
 use Rattle.ol_demand.specs.Demands.{HasMoreSteps}
 use Rattle.ol_readback.specs.Texts.{AreNamed}
 use Rattle.ol_equal.specs.Comparing.{IsComparison}
+use Rattle.ol_equal.specs.Paths.{IsPathTo}
 use Rattle.ol_equal.specs.Texts.{compared_text}
 use Rattle.ol_equal.specs.declared.answers.Compared.{Compared}
-use Rattle.ol_equal.specs.declared.answers.Compared.TheVariants.{Equal}
+use Rattle.ol_equal.specs.declared.answers.Compared.TheVariants.{Equal, Different, Cut}
+use Rattle.ol_heads.specs.Heads.{IsHeadText}
 use Rattle.ol_subjects.specs.declared.answers.End.{End}
 use Rattle.ol_subjects.specs.declared.answers.End.TheVariants.{Yes, No}
-use Rattle.ol_grades.specs.Grades.{IsFunction, IsNoFunction, IsRight, IsWrong, AreInputs, HasNoInputs, IsNoSolution, AreGrades, names_of, on_input}
+use Rattle.ol_grades.specs.Grades.{IsFunction, IsNoFunction, IsRight, IsWrong, AreInputs, HasNoInputs, IsNoSolution, AreGrades, HaveThere, names_of, on_input, heads_words}
 use Rattle.ol_grades.specs.declared.grading.Student.{Student}
 use Rattle.ol_grades.specs.declared.reading.Bounds.{Bounds}
 use Rattle.ol_grades.specs.declared.holding.Seen.{Seen}
@@ -67,11 +69,34 @@ abbrev pub IsOn : Bounds → (student line : List ℕ) → Seen → ℕ → Opti
 IsOn bounds student line wanted k None = IsRight bounds student line wanted
 IsOn bounds student line wanted k (Some words) = IsWrong bounds student line wanted k words.items
 
+-- the path that a comparison tells
+abbrev pub IsPathOf : Compared → List ℕ → Type 0
+IsPathOf Equal path = ⊥
+IsPathOf (Different told) path = told ≡ path
+IsPathOf (Cut told) path = told ≡ path
+
+-- a text, and behind it what two trees have at the place of a path
+pub record AddsHeads (wanted got : Seen) (path text new : List ℕ) : Type 0 where
+  pub expected : List ℕ
+  pub found : List ℕ
+  pub of_wanted : (k : ℕ) → IsPathTo wanted.tree k path → IsHeadText wanted.names wanted.tree k expected
+  pub of_got : (k : ℕ) → IsPathTo got.tree k path → IsHeadText got.names got.tree k found
+  pub told : new ≡ text ++ heads_words expected found
+
+-- what is said of two trees that aren't equal
+pub record IsToldApart (wanted got : Seen) (k : ℕ) (words : List ℕ) : Type 0 where
+  pub c : Compared
+  pub is : IsComparison (names_of wanted got) wanted.tree got.tree c
+  pub apart : c ≢ Equal
+  pub expected : List ℕ
+  pub found : List ℕ
+  pub there : HaveThere wanted got expected found
+  pub told : words ≡ on_input (compared_text c) k ++ heads_words expected found
+
 -- what the comparison of two trees says on input k
 abbrev pub IsSaid : (wanted got : Seen) → ℕ → Option (Vec ℕ Global) → Type 0
 IsSaid wanted got k None = IsComparison (names_of wanted got) wanted.tree got.tree Equal
-IsSaid wanted got k (Some words) = (c : Compared) × IsComparison (names_of wanted got) wanted.tree got.tree c
-    × (c ≢ Equal) × (words.items ≡ on_input (compared_text c) k)
+IsSaid wanted got k (Some words) = IsToldApart wanted got k words.items
 
 pub record AreAllGrades (bounds : Bounds) (inputs : List (List ℕ)) (wanted : List Seen) (students : List Student)
     (text : List ℕ) (end : End) : Type 0 where

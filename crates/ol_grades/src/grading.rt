@@ -1,18 +1,19 @@
 //! A student against the solution, and all of them.
 
-ghost use Rattle.std.specs.Prelude.{◌≡◌, ◌↔◌, true, ℕ, List, ◌+◌, ◌<◌, ◌++◌, [], ◌∷◌, length, drop, if◌then◌else◌, codes, IfOk, OnOk};
+ghost use Rattle.std.specs.Prelude.{◌≡◌, ℕ, List, ◌+◌, ◌<◌, ◌++◌, [], ◌∷◌, length, drop, if◌then◌else◌, codes, MatchOption, IfOk, OnOk};
 ghost use Rattle.std.specs.Fmt.{decimal};
 ghost use Rattle.std.specs.List.{AllZip};
 ghost use Rattle.ol_readback.specs.Texts.{AreNamed};
 ghost use Rattle.ol_derivations.specs.Lines.{lines_of};
 ghost use Rattle.ol_grades.specs.Grades.{AreInputs, IsFunction, IsGrade, IsGraded, file_line, on_input};
-ghost use Rattle.ol_grades.specs.Inside.{AreAllGrades, AreFunctions, AreWanted, IsOn, IsSaid, IsSolved, seen_lines};
+ghost use Rattle.ol_grades.specs.Inside.{AreAllGrades, AreFunctions, AreWanted, AddsHeads, IsOn, IsPathOf, IsSaid, IsSolved, seen_lines};
 
 use crate::functions::fault_of;
 use crate::holding::Seen;
 use crate::inputs::{Inputs, inputs_of};
 use crate::reading::{Bounds, Found, lack_words, read_on};
-use ol_equal::{Compared, compared_text, same_tree};
+use ol_equal::{Compared, Path, compared_text, same_tree};
+use ol_heads::head_text;
 use ol_memory::NoMemory;
 use ol_subjects::{Answer, End, put, put_number};
 use std::alloc::Global;
@@ -94,14 +95,38 @@ fn solve(
     }
 }
 
-fn is_equal(compared: &Compared) -> bool
-    ensures { (result ≡ true) ↔ (compared.now ≡ Compared.Equal) }
+// The path to the first place where two trees aren't heads that agree, or None where they are equal.
+fn path_of(compared: &Compared) -> Option<&Path>
+    ensures { MatchOption result (compared.now ≡ Compared.Equal)
+        (λ path. IsPathOf compared.now path.now) }
 {
     match compared {
-        Compared::Equal => true,
-        Compared::Different { .. } => false,
-        Compared::Cut { .. } => false,
+        Compared::Equal => None,
+        Compared::Different { path } => Some(path),
+        Compared::Cut { path } => Some(path),
     }
+}
+
+// Appends what two trees have at the place of a path.
+fn put_heads(
+    alloc: Global,
+    text: &mut Vec<u8>,
+    wanted: &Seen,
+    got: &Seen,
+    path: &Path,
+) -> Result<(), NoMemory>
+    requires wanted { AreNamed (length wanted.now.names) wanted.now.tree }
+    requires got { AreNamed (length got.now.names) got.now.tree }
+    ensures { OnOk result
+        (AddsHeads wanted.now got.now path.now text.old.items text.new.items) }
+{
+    let expected = head_text(alloc, &wanted.tree, &wanted.names, path)?;
+    let found = head_text(alloc, &got.tree, &got.names, path)?;
+    put(text, b": expected ")?;
+    put(text, &expected)?;
+    put(text, b", got ")?;
+    put(text, &found)?;
+    Ok(())
 }
 
 // What is said of two trees on input k, or None where they are equal.
@@ -111,11 +136,12 @@ fn compared(alloc: Global, wanted: &Seen, got: &Seen, k: usize) -> Result<Option
     ensures { IfOk result (IsSaid wanted.now got.now k) }
 {
     let compared = same_tree(alloc, &wanted.tree, &wanted.names, &got.tree, &got.names)?;
-    if is_equal(&compared) {
+    let Some(path) = path_of(&compared) else {
         return Ok(None);
-    }
+    };
     let told = compared_text(alloc, &compared)?;
-    let words = words_on(alloc, &told, k)?;
+    let mut words = words_on(alloc, &told, k)?;
+    put_heads(alloc, &mut words, wanted, got, path)?;
     Ok(Some(words))
 }
 
@@ -326,14 +352,20 @@ fn graded_on(
 /// first input, counted from 1, on which his tree and the solution's aren't equal:
 ///
 /// - `equal on N of N`: there is none.
-/// - `different at PATH on K`: both trees have a head at the place of this path, and these don't
-///   agree: they differ in their abstractions, their variables or the numbers of their arguments.
-/// - `cut at PATH on K`: one of the trees has no head there, or wasn't read so far.
+/// - `different at PATH on K: expected HEAD, got HEAD`: both trees have a head at the place of this
+///   path, and these don't agree: they differ in their abstractions, their variables or the numbers
+///   of their arguments. The first head is the solution's.
+/// - `cut at PATH on K: expected HEAD, got HEAD`: one of the trees has no head there, or wasn't read
+///   so far.
 /// - `beyond the fuel on K`: he has no tree, since `demand` goes on.
 /// - `limit depth 1000 on K`, `limit nodes 200000 on K`: his term on this input is too deep, or its
 ///   net too large.
 /// - `limit bytes 1048576`, `syntax, line L, column C`, `limit depth 1000`: his text is no
 ///   function. Lines and columns are counted from 1, columns in bytes.
+///
+/// A head is told by its binders, its variable and an underscore for each argument, as `\a b. a _`;
+/// `?` is none, and `...` wasn't read. Its letters are those of the text of its own tree
+/// (`head_text` of ol_heads).
 ///
 /// Where two trees are equal, each place of both has a head, so the two terms have one normal form,
 /// up to names of binders, and are convertible. Where they are different, the terms aren't
