@@ -47,21 +47,21 @@ fn students_are_graded(rt: HostRuntime) -> Result<(), Fail> {
     let two = "# two arguments\nx y\n\n f (\\z. z)\n";
     let apply = "\\f x. f x # applied";
     let fixed = "\\f. (\\x. f (x x)) (\\x. f (x x))";
-    let rows: [(&str, &str, &str, End, &str); 14] = [
+    let rows: [(&str, &str, &str, End, &str); 15] = [
         (two, apply, "\\g. g", End::Yes, "x: equal on 2 of 2\n"),
         (
             two,
             apply,
             "\\f x. x",
             End::No,
-            "x: different at root on 1\n",
+            "x: different at root on 1: expected x _, got y\n",
         ),
         (
             two,
             apply,
             "\\f x. f (f x)",
             End::No,
-            "x: different at 1 on 1\n",
+            "x: different at 1 on 1: expected y, got x _\n",
         ),
         (
             "x y\n\\z. z",
@@ -75,7 +75,7 @@ fn students_are_graded(rt: HostRuntime) -> Result<(), Fail> {
             "\\v. v",
             "\\v. x",
             End::No,
-            "x: different at root on 2\n",
+            "x: different at root on 2: expected y, got x\n",
         ),
         (
             "x \\v. v",
@@ -98,7 +98,20 @@ fn students_are_graded(rt: HostRuntime) -> Result<(), Fail> {
             End::No,
             "x: beyond the fuel on 1\n",
         ),
-        ("g", fixed, fixed, End::No, "x: cut at 1.1.1.1 on 1\n"),
+        (
+            "g",
+            fixed,
+            fixed,
+            End::No,
+            "x: cut at 1.1.1.1 on 1: expected ..., got ...\n",
+        ),
+        (
+            "a",
+            "\\y f x. f y (\\u. u f)",
+            "\\y f x. f y (\\u v. x u)",
+            End::No,
+            "x: different at 2 on 1: expected \\d. d _, got \\d e. c _\n",
+        ),
         (
             "g",
             "(\\x. x x) (\\x. x x)",
