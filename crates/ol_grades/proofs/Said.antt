@@ -1,5 +1,5 @@
 -- What is said of a student on an input, and of all files.
-use Rattle.std.proofs.Common.{◌≡◌, ℕ, ◌++◌, true, append_assoc, List, Option, Some, None, sym, ap, ◌∙◌, subst, length, codes, Global}
+use Rattle.std.proofs.Common.{◌≡◌, ℕ, ◌++◌, Bool, true, false, append_assoc, List, Option, Some, None, sym, ap, ◌∙◌, subst, length, codes, Global}
 use Rattle.std.specs.Fmt.{decimal}
 use Rattle.std.specs.List.{AllZip}
 use Rattle.std.specs.declared.vec.Vec.{Vec}
@@ -13,8 +13,10 @@ use Rattle.ol_grades.specs.declared.reading.Bounds.{Bounds}
 use Rattle.ol_grades.specs.declared.reading.Lack.{Lack}
 use Rattle.ol_grades.specs.declared.holding.Seen.{Seen}
 use Rattle.ol_grades.specs.declared.grading.Student.{Student}
+use Rattle.ol_grades.specs.declared.grading.Work.{Work}
+use Rattle.ol_grades.specs.declared.grading.Work.TheVariants as work
 use Rattle.ol_grades.specs.Reads.{HasTree, HasNoTree, lack_words}
-use Rattle.ol_grades.specs.Grades.{IsFunction, IsRight, IsWrong, IsGrade, IsNoSolution, IsGraded, names_of, on_input, heads_words}
+use Rattle.ol_grades.specs.Grades.{IsFunction, IsRight, IsWrong, IsGrade, IsGradeOf, IsNoSolution, IsGraded, names_of, on_input, heads_words}
 use Rattle.ol_grades.specs.Inside.{AddsHeads, IsOn, IsPathOf, IsSaid, IsToldApart}
 
 pub said_on : (bounds : Bounds) (student line : List ℕ) (wanted seen : Seen) (k : ℕ) (told : Option (Vec ℕ Global)) →
@@ -69,6 +71,31 @@ heads_told text a b c d expected found e f g h =
     (g ∙ ap (λ s. s ++ two) (f ∙ ap (λ s. s ++ expected) e ∙ append_assoc text one expected)
     ∙ append_assoc text (one ++ expected) two)
     ∙ append_assoc text (one ++ expected ++ two) found
+
+-- a student without a text
+pub unread_so : (bounds : Bounds) (inputs : List (List ℕ)) (wanted : List Seen) (w : Work) (text : List ℕ)
+    (fine : Bool) → w ≡ work.Unread → text ≡ codes "can't be read" → fine ≡ false →
+    IsGradeOf bounds inputs wanted w text fine
+unread_so bounds inputs wanted w text fine e t f =
+    subst (λ w. IsGradeOf bounds inputs wanted w text fine) (sym e)
+    (subst (λ text. IsGradeOf bounds inputs wanted work.Unread text fine) (sym t)
+    (subst (λ fine. IsGradeOf bounds inputs wanted work.Unread (codes "can't be read") fine) (sym f) IsGradeOf.unread))
+
+pub too_long_so : (bounds : Bounds) (inputs : List (List ℕ)) (wanted : List Seen) (w : Work) (text : List ℕ)
+    (fine : Bool) → w ≡ work.TooLong → text ≡ codes "limit bytes 1048576" → fine ≡ false →
+    IsGradeOf bounds inputs wanted w text fine
+too_long_so bounds inputs wanted w text fine e t f =
+    subst (λ w. IsGradeOf bounds inputs wanted w text fine) (sym e)
+    (subst (λ text. IsGradeOf bounds inputs wanted work.TooLong text fine) (sym t)
+    (subst (λ fine. IsGradeOf bounds inputs wanted work.TooLong (codes "limit bytes 1048576") fine) (sym f)
+    IsGradeOf.too_long))
+
+pub text_so : (bounds : Bounds) (inputs : List (List ℕ)) (wanted : List Seen) (w : Work) (bytes : Vec ℕ Global)
+    (items words : List ℕ) (fine : Bool) → w ≡ work.Text bytes → items ≡ bytes.items →
+    IsGrade bounds inputs wanted items words fine → IsGradeOf bounds inputs wanted w words fine
+text_so bounds inputs wanted w bytes items words fine e i h =
+    subst (λ w. IsGradeOf bounds inputs wanted w words fine) (sym e)
+    (IsGradeOf.of_text (subst (λ (items : List ℕ). IsGrade bounds inputs wanted items words fine) i h))
 
 pub lacks_on : (bounds : Bounds) (student line : List ℕ) (wanted : Seen) (k : ℕ) (lack : Lack) (words text : List ℕ) →
     text ≡ on_input words k → words ≡ lack_words lack → HasNoTree bounds student line lack →

@@ -13,7 +13,7 @@ use Rattle.ol_grades.specs.declared.holding.Seen.{Seen}
 use Rattle.ol_grades.specs.declared.reading.Lack.{Lack}
 use Rattle.ol_grades.specs.declared.grading.Student.{Student}
 use Rattle.ol_grades.specs.Reads.{HasTree, HasNoTree, lack_words}
-use Rattle.ol_grades.specs.Grades.{AreInputs, HasNoInputs, IsFunction, IsNoFunction, IsRight, IsWrong, IsGrade, AreGrades, IsNoSolution, on_input, file_line}
+use Rattle.ol_grades.specs.Grades.{AreInputs, HasNoInputs, IsFunction, IsNoFunction, IsRight, IsWrong, IsGrade, IsGradeOf, AreGrades, IsNoSolution, on_input, file_line}
 use Rattle.ol_grades.specs.Inside.{AreFunctions, AreWanted, seen_lines}
 use Rattle.ol_readback.specs.Texts.{AreNamed}
 use Rattle.ol_grades.proofs.Spelled.{text_of}
@@ -275,7 +275,7 @@ module _ (bounds : Bounds) (inputs : List (List ℕ)) (wanted : List Seen) where
 
   pub next_student : (students : List Student) (k : ℕ) (student : Student) (text words : List ℕ) (fine now : Bool) →
       drop k students ≡ student ∷ drop (k + 1) students → Behind students k text fine →
-      IsGrade bounds inputs wanted student.bytes.items words now →
+      IsGradeOf bounds inputs wanted student.work words now →
       Behind students (k + 1) (text ++ file_line student.name.items words) (fine && now)
   next_student students k student text words fine now d on is rest all are =
       let told = file_line student.name.items words in

@@ -3,6 +3,8 @@ use Rattle.std.specs.Prelude.{◌≡◌, ◌≢◌, ℕ, ◌+◌, ◌-◌, ◌<�
 use Rattle.std.specs.Prelude.{List, [], ◌∷◌, ◌++◌, length, take, slice_index_or, codes}
 use Rattle.std.specs.Fmt.{decimal}
 use Rattle.std.specs.List.{AllZip}
+use Rattle.std.specs.declared.vec.Vec.{Vec}
+use Rattle.std.specs.declared.alloc.Global.{Global}
 use Rattle.ol_limits.specs.Limits.{most_depth, most_term_bytes}
 use Rattle.ol_term.specs.Trees.{Tree, depth}
 use Rattle.ol_parse.specs.Texts.{IsRefusedAt}
@@ -20,6 +22,8 @@ use Rattle.ol_grades.specs.declared.reading.Bounds.{Bounds}
 use Rattle.ol_grades.specs.declared.holding.Seen.{Seen}
 use Rattle.ol_grades.specs.declared.reading.Lack.{Lack}
 use Rattle.ol_grades.specs.declared.grading.Student.{Student}
+use Rattle.ol_grades.specs.declared.grading.Work.{Work}
+use Rattle.ol_grades.specs.declared.grading.Work.TheVariants as work
 use Rattle.ol_grades.specs.Reads.{HasTree, HasNoTree, lack_words}
 
 -- ---- the inputs
@@ -116,6 +120,14 @@ pub data IsGrade (bounds : Bounds) (inputs : List (List ℕ)) (wanted : List See
       AllZip (IsRight bounds student) before passed → IsWrong bounds student line w (length before + 1) words →
       IsGrade bounds inputs wanted student words false
 
+-- what is said of a student: of his text, or why there is none
+pub data IsGradeOf (bounds : Bounds) (inputs : List (List ℕ)) (wanted : List Seen) : Work → List ℕ → Bool → Type 0 where
+  of_text : {bytes : Vec ℕ Global} {words : List ℕ} {fine : Bool} →
+      IsGrade bounds inputs wanted bytes.items words fine →
+      IsGradeOf bounds inputs wanted (work.Text bytes) words fine
+  unread : IsGradeOf bounds inputs wanted work.Unread (codes "can't be read") false
+  too_long : IsGradeOf bounds inputs wanted work.TooLong (codes "limit bytes 1048576") false
+
 -- a line about a file
 abbrev pub file_line : (name words : List ℕ) → List ℕ
 file_line name words = name ++ codes ": " ++ words ++ codes "\n"
@@ -125,7 +137,7 @@ pub data AreGrades (bounds : Bounds) (inputs : List (List ℕ)) (wanted : List S
     Type 0 where
   none : AreGrades bounds inputs wanted [] [] true
   more : {student : Student} {students : List Student} {words text : List ℕ} {fine all : Bool} →
-      IsGrade bounds inputs wanted student.bytes.items words fine →
+      IsGradeOf bounds inputs wanted student.work words fine →
       AreGrades bounds inputs wanted students text all →
       AreGrades bounds inputs wanted (student ∷ students)
       (file_line student.name.items words ++ text) (fine && all)

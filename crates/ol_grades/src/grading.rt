@@ -1,28 +1,40 @@
 //! A student against the solution, and all of them.
 
-ghost use Rattle.std.specs.Prelude.{◌≡◌, ℕ, List, ◌+◌, ◌<◌, ◌++◌, [], ◌∷◌, length, drop, if◌then◌else◌, codes, MatchOption, IfOk, OnOk};
+ghost use Rattle.std.specs.Prelude.{◌≡◌, ℕ, false, List, ◌+◌, ◌<◌, ◌++◌, [], ◌∷◌, length, drop, if◌then◌else◌, codes, MatchOption, IfOk, OnOk};
 ghost use Rattle.std.specs.Fmt.{decimal};
 ghost use Rattle.std.specs.List.{AllZip};
 ghost use Rattle.ol_readback.specs.Texts.{AreNamed};
 ghost use Rattle.ol_derivations.specs.Lines.{lines_of};
-ghost use Rattle.ol_grades.specs.Grades.{AreInputs, IsFunction, IsGrade, IsGraded, file_line, on_input};
+ghost use Rattle.ol_grades.specs.Grades.{AreInputs, IsFunction, IsGrade, IsGradeOf, IsGraded, file_line, on_input};
 ghost use Rattle.ol_grades.specs.Inside.{AreAllGrades, AreFunctions, AreWanted, AddsHeads, IsOn, IsPathOf, IsSaid, IsSolved, seen_lines};
 
 use crate::functions::fault_of;
 use crate::holding::Seen;
 use crate::inputs::{Inputs, inputs_of};
 use crate::reading::{Bounds, Found, lack_words, read_on};
+use ol_derivations::words_of;
 use ol_equal::{Compared, Path, compared_text, same_tree};
 use ol_heads::head_text;
 use ol_memory::NoMemory;
 use ol_subjects::{Answer, End, put, put_number};
 use std::alloc::Global;
 
-/// A student's function: its text, and the name that stands before what is said of it.
+/// What there is of a student's function.
+#[derive(Drop)]
+pub enum Work {
+    /// Its text, of any length.
+    Text(Vec<u8>),
+    /// Nothing: it can't be read.
+    Unread,
+    /// Nothing: it has more bytes than a function may have, 1,048,576.
+    TooLong,
+}
+
+/// A student's function, and the name that stands before what is said of it.
 #[derive(Drop)]
 pub struct Student {
     pub name: Vec<u8>,
-    pub bytes: Vec<u8>,
+    pub work: Work,
 }
 
 /// What comes of a solution on the inputs.
@@ -221,8 +233,8 @@ fn told_on(
     Ok(Told { words, fine })
 }
 
-// What is said of a student.
-fn told_of(
+// What is said of a student's text.
+fn told_of_text(
     alloc: Global,
     student: &[u8],
     inputs: &[&[u8]],
@@ -241,6 +253,45 @@ fn told_of(
         }
         None => {
             let told = told_on(alloc, student, inputs, wanted, bounds)?;
+            Ok(told)
+        }
+    }
+}
+
+// What is said of a student without a text.
+fn without_text(alloc: Global, why: &[u8]) -> Result<Told, NoMemory>
+    ensures words { IfOk result (λ told. told.words.items ≡ why.now) }
+    ensures fine { IfOk result (λ told. told.fine ≡ false) }
+{
+    let words = words_of(alloc, why)?;
+    let fine = false;
+    Ok(Told { words, fine })
+}
+
+// What is said of a student.
+fn told_of(
+    alloc: Global,
+    work: &Work,
+    inputs: &[&[u8]],
+    wanted: &Vec<Seen>,
+    bounds: Bounds,
+) -> Result<Told, NoMemory>
+    requires inputs { AreFunctions (seen_lines inputs.now) }
+    requires wanted { AreWanted (seen_lines inputs.now) wanted.now.items }
+    ensures { IfOk result (λ told. IsGradeOf bounds (seen_lines inputs.now) wanted.now.items
+        work.now told.words.items told.fine) }
+{
+    match work {
+        Work::Text(bytes) => {
+            let told = told_of_text(alloc, bytes, inputs, wanted, bounds)?;
+            Ok(told)
+        }
+        Work::Unread => {
+            let told = without_text(alloc, b"can't be read")?;
+            Ok(told)
+        }
+        Work::TooLong => {
+            let told = without_text(alloc, b"limit bytes 1048576")?;
             Ok(told)
         }
     }
@@ -274,7 +325,7 @@ fn grades(
     let mut fine = true;
     for k in 0..students.len() {
         let student = &students[k];
-        let told = told_of(alloc, &student.bytes, inputs, wanted, bounds)?;
+        let told = told_of(alloc, &student.work, inputs, wanted, bounds)?;
         put_line(&mut text, &student.name, &told.words)?;
         fine &= told.fine;
     }
@@ -362,6 +413,7 @@ fn graded_on(
 ///   net too large.
 /// - `limit bytes 1048576`, `syntax, line L, column C`, `limit depth 1000`: his text is no
 ///   function. Lines and columns are counted from 1, columns in bytes.
+/// - `can't be read`, `limit bytes 1048576`: there is no text of his, for this reason.
 ///
 /// A head is told by its binders, its variable and an underscore for each argument, as `\a b. a _`;
 /// `?` is none, and `...` wasn't read. Its letters are those of the text of its own tree

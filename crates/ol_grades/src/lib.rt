@@ -13,5 +13,5 @@ mod holding;
 mod inputs;
 mod reading;
 
-pub use grading::{Student, grade};
+pub use grading::{Student, Work, grade};
 pub use reading::Bounds;

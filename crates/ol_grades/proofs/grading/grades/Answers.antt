@@ -1,5 +1,5 @@
 use Rattle.std.proofs.Common.{◌≡◌, ◌+◌, ◌++◌, ◌&&◌, rules, sym, ap, ◌∙◌, subst, arith, List, ℕ}
-use Rattle.ol_grades.specs.Grades.{IsGrade, file_line}
+use Rattle.ol_grades.specs.Grades.{file_line}
 use Rattle.ol_grades.specs.Inside.{seen_lines}
 use Rattle.ol_grades.proofs.Walks.{Behind, next_student, last_student, item_here, none_left}
 use Rattle.ol_grades.proofs.grading.grades.Goals as goal
@@ -12,17 +12,14 @@ loop-k-preserved c =
     let l = c.loop-k in
     let x = c.index-students-k.result in
     let told = c.in_ok-told.told in
-    let b : c.deref.result.now ≡ x.bytes.items = search rules in
-    let n : c.deref-in-loop-k.result.now ≡ x.name.items = search rules in
-    let v : c.deref-in-loop-k-2.result.now ≡ told.words.items = search rules in
-    let is = subst (λ (bytes : List ℕ). IsGrade c.args.bounds lines wanted bytes told.words.items told.fine) b
-    c.in_ok-told.ensures in
+    let n : c.deref.result.now ≡ x.name.items = search rules in
+    let v : c.deref-in-loop-k.result.now ≡ told.words.items = search rules in
     let e : c.put_line.new.text.items ≡ l.text.items ++ file_line x.name.items told.words.items = c.in_ok-put_line.ensures
-    ∙ ap (λ (name : List ℕ). l.text.items ++ file_line name c.deref-in-loop-k-2.result.now) n
+    ∙ ap (λ (name : List ℕ). l.text.items ++ file_line name c.deref-in-loop-k.result.now) n
     ∙ ap (λ (words : List ℕ). l.text.items ++ file_line x.name.items words) v in
     subst (λ text. Behind c.args.bounds lines wanted students (l.k + 1) text (l.fine && told.fine)) (sym e)
     (next_student c.args.bounds lines wanted students l.k x l.text.items told.words.items l.fine told.fine
-    (item_here students l.k x c.loop-k-test.true c.index-students-k.is) l.invariant is)
+    (item_here students l.k x c.loop-k-test.true c.index-students-k.is) l.invariant c.in_ok-told.ensures)
 
 pub returns : goal.returns
 returns c =

@@ -1,9 +1,23 @@
-use Rattle.std.proofs.Common.{subst, ℕ, Option, Global}
-use Rattle.std.specs.declared.vec.Vec.{Vec}
-use Rattle.ol_grades.specs.Grades.{IsGrade}
-use Rattle.ol_grades.specs.Inside.{IsFault}
+use Rattle.std.proofs.Common.{◌≡◌, rules}
+use Rattle.ol_grades.specs.Inside.{seen_lines}
+use Rattle.ol_grades.proofs.Said.{text_so, too_long_so, unread_so}
 use Rattle.ol_grades.proofs.grading.told_of.Goals as goal
 
-pub returns-in-Some : goal.returns-in-Some
-returns-in-Some c = IsGrade.bad_text
-    (subst (λ (o : Option (Vec ℕ Global)). IsFault c.args.student.now o) c.in-Some.is c.in_ok-words.ensures)
+pub returns-in_ok-told-in-Text : goal.returns-in_ok-told-in-Text
+returns-in_ok-told-in-Text c =
+    let t = c.in_ok-told-in-Text in
+    let b : c.deref.result.now ≡ c.in-Text.bytes.items = search rules in
+    text_so c.args.bounds (seen_lines c.args.inputs.now) c.args.wanted.now.items c.args.work.now c.in-Text.bytes
+    c.deref.result.now t.told.words.items t.told.fine c.in-Text.is b t.ensures
+
+pub returns-in_ok-told-in-Unread : goal.returns-in_ok-told-in-Unread
+returns-in_ok-told-in-Unread c =
+    let t = c.in_ok-told-in-Unread in
+    unread_so c.args.bounds (seen_lines c.args.inputs.now) c.args.wanted.now.items c.args.work.now t.told.words.items
+    t.told.fine c.in-Unread.is t.ensures.words t.ensures.fine
+
+pub returns-in_ok-told-in-TooLong : goal.returns-in_ok-told-in-TooLong
+returns-in_ok-told-in-TooLong c =
+    let t = c.in_ok-told-in-TooLong in
+    too_long_so c.args.bounds (seen_lines c.args.inputs.now) c.args.wanted.now.items c.args.work.now t.told.words.items
+    t.told.fine c.in-TooLong.is t.ensures.words t.ensures.fine
