@@ -18,11 +18,12 @@ use Rattle.ol_bench.specs.declared.asked.OnOne.{OnOne}
 use Rattle.ol_bench.specs.declared.asked.OnTwo.{OnTwo}
 use Rattle.ol_bench.specs.declared.top.Status.{Status}
 use Rattle.ol_bench.specs.Commands.{IsAnswerToOne, IsAnswerToTwo, IsCauseOfOne, IsCauseOfTwo, IsCauseOnward}
-use Rattle.ol_bench.specs.Commands.{content_of, contents_of, of_term, IsStudent, IsCauseOfStudents, IsCauseOfSolution, IsCauseOfGrade}
+use Rattle.ol_bench.specs.Commands.{content_of, contents_of, of_term, IsStudent, IsWork, IsCauseOfStudents, IsCauseOfSolution, IsCauseOfGrade}
 use Rattle.ol_grades.specs.declared.grading.Student.{Student}
+use Rattle.ol_grades.specs.declared.grading.Work.{Work}
 use Rattle.ol_grades.specs.declared.reading.Bounds.{Bounds}
 use Rattle.ol_bench.specs.Inputs.{ComesOf, Files, IsAllWithin, fault, too_long, of_bytes, most_of, after_taking, told_of}
-use Rattle.ol_bench.specs.Taking.{IsReadOnce, IsRefusal}
+use Rattle.ol_bench.specs.Taking.{IsReadOnce, IsRefusal, IsWorkOf}
 use Rattle.ol_bench.specs.Writing.{Change, GoesTo, Told, WritesAnswer, is_shown, status_of, told}
 
 -- all bytes that were read are no more than were asked for
@@ -107,6 +108,19 @@ module _ (files : Files) (faults faults' : ℕ) (text : List ℕ) (e : End) (c :
       (subst (λ c. IsAllWithin (most_of c) (told_of files file) bytes) same all)
       (subst (λ f. IsCauseOnward command bytes other (after_taking file files) f faults' text e) stays cause)
 
+-- what there is of a file, by what came of reading it
+pub is_work : (file : Option (List ℕ)) (faults faults' : ℕ) (result : Result (Vec ℕ Global) ReadAll) (w : Work) →
+    IsWorkOf result w → Counts (read_all_failed result) faults faults' →
+    IfOk result (λ bytes. IsAllWithin (most_of of_term) file bytes.items) →
+    (IsErrOf result read.TooLong → IsLonger file (most_of of_term)) → IsWork file faults faults' w
+is_work file faults faults' (Ok bytes) w is counts all longer =
+    subst (λ w. IsWork file faults faults' w) (sym is) (IsWork.readable counts all)
+is_work file faults faults' (Err read.Fault) w is counts all longer =
+    subst (λ w. IsWork file faults faults' w) (sym is) (IsWork.unread counts)
+is_work file faults faults' (Err read.TooLong) w is counts all longer =
+    subst (λ w. IsWork file faults faults' w) (sym is) (IsWork.too_long counts (longer refl))
+is_work file faults faults' (Err read.NoMemory) w is counts all longer = absurd is
+
 -- the file at a place is the next of those that are left
 pub next_file : (list : List Given) (at : ℕ) (file : Given) → at < length list → file ≡ slice_index_or list at file →
     drop at list ≡ file ∷ drop (at + 1) list
@@ -123,32 +137,20 @@ module _ (files : Files) (faults faults' : ℕ) (text : List ℕ) (e : End) wher
 
   module _ (bounds : Bounds) (inputs solution : List ℕ) (before : List Student) (list : List Given) (at : ℕ)
       (file : Given) (here : at < length list) (is : file ≡ slice_index_or list at file) where
-    -- the next student's file gives no bytes, or these
-    pub student_not_read : (why : ReadAll) → Counts (read_all_failed (Err why)) faults faults' →
-        (IsErrOf {T = Vec ℕ Global} {E = ReadAll} (Err why) read.TooLong →
-        IsLonger (told_of files file) (most_of of_term)) → IsRefusal why of_term text → e ≡ Refused →
-        IsCauseOfStudents bounds inputs solution before (drop at list) files faults faults' text e
-    student_not_read why counts longer line end =
-        subst (λ left. IsCauseOfStudents bounds inputs solution before left files faults faults' text e)
-        (sym (next_file list at file here is))
-        (no_bytes (told_of files file) _ why counts longer line end)
-
-    pub student_read : (more : List Student) (bytes : List ℕ) (mid : ℕ) →
-        IsAllWithin (most_of of_term) (told_of files file) bytes → mid ≡ faults →
-        ((s : Student) × IsStudent file bytes s × (more ≡ before ++ s ∷ [])) →
+    -- the next student is this one
+    pub student_taken : (more : List Student) (s : Student) (mid : ℕ) → IsStudent file files faults mid s →
+        more ≡ before ++ s ∷ [] →
         IsCauseOfStudents bounds inputs solution more (drop (at + 1) list) (after_taking file files) mid faults' text e →
         IsCauseOfStudents bounds inputs solution before (drop at list) files faults faults' text e
-    student_read more bytes mid all stays (s, student, one) cause =
+    student_taken more s mid student one cause =
         subst (λ left. IsCauseOfStudents bounds inputs solution before left files faults faults' text e)
-        (sym (next_file list at file here is))
-        (of_bytes bytes all (
+        (sym (next_file list at file here is)) (
           s,
+          mid,
           student,
-          subst (λ f. IsCauseOfStudents bounds inputs solution (before ++ s ∷ [])
-              (drop (at + 1) list) (after_taking file files) f faults' text e) stays
-              (subst (λ r. IsCauseOfStudents bounds inputs solution r (drop (at + 1) list) (after_taking file files)
-              mid faults' text e) one cause),
-        ))
+          subst (λ r. IsCauseOfStudents bounds inputs solution r (drop (at + 1) list) (after_taking file files)
+              mid faults' text e) one cause,
+        )
 
   -- the file with the solution has these bytes, or that with the inputs
   pub solution_read : (bounds : Bounds) (inputs : List ℕ) (file : Given) (students : List Given) (bytes : List ℕ)

@@ -1,6 +1,9 @@
 -- The commands: what each asks of its files, and what is answered.
-use Rattle.std.specs.Prelude.{◌≡◌, ℕ, ◌+◌, ◌≤◌, List, [], ◌∷◌, ◌++◌, ◌⊎◌, length}
+use Rattle.std.specs.Prelude.{◌≡◌, ℕ, ◌+◌, ◌≤◌, List, [], ◌∷◌, ◌++◌, ◌⊎◌, length, Option}
 use Rattle.std.specs.Prelude.{codes, string_bytes}
+use Rattle.std.specs.declared.vec.Vec.{Vec}
+use Rattle.std.specs.declared.alloc.Global.{Global}
+use Rattle.ol_io.specs.Outside.{Rose, IsLonger}
 use Rattle.ol_limits.specs.Limits.{most_fuel}
 use Rattle.ol_term.specs.declared.translations.Translation.TheVariants as translation
 use Rattle.ol_subjects.specs.declared.answers.End.{End}
@@ -15,7 +18,7 @@ use Rattle.ol_bench.specs.declared.asked.OnTwo.{OnTwo}
 use Rattle.ol_bench.specs.declared.asked.OnTwo.TheVariants as two
 use Rattle.ol_bench.specs.declared.asked.Asked.{Asked}
 use Rattle.ol_bench.specs.declared.asked.Asked.TheVariants as asked
-use Rattle.ol_bench.specs.Inputs.{Files, ComesOf, IsNamed, after_taking, told_of}
+use Rattle.ol_bench.specs.Inputs.{Files, ComesOf, IsAllWithin, IsNamed, after_taking, most_of, told_of}
 use Rattle.ol_places.specs.Places.{IsWhere}
 use Rattle.ol_places.specs.Wanted.{IsStop}
 use Rattle.ol_steps.specs.Steps.{IsStepsOf}
@@ -30,6 +33,8 @@ use Rattle.ol_free.specs.Frees.{IsFree}
 use Rattle.ol_waves.specs.Answers.{IsWavesAnswer}
 use Rattle.ol_stories.specs.Stories.{IsStoryAnswer}
 use Rattle.ol_grades.specs.declared.grading.Student.{Student}
+use Rattle.ol_grades.specs.declared.grading.Work.{Work}
+use Rattle.ol_grades.specs.declared.grading.Work.TheVariants as work
 use Rattle.ol_grades.specs.declared.reading.Bounds.{Bounds}
 use Rattle.ol_grades.specs.Grades.{IsGraded}
 use Rattle.ol_decoding.specs.Shown.{IsShown}
@@ -115,22 +120,29 @@ abbrev pub student_name : Given → List ℕ
 student_name (given.Name file) = string_bytes file
 student_name (given.Text text) = codes "-e"
 
--- a student whose file has these bytes
-pub record IsStudent (file : Given) (bytes : List ℕ) (s : Student) : Type 0 where
-  pub name : s.name.items ≡ student_name file
-  pub text : s.bytes.items ≡ bytes
+-- What there is of a student's file, by the calls of the source that had failed before and that now have. A call failed;
+-- or the file has too many bytes; or these are its bytes.
+pub data IsWork (file : Option (List ℕ)) (faults faults' : ℕ) : Work → Type 0 where
+  unread : Rose faults faults' → IsWork file faults faults' work.Unread
+  too_long : faults' ≡ faults → IsLonger file (most_of of_term) → IsWork file faults faults' work.TooLong
+  readable : {bytes : Vec ℕ Global} → faults' ≡ faults → IsAllWithin (most_of of_term) file bytes.items →
+      IsWork file faults faults' (work.Text bytes)
 
--- The answer on these inputs and this solution, where the files of these students were read, and then the files that are
--- left are read.
+-- a student with this file
+pub record IsStudent (file : Given) (files : Files) (faults faults' : ℕ) (s : Student) : Type 0 where
+  pub name : s.name.items ≡ student_name file
+  pub work : IsWork (told_of files file) faults faults' s.work
+
+-- The answer on these inputs and this solution, where the files of these students were read, or couldn't be, and then the
+-- files that are left are read. None of these refuses the answer.
 abbrev pub IsCauseOfStudents : Bounds → (inputs solution : List ℕ) → List Student → List Given → Files →
     (faults faults' : ℕ) → List ℕ → End → Type 0
 IsCauseOfStudents bounds inputs solution read [] files faults faults' text e =
     (faults' ≡ faults) × IsGraded inputs solution read bounds text e
 IsCauseOfStudents bounds inputs solution read (file ∷ left) files faults faults' text e =
-    ComesOf of_term (told_of files file) faults faults'
-    (λ bytes text e. (s : Student) × IsStudent file bytes s
+    (s : Student) × (between : ℕ) × IsStudent file files faults between s
     × IsCauseOfStudents bounds inputs solution (read ++ s ∷ []) left (after_taking file files)
-    faults faults' text e) text e
+    between faults' text e
 
 -- the answer on these inputs, where the solution and the students' files are read
 abbrev pub IsCauseOfSolution : Bounds → (inputs : List ℕ) → Given → List Given → Files →

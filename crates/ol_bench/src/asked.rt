@@ -266,7 +266,8 @@ pub enum Asked {
         command: OnTwo,
     },
     /// What is said of students' functions, each compared with a solution on the same inputs: of at
-    /// most 1,000 students. Each of them is named as his file.
+    /// most 1,000 students. Each of them is named as his file. If his file can't be read, or has more
+    /// than 1,048,576 bytes, this is what is said of him, and the others are still compared.
     Grade {
         inputs: Given,
         solution: Given,

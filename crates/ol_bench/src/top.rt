@@ -4,14 +4,15 @@ ghost use Rattle.std.specs.Prelude.{◌≡◌, ℕ, List, [], ◌∷◌, ◌++�
 ghost use Rattle.ol_io.specs.Readings.{AreOfSince};
 ghost use Rattle.ol_bench.specs.Inputs.{IsNamed, most_of};
 ghost use Rattle.ol_bench.specs.Commands.{IsCause, IsCauseOfOne, IsCauseOfTwo, IsCauseOnward, IsOneWithin, IsTwoWithin, IsWithinBounds, Names, contents_of};
-ghost use Rattle.ol_bench.specs.Commands.{HaveName, IsCauseOfGrade, IsCauseOfSolution, IsCauseOfStudents, IsStudent, student_name};
+ghost use Rattle.ol_bench.specs.Commands.{HaveName, IsCauseOfGrade, IsCauseOfSolution, IsCauseOfStudents, student_name};
+ghost use Rattle.ol_bench.specs.Taking.{IsWorkOf};
 ghost use Rattle.ol_bench.specs.Statuses.{status_number};
 ghost use Rattle.ol_bench.specs.Writing.{Told, WritesAnswer, change_of, is_shown, status_of};
 
 use crate::asked::{Asked, Content, Given, OnOne, OnTwo, TERM};
 use crate::taking::{bytes_of, refusal};
-use ol_grades::{Bounds as Following, Student, grade};
-use ol_io::{Sink, Source, Written, write_all};
+use ol_grades::{Bounds as Following, Student, Work, grade};
+use ol_io::{ReadAll, Sink, Source, Written, write_all};
 use ol_memory::NoMemory;
 use ol_subjects::{Answer, End, put};
 use std::alloc::Global;
@@ -25,7 +26,7 @@ pub enum Status {
     /// The answer is no. It was written to the sink of answers; or, where a net after some lines of
     /// a journal was asked and there is none, the line that says why to the sink of errors.
     No,
-    /// A file couldn't be read, the only one or either of two; or it has too many bytes; or `ol`
+    /// A file couldn't be read, or it has too many bytes, and isn't one of a student; or `ol`
     /// refuses a file with a term or a net. The line that says so was written to the sink of
     /// errors.
     Refused,
@@ -163,24 +164,45 @@ fn student_name(file: &Given, alloc: Global) -> Result<Vec<u8>, NoMemory>
     Ok(name)
 }
 
-// The students with one more, whose file has these bytes.
-fn with_student(
+// What there is of a student's file, by what came of reading it.
+fn work_of(read: Result<Vec<u8>, ReadAll>) -> Result<Work, NoMemory>
+    ensures { IfOk result (IsWorkOf read) }
+{
+    match read {
+        Ok(bytes) => Ok(Work::Text(bytes)),
+        Err(fault) => match fault {
+            ReadAll::NoMemory => Err(NoMemory),
+            ReadAll::Fault => Ok(Work::Unread),
+            ReadAll::TooLong => Ok(Work::TooLong),
+        },
+    }
+}
+
+// The student whose file this is.
+fn student_of(
     alloc: Global,
-    students: Vec<Student>,
     file: &Given,
-    bytes: Vec<u8>,
-) -> Result<Vec<Student>, NoMemory>
-    ensures { IfOk result (λ more. (s : Student) × IsStudent file.now bytes.items s
-        × (more.items ≡ students.items ++ s ∷ [])) }
+    read: Result<Vec<u8>, ReadAll>,
+) -> Result<Student, NoMemory>
+    ensures name { IfOk result (λ s. s.name.items ≡ student_name file.now) }
+    ensures work { IfOk result (λ s. IsWorkOf read s.work) }
+{
+    let work = work_of(read)?;
+    let name = student_name(file, alloc)?;
+    Ok(Student { name, work })
+}
+
+// The students with one more.
+fn with_student(students: Vec<Student>, student: Student) -> Result<Vec<Student>, NoMemory>
+    ensures { IfOk result (λ more. more.items ≡ students.items ++ student ∷ []) }
 {
     let mut students = students;
-    let name = student_name(file, alloc)?;
-    students.push(Student { name, bytes })?;
+    students.push(student)?;
     Ok(students)
 }
 
-// The answer on these inputs and this solution, where the files of these students were read, and
-// those from `at` on are left.
+// The answer on these inputs and this solution, where the files of these students were read, or
+// couldn't be, and those from `at` on are left.
 fn of_students<S: Source>(
     alloc: Global,
     src: &mut S,
@@ -204,19 +226,12 @@ fn of_students<S: Source>(
         let answer = grade(alloc, inputs, solution, &read, bounds)?;
         return Ok(answer);
     }
-    let content = Content::Subject(TERM);
     let file = &files[at];
-    match bytes_of(alloc, src, file, content) {
-        Err(fault) => {
-            let answer = refusal(alloc, fault, content)?;
-            Ok(answer)
-        }
-        Ok(bytes) => {
-            let more = with_student(alloc, read, file, bytes)?;
-            let answer = of_students(alloc, src, bounds, inputs, solution, more, files, at + 1)?;
-            Ok(answer)
-        }
-    }
+    let bytes = bytes_of(alloc, src, file, Content::Subject(TERM));
+    let student = student_of(alloc, file, bytes)?;
+    let more = with_student(read, student)?;
+    let answer = of_students(alloc, src, bounds, inputs, solution, more, files, at + 1)?;
+    Ok(answer)
 }
 
 // The answer on these inputs, where the solution and the students' files are read.
@@ -360,7 +375,7 @@ fn told<W: Sink>(sink: &mut W, text: &[u8], status: Status) -> Status
 /// - `Run`, `NotARun`, `BadText`: of a journal it was asked what it is found to be, and it isn't one
 ///   of a complete run. The answer was written to `out`.
 /// - `Refused`: a line was written to `errors`, and nothing to `out`. The line is `read fault`
-///   where the source failed; `limit bytes 1048576`, `limit net 33554432` or
+///   where the source failed, but not at a student's file (`Grade`); `limit bytes 1048576`, `limit net 33554432` or
 ///   `limit journal 402653184` where a file has more bytes than that; or the one by which `ol`
 ///   refuses a file with a term or a net. Where both of two files have too many bytes, the limit
 ///   of the first one is told.
