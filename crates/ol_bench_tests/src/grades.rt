@@ -1,17 +1,31 @@
-//! Rows of `grade`.
-use ol_grades::{Bounds, Student, grade};
+//! Rows of `grade`, and `grade` through `bench`, where files can't be read or are too long.
+ghost use Rattle.std.specs.Prelude.{IfOk};
+ghost use Rattle.ol_bench.specs.Commands.{IsWithinBounds};
+
+use crate::fakes::{file, named};
+use ol_bench::{Asked, Status, bench};
+use ol_grades::{Bounds, Student, Work, grade};
+use ol_io::{MemSink, MemSource};
 use ol_limits::{Fuel, Heads};
 use ol_subjects::End;
 use ol_term::Translation;
-use std::alloc::Global;
+use std::alloc::{AllocError, Global};
 use std::process::Abort;
 use std::test::Fail;
+
+fn bounds() -> Bounds {
+    Bounds {
+        translation: Translation::Two,
+        fuel: Fuel::of(100),
+        heads: Heads::of(4),
+    }
+}
 
 // One student, with this text.
 fn student(alloc: Global, name: &str, text: &str) -> Result<Student, Fail> {
     Ok(Student {
         name: Vec::from_slice(alloc, name.as_bytes())?,
-        bytes: Vec::from_slice(alloc, text.as_bytes())?,
+        work: Work::Text(Vec::from_slice(alloc, text.as_bytes())?),
     })
 }
 
@@ -22,18 +36,13 @@ fn assert_row(
     row: (&str, &str, &str, End, &str),
 ) -> Result<(), Fail> {
     let (inputs, solution, text, end, wanted) = row;
-    let bounds = Bounds {
-        translation: Translation::Two,
-        fuel: Fuel::of(100),
-        heads: Heads::of(4),
-    };
     let students = [student(alloc, "x", text)?];
     let answer = grade(
         alloc,
         inputs.as_bytes(),
         solution.as_bytes(),
         &students,
-        bounds,
+        bounds(),
     )
     .ok()
     .ok_or("no memory")?;
@@ -144,6 +153,63 @@ fn students_are_graded(rt: HostRuntime) -> Result<(), Fail> {
     ];
     for row in rows {
         assert_row(&rt, rt.alloc(), row)?;
+    }
+    Ok(())
+}
+
+// Three students: the file of the first isn't there, and that of the second is too long.
+fn asked(alloc: Global, solution: &str) -> Result<Asked, AllocError>
+    ensures { IfOk result IsWithinBounds }
+{
+    let mut students = Vec::new(alloc);
+    students.push(named(alloc, "gone")?)?;
+    students.push(named(alloc, "long")?)?;
+    students.push(named(alloc, "anna")?)?;
+    Ok(Asked::Grade {
+        inputs: named(alloc, "inputs")?,
+        solution: named(alloc, solution)?,
+        students,
+        bounds: bounds(),
+    })
+}
+
+// Asserts the status where the file of this name has the solution, and what each sink has taken.
+fn assert_grade(
+    rt: &impl Abort,
+    alloc: Global,
+    row: (&str, Status, &str, &str),
+) -> Result<(), Fail> {
+    let (solution, status, wanted, told) = row;
+    let asked = asked(alloc, solution)?;
+    let long = " ".repeat(alloc, 1_048_577)?;
+    let mut files = Vec::new(alloc);
+    files.push(file(alloc, "inputs", "x")?)?;
+    files.push(file(alloc, "anna", "\\v. v")?)?;
+    files.push(file(alloc, "long", &long)?)?;
+    let mut src = MemSource::new(files, 65_536, Vec::new(alloc));
+    let mut out = MemSink::new(alloc, 1_048_576, 100, Vec::new(alloc))
+        .ok()
+        .ok_or("no memory")?;
+    let mut errors = MemSink::new(alloc, 1_048_576, 100, Vec::new(alloc))
+        .ok()
+        .ok_or("no memory")?;
+    let ended = bench(alloc, &asked, &mut src, &mut out, &mut errors);
+    assert_eq!(rt; ended, status, "{solution}");
+    assert!(rt; out.bytes() == wanted.as_bytes(), "{solution}");
+    assert!(rt; errors.bytes() == told.as_bytes(), "{solution}");
+    Ok(())
+}
+
+#[test]
+fn files_of_students_may_fail(rt: HostRuntime) -> Result<(), Fail> {
+    let all = "gone: can't be read\nlong: limit bytes 1048576\nanna: equal on 1 of 1\n";
+    let rows: [(&str, Status, &str, &str); 3] = [
+        ("anna", Status::No, all, ""),
+        ("gone", Status::Refused, "", "read fault\n"),
+        ("long", Status::Refused, "", "limit bytes 1048576\n"),
+    ];
+    for row in rows {
+        assert_grade(&rt, rt.alloc(), row)?;
     }
     Ok(())
 }
