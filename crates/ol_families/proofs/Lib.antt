@@ -1,0 +1,11 @@
+pub mod Rows
+pub mod Naming
+pub mod Knowing
+pub mod Lettering
+pub mod Owning
+pub mod Reading
+pub mod Onward
+pub mod Alike
+pub mod Stepping
+pub mod Renaming
+pub mod OneCount
