@@ -13,13 +13,15 @@ use Rattle.ol_demand.specs.Answers.{start_of, IsAnswer}
 use Rattle.ol_demand.specs.Demands.{HasMoreSteps}
 use Rattle.ol_strategies.specs.declared.orders.Order.{Order}
 use Rattle.ol_strategies.specs.declared.orders.Order.TheVariants as order
+use Rattle.ol_beta.specs.Beta.{IsPast}
 use Rattle.ol_costs.specs.Ordered.{IsOrderCount}
 use Rattle.ol_need.specs.Machines.{need_count}
+use Rattle.ol_families.specs.Counts.{IsFamilyCount}
 use Rattle.ol_counts.specs.declared.tallies.Tally.{Tally}
 use Rattle.ol_counts.specs.declared.tallies.Tally.TheVariants.{Rules, Steps, NotEnded, NoTerm}
 use Rattle.ol_counts.specs.declared.ways.Bounds.{Bounds}
 use Rattle.ol_counts.specs.declared.ways.Way.{Way}
-use Rattle.ol_counts.specs.declared.ways.Way.TheVariants.{Run, Demand, Leftmost, Applicative, Need}
+use Rattle.ol_counts.specs.declared.ways.Way.TheVariants.{Run, Demand, Leftmost, Applicative, Need, Families}
 
 -- The one-thread run from the graph, within the fuel.
 pub data IsRunTally (g : Graph) (fuel : ℕ) : Tally → Type 0 where
@@ -51,6 +53,11 @@ IsOrderTally order most t tally =
 abbrev pub IsNeedTally : ℕ → Tree → Tally → Type 0
 IsNeedTally moves t tally = tally ≡ steps_tally (need_count t moves)
 
+-- the families of redexes that leftmost reduction contracts, of a term within bounds
+pub data IsFamilyTally (most : ℕ) (t : Tree) : Tally → Type 0 where
+  counted : {n : Option ℕ} → IsFamilyCount t most n → IsFamilyTally most t (steps_tally n)
+  large : IsPast t → IsFamilyTally most t NotEnded
+
 -- what holds of the term, if there is one
 abbrev pub OfTerm : (Tree → Tally → Type 0) → Option Tree → Tally → Type 0
 OfTerm P (Some t) tally = P t tally
@@ -63,3 +70,4 @@ IsTally g t b Demand = IsDemandTally g b.heads.most b.fuel.most
 IsTally g t b Leftmost = OfTerm (IsOrderTally order.Leftmost b.steps) t
 IsTally g t b Applicative = OfTerm (IsOrderTally order.Applicative b.steps) t
 IsTally g t b Need = OfTerm (IsNeedTally b.moves) t
+IsTally g t b Families = OfTerm (IsFamilyTally b.steps) t

@@ -115,6 +115,8 @@ fn of_net_file(
 /// - `leftmost`, `applicative`: how many beta steps that order makes to its end.
 /// - `need`: how many beta steps the machine of call-by-need makes to the normal form (`need_count`
 ///   of `ol_need`).
+/// - `families`: of how many families the redexes are that leftmost reduction contracts
+///   (`IsFamilyCount` of `ol_families`).
 ///
 /// The ways that aren't runs of the net have beta steps alone. If no run is shown, the row of beta
 /// steps is the only one.
@@ -122,7 +124,8 @@ fn of_net_file(
 /// A hyphen stands where there is nothing to count: of a net alone only runs are counted. It also
 /// stands in a column whose way goes on beyond its bound. For an order that is beyond `steps`, or
 /// to a term of more than 100,000 constructors or of more than 1,000 of them one within another.
-/// For `need` it is beyond `moves`.
+/// For `families` it is the same of leftmost reduction, or labels of more than 10,000,000 letters
+/// (`families` of `ol_families`). For `need` it is beyond `moves`.
 ///
 /// - `Yes`: each way that is shown and that had something to count has ended.
 /// - `No`: one of them goes on, or there is no free port from which `demand` could read.

@@ -3,19 +3,20 @@
 ghost use Rattle.std.specs.Prelude.{◌≡◌, ◌<◌, ◌≤◌, ◌^◌, length, true, IfOk, IfSome};
 ghost use Rattle.ol_term.specs.Trees.{tree_of, is_below, term_size};
 ghost use Rattle.ol_limits.specs.Limits.{most_nodes};
-ghost use Rattle.ol_counts.specs.Tallies.{steps_tally, IsRunTally, IsDemandTally, IsNeedTally, IsOrderTally, IsTally};
+ghost use Rattle.ol_counts.specs.Tallies.{steps_tally, IsRunTally, IsDemandTally, IsFamilyTally, IsNeedTally, IsOrderTally, IsTally};
 ghost use Rattle.ol_counts.specs.Tabled.{tree_in};
 
 use crate::ways::{Bounds, Way};
 use ol_costs::steps_to_end;
 use ol_demand::{Demanded, demand};
-use ol_limits::{Fuel, Heads};
+use ol_families::families;
+use ol_limits::{Fuel, Heads, MOST_DEPTH, MOST_SIZE};
 use ol_memory::NoMemory;
 use ol_need::steps_by_need;
 use ol_net::Net;
 use ol_rules::{Counts, Ended, counts, run};
 use ol_strategies::Order;
-use ol_term::Term;
+use ol_term::{Term, depth, size};
 use std::alloc::Global;
 
 /// What a way comes to.
@@ -24,7 +25,7 @@ pub enum Tally {
     /// A run of the net ended: how often each rule was applied, and how many pairs are left that
     /// have no rule.
     Rules { counts: Counts, stuck: u32 },
-    /// Reduction ended, after so many beta steps.
+    /// Reduction ended, after so many beta steps; or they are of so many families.
     Steps(u32),
     /// The way goes on beyond its bound, or there is no free port to read from.
     NotEnded,
@@ -97,6 +98,19 @@ fn need_tally(alloc: Global, term: &Term, moves: u32) -> Result<Tally, NoMemory>
     Ok(steps_tally(steps))
 }
 
+// The families of redexes that leftmost reduction contracts.
+fn family_tally(alloc: Global, term: &Term, most: u32) -> Result<Tally, NoMemory>
+    requires bound { is_below 0 (tree_of term.now) ≡ true }
+    requires counted { term_size (tree_of term.now) < 2 ^ 64 }
+    ensures { IfOk result (IsFamilyTally most (tree_of term.now)) }
+{
+    if size(term) > MOST_SIZE as u64 || depth(term) > MOST_DEPTH as u64 {
+        return Ok(Tally::NotEnded);
+    }
+    let steps = families(alloc, term, most)?;
+    Ok(steps_tally(steps))
+}
+
 /// What a way comes to, of a net with its term, or of a net alone. `NoMemory`: no memory was found.
 pub fn tally_of(
     alloc: Global,
@@ -123,6 +137,10 @@ pub fn tally_of(
         },
         Way::Need => match term {
             Some(term) => need_tally(alloc, term, bounds.moves),
+            None => Ok(Tally::NoTerm),
+        },
+        Way::Families => match term {
+            Some(term) => family_tally(alloc, term, bounds.steps),
             None => Ok(Tally::NoTerm),
         },
     }

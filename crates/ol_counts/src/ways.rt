@@ -19,6 +19,9 @@ pub enum Way {
     /// Call-by-need: a machine with closures, each of which is reduced at most once (Sestoft,
     /// Deriving a lazy abstract machine, 1997).
     Need,
+    /// The families of redexes that leftmost reduction contracts (Lévy, Réductions correctes et
+    /// optimales dans le lambda-calcul, 1978). Each counts as one step.
+    Families,
 }
 
 /// Which ways have a column. Those that have none aren't reckoned.
@@ -29,13 +32,14 @@ pub struct Columns {
     pub leftmost: bool,
     pub applicative: bool,
     pub need: bool,
+    pub families: bool,
 }
 
 /// How far each way may go.
 ///
 /// - `fuel`: how many interactions a run of the net makes.
 /// - `heads`: how many subterms `demand` asks for.
-/// - `steps`: how many beta steps an order of reduction makes.
+/// - `steps`: how many beta steps an order of reduction makes, also where families are counted.
 /// - `moves`: how many moves the machine of call-by-need makes.
 #[derive(Clone, Copy)]
 pub struct Bounds {
@@ -46,12 +50,13 @@ pub struct Bounds {
 }
 
 /// All ways, in the order of their columns.
-pub const WAYS: [Way; 5] = [
+pub const WAYS: [Way; 6] = [
     Way::Run,
     Way::Demand,
     Way::Leftmost,
     Way::Applicative,
     Way::Need,
+    Way::Families,
 ];
 
 /// Whether a way has a column.
@@ -64,6 +69,7 @@ pub fn is_shown(columns: Columns, way: Way) -> bool
         Way::Leftmost => columns.leftmost,
         Way::Applicative => columns.applicative,
         Way::Need => columns.need,
+        Way::Families => columns.families,
     }
 }
 
@@ -77,6 +83,7 @@ pub fn is_of_net(way: Way) -> bool
         Way::Leftmost => false,
         Way::Applicative => false,
         Way::Need => false,
+        Way::Families => false,
     }
 }
 
@@ -90,5 +97,6 @@ pub fn title(way: Way) -> &'static str
         Way::Leftmost => "leftmost",
         Way::Applicative => "applicative",
         Way::Need => "need",
+        Way::Families => "families",
     }
 }
