@@ -202,7 +202,7 @@ fn counts<'a>(alloc: Global) -> Result<Command<'a>, AllocError> {
     let command = Command::new(alloc, "counts").about(
         "What a term costs by ways of reducing it, a column each",
     );
-    let steps = "the most steps of leftmost and applicative order, by itself 1000";
+    let steps = "the most steps of leftmost and applicative order and for families, by itself 1000";
     let most = number(alloc, "most", 0, MOST_STEPS as i64, steps);
     let by_need = "the most moves of call-by-need, by itself 1000000";
     let moves = number(alloc, "moves", 0, MOST_MOVES as i64, by_need);
@@ -213,7 +213,8 @@ fn counts<'a>(alloc: Global) -> Result<Command<'a>, AllocError> {
         .arg(flag(alloc, "no-demand", "no column for `demand`"))?
         .arg(flag(alloc, "no-leftmost", "no column for leftmost order"))?
         .arg(flag(alloc, "applicative", "a column for applicative order"))?
-        .arg(flag(alloc, "need", "a column for call-by-need"))?;
+        .arg(flag(alloc, "need", "a column for call-by-need"))?
+        .arg(flag(alloc, "families", "a column for the families of redexes"))?;
     of_term(alloc, command, OF_TERM_OR_NET)
 }
 
@@ -376,6 +377,7 @@ fn columns_of(found: &ArgMatches) -> Columns {
         leftmost: !found.get_flag("no-leftmost"),
         applicative: found.get_flag("applicative"),
         need: found.get_flag("need"),
+        families: found.get_flag("families"),
     }
 }
 

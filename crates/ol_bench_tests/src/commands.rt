@@ -106,6 +106,7 @@ fn counts(subject: Subject, fuel: u32) -> OnOne
         leftmost: true,
         applicative: false,
         need: false,
+        families: false,
     };
     OnOne::Counts {
         subject,

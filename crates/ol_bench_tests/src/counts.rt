@@ -17,6 +17,7 @@ const ALL: Columns = Columns {
     leftmost: true,
     applicative: true,
     need: true,
+    families: true,
 };
 
 // The ways that reduce the term.
@@ -26,6 +27,7 @@ const OF_TERM: Columns = Columns {
     leftmost: true,
     applicative: true,
     need: true,
+    families: true,
 };
 
 const NONE: Columns = Columns {
@@ -34,22 +36,23 @@ const NONE: Columns = Columns {
     leftmost: false,
     applicative: false,
     need: false,
+    families: false,
 };
 
 const NET: &str = "ol net 1\nfree 2\nnode eraser -\nnode eraser -\nlink f0 f1\nlink 0.0 1.0\n";
 
 const NET_TABLE: &str =
-    "                         run      demand    leftmost applicative        need
-beta                       0           0           -           -           -
-fan                        0           0           -           -           -
-croissant                  0           0           -           -           -
-bracket                    0           0           -           -           -
-cross-fan                  0           0           -           -           -
-cross-croissant            0           0           -           -           -
-cross-bracket              0           0           -           -           -
-erase                      1           0           -           -           -
-interactions               1           0           -           -           -
-stuck                      0           0           -           -           -
+    "                         run      demand    leftmost applicative        need    families
+beta                       0           0           -           -           -           -
+fan                        0           0           -           -           -           -
+croissant                  0           0           -           -           -           -
+bracket                    0           0           -           -           -           -
+cross-fan                  0           0           -           -           -           -
+cross-croissant            0           0           -           -           -           -
+cross-bracket              0           0           -           -           -           -
+erase                      1           0           -           -           -           -
+interactions               1           0           -           -           -           -
+stuck                      0           0           -           -           -           -
 ";
 
 // Asserts the end and the table of a text.
@@ -91,16 +94,16 @@ fn terms_are_counted(rt: HostRuntime) -> Result<(), Fail> {
             "(\\x. x x) ((\\y. y) z)",
             OF_TERM,
             End::Yes,
-            "                    leftmost applicative        need
-beta                       3           2           2
+            "                    leftmost applicative        need    families
+beta                       3           2           2           2
 ",
         ),
         (
             "(\\x. \\y. y) ((\\x. x x) (\\x. x x)) z",
             OF_TERM,
             End::No,
-            "                    leftmost applicative        need
-beta                       2           -           2
+            "                    leftmost applicative        need    families
+beta                       2           -           2           2
 ",
         ),
         (
@@ -110,8 +113,8 @@ beta                       2           -           2
                 ..OF_TERM
             },
             End::Yes,
-            "                    leftmost        need
-beta                       2           2
+            "                    leftmost        need    families
+beta                       2           2           2
 ",
         ),
         (

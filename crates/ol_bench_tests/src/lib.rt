@@ -11,6 +11,7 @@
 //! - `derivations`: rows of `derivation`
 //! - `explain`: rows of `explain` over the fakes
 //! - `fakes`: files in memory, and their names; leftmost reduction of a term
+//! - `families`: rows of how many families of redexes are contracted
 //! - `frees`: where names stand free
 //! - `grades`: rows of `grade`
 //! - `limits`: rows of `steps` at the limits of terms
@@ -42,6 +43,8 @@ mod derivations;
 mod explain;
 #[cfg(test)]
 mod fakes;
+#[cfg(test)]
+mod families;
 #[cfg(test)]
 mod frees;
 #[cfg(test)]
