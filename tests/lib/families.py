@@ -1,4 +1,5 @@
-"""Counts the families of redexes that leftmost reduction contracts, and compares with the `beta` of `ol demand`.
+"""Counts the families of redexes that leftmost reduction contracts, and compares with the `beta` of `ol demand`, and with
+the columns `leftmost` and `families` of `ol-bench counts`.
 
     tests/families [--terms N] [--program PATH]
     tests/families NAME ..
@@ -15,11 +16,11 @@ underlined before its own label. The label d of the abstraction is the degree of
 exactly where their degrees are equal, so there are as many families as different degrees. Nothing here knows of nets.
 
 Without names N terms are drawn at random, 4,000 where nothing is said, always the same: such whose leftmost reduction
-ends after 2 to 150 steps. Each is given to `ol demand` by both translations. With names, term files, a line is written
-for each. The last line without names is 'N passed, M failed'.
+ends after 2 to 150 steps. Each is given to `ol demand` by both translations, and to `ol-bench counts`. With names, term
+files, a line is written for each. The last line without names is 'N passed, M failed'.
 
-The program is what PATH or the variable OL names; else the proved crates/ol/out/ol, where it is there; else `ol` on
-PATH; else the script `ol` at the top (tests/lib/which_ol.py).
+The program `ol` is what PATH or the variable OL names, and `ol-bench` what OL_BENCH names; else the proved ones, where they
+are there; else, of `ol`, the one on PATH; else the scripts at the top (tests/lib/which_ol.py).
 """
 import concurrent.futures
 import os
@@ -27,6 +28,7 @@ import random
 import subprocess
 
 import asking
+import counting
 import progress
 import summing
 import terms
@@ -157,16 +159,25 @@ def random_terms(count):
     return found
 
 
-def compare(program, count):
+def shown(program, text):
+    """The columns `leftmost` and `families` of `ol-bench counts`."""
+    found, _ = counting.columns(program, ["leftmost", "families"], ["--most", str(MOST_STEPS)], text)
+    return found.get("leftmost"), found.get("families")
+
+
+def compare(program, bench, count):
     found = random_terms(count)
-    jobs = [(text, translation) for text in found for translation in "12"]
+    jobs = [(text, way) for text in found for way in ("1", "2", "counts")]
     failed = 0
     with concurrent.futures.ThreadPoolExecutor(os.cpu_count()) as pool:
-        answers = pool.map(lambda job: betas(program, *job), jobs)
-        for (text, translation), got in progress.shown(zip(jobs, answers), len(jobs)):
-            if got != found[text][1]:
+        answers = pool.map(lambda job: shown(bench, job[0]) if job[1] == "counts" else betas(program, *job), jobs)
+        for (text, way), got in progress.shown(zip(jobs, answers), len(jobs)):
+            if way == "counts" and got != found[text]:
                 failed += 1
-                print(f"{text}: translation {translation}: beta {got}, and {found[text][1]} families")
+                print(f"{text}: `counts` has {got[0]} leftmost steps of {got[1]} families, and there are {found[text]}")
+            if way != "counts" and got != found[text][1]:
+                failed += 1
+                print(f"{text}: translation {way}: beta {got}, and {found[text][1]} families")
     steps, families = (sum(numbers[k] for numbers in found.values()) for k in (0, 1))
     fewer = sum(numbers[1] < numbers[0] for numbers in found.values())
     print(f"{count} terms: {steps} leftmost steps of {families} families; {fewer} terms have fewer families than steps")
@@ -181,7 +192,7 @@ def main(words):
     asked = asked.parse_args(words)
     program = which_ol.found(named=asked.program)
     if not asked.names:
-        return compare(program, asked.terms)
+        return compare(program, which_ol.found("ol-bench"), asked.terms)
     for name in asked.names:
         text = terms.text_of(name)
         numbers = counted(terms.read(text)) or ("past what is followed", "-")
