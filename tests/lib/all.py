@@ -30,6 +30,7 @@ LONG = [
     Long("sames", "`ol-bench same` on 1,000 terms", None),
     Long("rounds", "`ol-bench journal --order rounds` on 1,000 terms", None),
     Long("faults/many", "a runtime with eight faults on 300 terms", None),
+    Long("bugs", "fourteen bugs in a plain runtime, with the commands that tell each", None),
     Long("speed", "the rows of docs/RUNTIMES.md, part 4, with their times", None),
 ]
 

@@ -32,16 +32,20 @@ FAULTS = {
 }
 
 
-def names_of(fault, main="runtime"):
-    """The functions and classes of the runtime, with this fault, or with none where it is None."""
-    with open(RUNTIME, encoding="utf-8") as file:
+def planted(path, edits):
+    """The text of a script with other lines in place of some: pairs of a line that stands there once, and the other one."""
+    with open(path, encoding="utf-8") as file:
         lines = file.read().split("\n")
-    if fault:
-        right, wrong = FAULTS[fault]
+    for right, wrong in edits:
         place, = (number for number, line in enumerate(lines) if line.strip() == right)
         lines[place] = lines[place].replace(right, wrong)
+    return "\n".join(lines)
+
+
+def names_of(fault, main="runtime"):
+    """The functions and classes of the runtime, with this fault, or with none where it is None."""
     names = {"__name__": main, "__file__": RUNTIME}
-    exec(compile("\n".join(lines), RUNTIME, "exec"), names)
+    exec(compile(planted(RUNTIME, [FAULTS[fault]] if fault else []), RUNTIME, "exec"), names)
     return names
 
 

@@ -18,6 +18,7 @@ crates/ol/out/ol, where it is there; else `ol` on PATH; else the script `ol` at 
 isn't proved is left out (tests/lib/which_ol.py). So is `ol-bench`, by OL_BENCH and not on PATH.
 """
 import collections
+import contextlib
 import os
 import re
 import subprocess
@@ -91,6 +92,18 @@ def printed(text, folder, environment):
     return got + ([f"[status {ran.returncode}]"] if ran.returncode else [])
 
 
+@contextlib.contextmanager
+def place_for(programs):
+    """A folder for commands that call these programs by their names, and the variables for `printed`."""
+    with tempfile.TemporaryDirectory() as folder:
+        for name, program in programs.items():
+            os.symlink(program, os.path.join(folder, name))
+        for name in ("examples", "tests"):
+            os.symlink(os.path.join(TOP, name), os.path.join(folder, name))
+        named = {which_ol.VARIABLES[name]: program for name, program in programs.items()}
+        yield folder, {**os.environ, **named, progress.OFF: "1", "PATH": folder + os.pathsep + os.environ["PATH"]}
+
+
 class Page:
     """A page whose commands are tried, by programs that are given by their names."""
 
@@ -103,13 +116,7 @@ class Page:
     def tried(self):
         """For each command, in order, what is wrong with what it prints: lines, none where nothing is."""
         changes = []
-        with tempfile.TemporaryDirectory() as folder:
-            for name, program in self.programs.items():
-                os.symlink(program, os.path.join(folder, name))
-            for name in ("examples", "tests"):
-                os.symlink(os.path.join(TOP, name), os.path.join(folder, name))
-            named = {which_ol.VARIABLES[name]: program for name, program in self.programs.items()}
-            environment = {**os.environ, **named, progress.OFF: "1", "PATH": folder + os.pathsep + os.environ["PATH"]}
+        with place_for(self.programs) as (folder, environment):
             for command in self.commands:
                 got = printed(command.text, folder, environment)
                 wanted = [line[len(command.indent):] for line in self.lines[command.first:command.end]]
