@@ -1,5 +1,4 @@
 pub mod Scanned
-pub mod Lengths
 pub mod Lefts
 pub mod Unique
 pub mod Turns

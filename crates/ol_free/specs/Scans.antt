@@ -1,76 +1,20 @@
 -- Private: what a scan of the tokens of a text keeps, from the left.
-use Rattle.std.specs.Prelude.{◌≡◌, ℕ, ◌+◌, ◌==◌, Bool, true, false, if◌then◌else◌, List, [], ◌∷◌, ◌++◌, map}
+use Rattle.std.specs.Prelude.{◌≡◌, ℕ, Bool, false, List, [], ◌∷◌, ◌++◌, map}
 use Rattle.std.specs.Prelude.{Option, Some, None, codes}
 use Rattle.std.specs.Fmt.{decimal}
 use Rattle.std.specs.Borrow.{Bor}
-use Rattle.ol_parse.specs.Grammar.{Token, name, let_key, in_key, lambda, dot, equals, open_bracket, close_bracket}
-use Rattle.ol_parse.specs.Texts as texts
-use Rattle.ol_parse.specs.Texts.{class_of, in_word, token_of, Spells, IsText}
+use Rattle.ol_parse.specs.Grammar.{Token, name, let_key, in_key, lambda, open_bracket, close_bracket}
+use Rattle.ol_parse.specs.Texts.{Spells}
 use Rattle.ol_parse.specs.declared.faults.ParseFault.{ParseFault}
 use Rattle.ol_parse.specs.declared.faults.ParseFault.TheVariants.{NoMemory, Syntax, Depth}
 use Rattle.ol_free.specs.Occurrences.{is_unbound}
 use Rattle.ol_free.specs.Frees.{lines_of}
 use Rattle.ol_free.specs.declared.placing.Place.{Place}
-use Rattle.ol_free.specs.declared.tokens.Sign.{Sign}
-use Rattle.ol_free.specs.declared.tokens.Sign.TheVariants as sign
-use Rattle.ol_free.specs.declared.tokens.Class.{Class}
-use Rattle.ol_free.specs.declared.tokens.Class.TheVariants as class
-use Rattle.ol_free.specs.declared.tokens.Kind.{Kind}
-use Rattle.ol_free.specs.declared.tokens.Kind.TheVariants as kind
 use Rattle.ol_free.specs.declared.scanning.Mode.{Mode}
 use Rattle.ol_free.specs.declared.scanning.Mode.TheVariants.{Atom, Names, Let}
 use Rattle.ol_free.specs.declared.scanning.Scope as code
 use Rattle.ol_free.specs.declared.scanning.Scope.TheVariants.{Bracket, Binder, Defining}
 use Rattle.ol_free.specs.declared.scanning.Scan.{Scan}
-
--- ---- bytes
-
-abbrev pub sign_token : Sign → Token
-sign_token sign.Lambda = lambda
-sign_token sign.Dot = dot
-sign_token sign.Equals = equals
-sign_token sign.Open = open_bracket
-sign_token sign.Close = close_bracket
-
-abbrev pub seen : Class → texts.Class
-seen class.Blank = texts.blank
-seen class.Hash = texts.hash
-seen class.Letter = texts.letter
-seen class.Digit = texts.digit
-seen (class.Sign s) = texts.sign (sign_token s)
-seen class.Lead = texts.lead
-seen class.Other = texts.other
-
--- the token of a word, or of a sign
-abbrev pub kind_token : Kind → List ℕ → Token
-kind_token kind.Name w = name w
-kind_token kind.Let w = let_key
-kind_token kind.In w = in_key
-kind_token (kind.Sign s) w = sign_token s
-
--- whether a gap goes on with a byte, within a comment or not
-abbrev pub goes_on : Bool → ℕ → texts.Class → Bool
-goes_on true b c = true
-goes_on false b texts.blank = true
-goes_on false b texts.hash = true
-goes_on false b _ = false
-
--- whether one is in a comment behind a byte of a gap
-abbrev pub comment_after : Bool → ℕ → texts.Class → Bool
-comment_after true b c = if b == 10 then false else true
-comment_after false b texts.hash = true
-comment_after false b _ = false
-
--- how many bytes of a gap come first, within a comment or not
-abbrev pub gap_length : Bool → List ℕ → ℕ
-gap_length comment [] = 0
-gap_length comment (b ∷ bs) = if goes_on comment b (class_of b)
-    then 1 + gap_length (comment_after comment b (class_of b)) bs else 0
-
--- how many bytes of a word come first
-abbrev pub word_length : List ℕ → ℕ
-word_length [] = 0
-word_length (b ∷ bs) = if in_word (class_of b) then 1 + word_length bs else 0
 
 -- ---- scopes
 

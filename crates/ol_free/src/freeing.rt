@@ -7,10 +7,10 @@ ghost use Rattle.ol_free.specs.Scans.{IsRefusal};
 
 use crate::placing::Place;
 use crate::scanning::{no_scan, take};
-use crate::tokens::{gap_length, kind_of, token_length};
 use ol_memory::NoMemory;
 use ol_parse::{ParseFault, parse};
 use ol_subjects::{Answer, End, put, put_number};
+use ol_tokens::first_token;
 use std::alloc::Global;
 
 // Appends the line of a name, if it is free.
@@ -44,18 +44,16 @@ fn free_lines(alloc: Global, bytes: &[u8]) -> Result<Vec<u8>, NoMemory>
     let mut scan = no_scan(alloc);
     let mut place = Place { line: 1, column: 1 };
     let mut rest = bytes;
-    loop {
-        let (gap, behind) = rest.split_at(gap_length(rest));
-        if behind.is_empty() {
-            return Ok(text);
-        }
-        let (token, left) = behind.split_at(token_length(behind));
+    while let Some(first) = first_token(rest) {
+        let (gap, behind) = rest.split_at(first.gap);
+        let (token, left) = behind.split_at(first.length);
         let here = place.behind_all(gap);
-        let free = take(&mut scan, kind_of(token), token)?;
+        let free = take(&mut scan, first.kind, token)?;
         put_line(alloc, &mut text, free, token, here)?;
         place = here.behind_all(token);
         rest = left;
     }
+    Ok(text)
 }
 
 // The lines, or that there are none.

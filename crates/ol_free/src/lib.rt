@@ -1,7 +1,6 @@
 //! The free names of a text, each with its line and its column.
 //!
 //! - `placing`: lines and columns
-//! - `tokens`: gaps, and what a token is
 //! - `scanning`: what is open round a token
 //! - `freeing`: the free names of a text
 //! - `laws`: a text has one answer
@@ -11,7 +10,6 @@ mod freeing;
 mod laws;
 mod placing;
 mod scanning;
-mod tokens;
 
 pub use freeing::free_names;
 pub use laws::one_answer;

@@ -5,10 +5,11 @@ ghost use Rattle.std.specs.Str.{bytes_eq};
 ghost use Rattle.ol_parse.specs.Grammar.{name, in_key};
 ghost use Rattle.ol_free.specs.declared.scanning.Mode.TheVariants.{Atom};
 ghost use Rattle.ol_free.specs.Occurrences.{is_unbound};
-ghost use Rattle.ol_free.specs.Scans.{bracket, binder, defining, closed, unwound, names_of, scopes_of, shown, innermost, sign_token, kind_token, IsScan, Takes};
+ghost use Rattle.ol_tokens.specs.Tokens.{sign_token, kind_token};
+ghost use Rattle.ol_free.specs.Scans.{bracket, binder, defining, closed, unwound, names_of, scopes_of, shown, innermost, IsScan, Takes};
 
-use crate::tokens::{Kind, Sign};
 use ol_memory::NoMemory;
+use ol_tokens::{Kind, Sign};
 use std::alloc::Global;
 
 /// What a name is that comes next.

@@ -1,7 +1,8 @@
 use Rattle.std.proofs.Common.{false, refl, sym, ap, ◌∙◌, subst}
 use Rattle.ol_free.specs.declared.scanning.Mode.TheVariants.{Atom}
 use Rattle.ol_free.specs.declared.scanning.Scan.{Scan}
-use Rattle.ol_free.specs.Scans.{scopes_of, sign_token, Takes}
+use Rattle.ol_tokens.specs.Tokens.{sign_token}
+use Rattle.ol_free.specs.Scans.{scopes_of, Takes}
 use Rattle.ol_free.proofs.Turns.{scopes_push, takes_open}
 use Rattle.ol_free.proofs.scanning.take_sign.Goals as goal
 

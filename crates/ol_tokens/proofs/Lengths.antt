@@ -7,7 +7,7 @@ use Rattle.ol_parse.specs.Texts.{Class, letter, sign, lead, class_of, in_word, t
 use Rattle.ol_parse.specs.Texts.{is_word, IsLine, IsGap, gap_none, gap_blank, gap_comment, IsLastGap, last_gap, last_comment}
 use Rattle.ol_parse.specs.Texts.{AreInWord, IsToken, token_sign, token_letter, token_word, Spells}
 use Rattle.ol_parse.proofs.Spelled.{IsApart, apart, word_token}
-use Rattle.ol_free.specs.Scans.{goes_on, comment_after, gap_length, word_length}
+use Rattle.ol_tokens.specs.Gaps.{goes_on, comment_after, gap_length, word_length}
 
 -- ---- gaps
 

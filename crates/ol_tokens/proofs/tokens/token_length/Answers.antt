@@ -1,6 +1,6 @@
 use Rattle.ol_parse.specs.Texts.{letter}
-use Rattle.ol_free.proofs.Lengths.{length_exact}
-use Rattle.ol_free.proofs.tokens.token_length.Goals as goal
+use Rattle.ol_tokens.proofs.Lengths.{length_exact}
+use Rattle.ol_tokens.proofs.tokens.token_length.Goals as goal
 
 pub returns-in-Letter-clause-exact : goal.returns-in-Letter-clause-exact
 returns-in-Letter-clause-exact c =

@@ -1,9 +1,10 @@
-//! Gaps, and what a token is.
+//! Gaps, and the first token of some bytes.
 
-ghost use Rattle.std.specs.Prelude.{◌≡◌, ℕ, ◌<◌, ◌≤◌, ◌++◌, List, false, length};
+ghost use Rattle.std.specs.Prelude.{◌≡◌, ℕ, ◌+◌, ◌<◌, ◌≤◌, ◌++◌, Bool, List, false, length, IfSome};
 ghost use Rattle.ol_parse.specs.Grammar.{Token};
 ghost use Rattle.ol_parse.specs.Texts.{class_of, in_word, is_word, token_of, IsToken, Spells};
-ghost use Rattle.ol_free.specs.Scans.{seen, kind_token, goes_on, comment_after, gap_length, word_length};
+ghost use Rattle.ol_tokens.specs.Tokens.{kind_token, IsFirstToken};
+ghost use Rattle.ol_tokens.specs.Gaps.{seen, goes_on, comment_after, gap_length, word_length};
 
 // The two bytes of the letter λ, of which this is the first.
 const FIRST_OF_LAMBDA: u8 = 0xce;
@@ -76,8 +77,8 @@ fn comment_after(comment: bool, b: u8) -> bool
     }
 }
 
-/// How many bytes of a gap come first.
-pub fn gap_length(rest: &[u8]) -> usize
+// How many bytes of a gap come first.
+fn gap_length(rest: &[u8]) -> usize
     ensures length { result ≡ gap_length false rest.now }
     ensures within { result ≤ length rest.now }
 {
@@ -110,8 +111,8 @@ fn word_length(rest: &[u8]) -> usize
     rest.len()
 }
 
-/// How many bytes the token has that comes first.
-pub fn token_length(rest: &[u8]) -> usize
+// How many bytes the token has that comes first.
+fn token_length(rest: &[u8]) -> usize
     requires some { 0 < length rest.now }
     ensures within { result ≤ length rest.now }
     ensures some { 0 < result }
@@ -138,8 +139,8 @@ fn kind_of_word(word: &[u8]) -> Kind
     }
 }
 
-/// What a token is.
-pub fn kind_of(token: &[u8]) -> Kind
+// What a token is.
+fn kind_of(token: &[u8]) -> Kind
     requires some { 0 < length token.now }
     ensures { (k : Token) → IsToken k token.now → kind_token result token.now ≡ k }
 {
@@ -152,4 +153,34 @@ pub fn kind_of(token: &[u8]) -> Kind
         Class::Digit => Kind::Name,
         Class::Other => Kind::Name,
     }
+}
+
+/// The first token of some bytes.
+#[derive(Clone, Copy)]
+pub struct FirstToken {
+    /// How many bytes the gap before it has.
+    pub gap: usize,
+    /// How many bytes it has.
+    pub length: usize,
+    /// What it is.
+    pub kind: Kind,
+}
+
+/// The first token of bytes that can be read as tokens. `None`: they are a gap alone. Of other
+/// bytes it says nothing but that the token is one of them, and has a byte.
+pub fn first_token(rest: &[u8]) -> Option<FirstToken>
+    ensures first { (after : Bool) (tokens : List Token) (spelled : Spells after tokens rest.now) →
+        IsFirstToken result spelled }
+    ensures within { IfSome result (λ f. f.gap + f.length ≤ length rest.now) }
+    ensures some { IfSome result (λ f. 0 < f.length) }
+{
+    let gap = gap_length(rest);
+    let (_, behind) = rest.split_at(gap);
+    if behind.is_empty() {
+        return None;
+    }
+    let length = token_length(behind);
+    let (token, _) = behind.split_at(length);
+    let kind = kind_of(token);
+    Some(FirstToken { gap, length, kind })
 }
