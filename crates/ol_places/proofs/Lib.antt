@@ -1,2 +1,6 @@
 pub mod Blanks
 pub mod Stops
+pub mod Cuts
+pub mod Nesting
+pub mod Innermost
+pub mod Taken

@@ -32,11 +32,15 @@ blanks (b ∷ bs) = blank b ++ blanks bs
 abbrev pub piece : List ℕ → ℕ → ℕ → List ℕ
 piece bytes start end = take (end - start) (drop start bytes)
 
--- The number of the line and of the column, both from 1; the line; and a caret below the place.
+-- the number of the line, which begins at `start`, and of the column, both from 1
+abbrev pub line_and_column : List ℕ → ℕ → ℕ → List ℕ
+line_and_column bytes at start = codes "line " ++ decimal (count_by is_feed (take start bytes) + 1)
+    ++ codes ", column " ++ decimal (at - start + 1)
+
+-- the numbers of the line and of the column; the line; and a caret below the place
 abbrev pub place_text : List ℕ → ℕ → ℕ → ℕ → List ℕ
 place_text bytes at start end =
-    codes "line " ++ decimal (count_by is_feed (take start bytes) + 1)
-    ++ codes ", column " ++ decimal (at - start + 1) ++ codes "\n"
+    line_and_column bytes at start ++ codes "\n"
     ++ piece bytes start end ++ codes "\n"
     ++ blanks (piece bytes start at) ++ codes "^\n"
 

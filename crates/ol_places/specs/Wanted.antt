@@ -7,6 +7,7 @@ use Rattle.ol_subjects.specs.declared.answers.End.{End}
 use Rattle.ol_subjects.specs.declared.answers.End.TheVariants.{Yes, No}
 use Rattle.ol_places.specs.declared.stopping.Wants.{Wants}
 use Rattle.ol_places.specs.Places.{IsLineOf, place_text}
+use Rattle.ol_places.specs.Lets.{IsLetLine}
 
 -- some text begins with these bytes and those behind them
 abbrev pub GoesOn : List ℕ → List ℕ → Type 0
@@ -84,9 +85,9 @@ wanted_line w = codes "wanted: " ++ ending_words w ++ going_words w ++ codes "\n
 -- The answer to where a text stops being a term.
 pub data IsStop (bytes : List ℕ) : List ℕ → End → Type 0 where
   a_term : {t : Named} → IsText bytes t → IsStop bytes (codes "a term\n") Yes
-  stops : {at start end : ℕ} {w : Wants} → IsRefusedAt bytes at → IsLineOf bytes at start end →
-      AreWanted (take at bytes) w →
-      IsStop bytes (place_text bytes at start end ++ wanted_line w) No
+  stops : {at start end : ℕ} {w : Wants} {let_line : List ℕ} → IsRefusedAt bytes at → IsLineOf bytes at start end →
+      AreWanted (take at bytes) w → IsLetLine bytes at let_line →
+      IsStop bytes (place_text bytes at start end ++ wanted_line w ++ let_line) No
 
 -- no place where the bytes are a text, else their dead place
 abbrev pub IsStopAt : List ℕ → Option ℕ → Type 0

@@ -1,7 +1,7 @@
 //! The command `where` of a byte: its line and its column.
 
 ghost use Rattle.std.specs.Prelude.{◌≡◌, ◌≢◌, ℕ, ◌+◌, ◌-◌, ◌<◌, ◌≤◌, ◌++◌, ◌⊎◌, length, take, drop, count_by, slice_index, IfOk, OnOk};
-ghost use Rattle.ol_places.specs.Places.{is_feed, blank, blanks, place_text, past_text, IsLineOf, IsWhere};
+ghost use Rattle.ol_places.specs.Places.{is_feed, blank, blanks, line_and_column, place_text, past_text, IsLineOf, IsWhere};
 
 use ol_memory::NoMemory;
 use ol_subjects::{Answer, End, put, put_number};
@@ -77,6 +77,25 @@ fn put_blanks(text: &mut Vec<u8>, front: &[u8]) -> Result<(), NoMemory>
     Ok(())
 }
 
+// Appends the numbers of the line and of the column of a place.
+pub fn put_line_and_column(
+    alloc: Global,
+    text: &mut Vec<u8>,
+    bytes: &[u8],
+    at: usize,
+    start: usize,
+) -> Result<(), NoMemory>
+    requires before { start ≤ at }
+    requires within { at ≤ length bytes.now }
+    ensures { OnOk result
+        (text.new.items ≡ text.old.items ++ line_and_column bytes.now at start) }
+{
+    put(text, b"line ")?;
+    put_number(alloc, text, lines_in(&bytes[..start]) as u64 + 1)?;
+    put(text, b", column ")?;
+    put_number(alloc, text, (at - start) as u64 + 1)
+}
+
 // The text of a place within the bytes, or at their end.
 pub fn place_text(
     alloc: Global,
@@ -89,10 +108,7 @@ pub fn place_text(
     ensures { IfOk result (λ text. text.items ≡ place_text bytes.now at start end) }
 {
     let mut text = Vec::new(alloc);
-    put(&mut text, b"line ")?;
-    put_number(alloc, &mut text, lines_in(&bytes[..start]) as u64 + 1)?;
-    put(&mut text, b", column ")?;
-    put_number(alloc, &mut text, (at - start) as u64 + 1)?;
+    put_line_and_column(alloc, &mut text, bytes, at, start)?;
     put(&mut text, b"\n")?;
     put(&mut text, &bytes[start..][..end - start])?;
     put(&mut text, b"\n")?;

@@ -6,6 +6,7 @@ ghost use Rattle.ol_parse.specs.Grammar.{Named};
 ghost use Rattle.ol_parse.specs.Texts.{IsText, BeginsText, IsRefusedAt};
 ghost use Rattle.ol_places.specs.Wanted.{is_term, is_whole, is_more, is_fresh, is_binder, is_cut, is_in_word, is_in_letter, piece, ending_words, going_words, wanted_line, GoesOn, AreWanted, IsStop, IsStopAt};
 
+use crate::lets::let_line;
 use crate::placing::{line_of, place_text};
 use ol_memory::NoMemory;
 use ol_parse::{ParseFault, parse};
@@ -135,7 +136,7 @@ fn begins(alloc: Global, bytes: &[u8]) -> Result<bool, NoMemory>
 }
 
 // Whether some text goes on with these bytes.
-fn goes_on(alloc: Global, front: &[u8], next: &[u8]) -> Result<bool, NoMemory>
+pub fn goes_on(alloc: Global, front: &[u8], next: &[u8]) -> Result<bool, NoMemory>
     requires short { length front.now ≤ most_term_bytes }
     requires few { length next.now ≤ 8 }
     ensures { IfOk result (λ yes. IsTrue yes ↔ GoesOn front.now next.now) }
@@ -245,13 +246,16 @@ fn stop_at(alloc: Global, bytes: &[u8], at: usize) -> Result<Vec<u8>, NoMemory>
     let wants = wanted_behind(alloc, &bytes[..at])?;
     let line = wanted_line(alloc, &wants)?;
     put(&mut text, &line)?;
+    let told = let_line(alloc, bytes, at)?;
+    put(&mut text, &told)?;
     Ok(text)
 }
 
 /// Where a text stops being a term: the line and the column of its dead place, which is the B of
-/// `syntax at byte B`, the line itself with a caret below the place, and what is wanted there. Any
-/// text in the grammar is a term, also one whose term is too deep for `ol`. The file has at most
-/// 1,048,576 bytes.
+/// `syntax at byte B`, the line itself with a caret below the place, and what is wanted there. If a
+/// `let` has no `in` before the place, one line more tells the line and the column of the last such
+/// `let`; but not if the place is within a token. Any text in the grammar is a term, also one whose
+/// term is too deep for `ol`. The file has at most 1,048,576 bytes.
 ///
 /// - `Yes`: the text is a term, and the answer is `a term`.
 /// - `No`: it isn't.
