@@ -35,20 +35,56 @@ fn texts_stop_where_something_is_wanted(rt: HostRuntime) -> Result<(), Fail> {
         (
             b"let",
             End::No,
-            "line 1, column 4\nlet\n   ^\nwanted: a name\n",
+            "line 1, column 4\nlet\n   ^\nwanted: a name\nno in yet: let at line 1, column 1\n",
         ),
         (
             b"let x",
             End::No,
-            "line 1, column 6\nlet x\n     ^\nwanted: =\n",
+            "line 1, column 6\nlet x\n     ^\nwanted: =\nno in yet: let at line 1, column 1\n",
         ),
         (
             b"let y = x",
             End::No,
-            "line 1, column 10\nlet y = x\n         ^\nwanted: in or more\n",
+            "line 1, column 10\nlet y = x\n         ^\nwanted: in or more\nno in yet: let at line 1, column 1\n",
         ),
         (b"\\in. in", End::No, key),
         (b"f \xce\xb1 x", End::No, half),
+    ];
+    for row in rows {
+        assert_row(&rt, rt.alloc(), row)?;
+    }
+    Ok(())
+}
+
+// An `in` is of the last `let` that has none. A bracket ends no `let`.
+#[test]
+fn a_let_without_its_in_is_told(rt: HostRuntime) -> Result<(), Fail> {
+    let first =
+        "line 1, column 25\nlet a = b let c = d in e\n                        ^\nwanted: in or more\nno in yet: let at line 1, column 1\n";
+    let second =
+        "line 3, column 15\nlet e = f in g\n              ^\nwanted: in or more\nno in yet: let at line 2, column 1\n";
+    let closed =
+        "line 1, column 11\n(let x = y) in z\n          ^\nwanted: in or more\nno in yet: let at line 1, column 2\n";
+    let nested =
+        "line 1, column 14\nlet x = (y (z\n             ^\nwanted: ) or more\nno in yet: let at line 1, column 1\n";
+    let comment =
+        "line 3, column 2\nx\n ^\nwanted: in or more\nno in yet: let at line 2, column 1\n";
+    let ended = "line 1, column 16\nlet x = y in (x\n               ^\nwanted: ) or more\n";
+    let word = "line 1, column 10\noutlet x = y\n         ^\nwanted: the end or more\n";
+    let argument =
+        "line 1, column 7\nlet f x = x in f\n      ^\nwanted: =\nno in yet: let at line 1, column 1\n";
+    let keyword =
+        "line 1, column 13\nlet x = \\let. x\n            ^\nwanted: a longer word, since let and in are keywords\n";
+    let rows: [(&[u8], End, &str); 9] = [
+        (b"let a = b let c = d in e", End::No, first),
+        (b"let a = b\nlet c = d\nlet e = f in g", End::No, second),
+        (b"(let x = y) in z", End::No, closed),
+        (b"let x = (y (z", End::No, nested),
+        (b"# let it\nlet x = y # let in\nx", End::No, comment),
+        (b"let x = y in (x", End::No, ended),
+        (b"outlet x = y", End::No, word),
+        (b"let f x = x in f", End::No, argument),
+        (b"let x = \\let. x", End::No, keyword),
     ];
     for row in rows {
         assert_row(&rt, rt.alloc(), row)?;
