@@ -1,5 +1,5 @@
--- What a term that comes back says of the first term, and what carets stand under.
-use Rattle.std.specs.Prelude.{◌≡◌, ℕ, false, List, slice_get, Some, IsSome}
+-- What a term that comes back says of the first term, what carets stand under, and that what is printed is read again.
+use Rattle.std.specs.Prelude.{◌≡◌, ℕ, Bool, true, false, List, [], ◌++◌, codes, slice_get, Some, IsSome}
 use Rattle.ol_term.specs.Trees.{Tree}
 use Rattle.ol_law_meaning.specs.Shows.{BetaReduces}
 use Rattle.ol_law_confluence.specs.Reductions.{HasNormalForm, HasHeadNormalForm}
@@ -8,13 +8,15 @@ use Rattle.ol_strategies.specs.Reductions.{Leads}
 use Rattle.ol_strategies.specs.Ends.{IsWeakHeadNormal}
 use Rattle.ol_strategies.specs.declared.orders.Order.{Order}
 use Rattle.ol_strategies.specs.declared.orders.Order.TheVariants as order
-use Rattle.ol_term.specs.Texts.{text_of_term}
 use Rattle.ol_parse.specs.Grammar.{Named, lam, app}
+use Rattle.ol_parse.specs.Texts.{IsText}
+use Rattle.ol_parse.specs.Numbered.{names_of, number, numbered}
 use Rattle.ol_named.specs.NamedTexts.{named_text}
 use Rattle.ol_named.specs.Marks.{part}
-use Rattle.ol_named.specs.Lettered.{lettered}
 use Rattle.ol_named.specs.Laws.{IsMarked}
-use Rattle.ol_steps.specs.Steps.{Walk}
+use Rattle.ol_binders.specs.Binders.{Binders, binders_of, Fits}
+use Rattle.ol_binders.specs.Naming.{named}
+use Rattle.ol_steps.specs.Steps.{Walk, last_binders, shown_term, term_line}
 
 -- beta reduction of a term comes to a weak head normal form
 pub record HasWeakHeadNormalForm (t : Tree) : Type 0 where
@@ -49,12 +51,27 @@ abbrev pub IsRedex : Named → Type 0
 IsRedex u = (binder : List ℕ) × (body : Named) × (argument : Named) × (u ≡ app (lam binder body) argument)
 
 -- a term with names stands in the term's line, and the carets stand under the redex at an address of it
-pub record MarksRedex (names : List (List ℕ)) (t : Tree) (at : List ℕ) (u : Named) : Type 0 where
-  pub line : named_text false u ≡ text_of_term names t
+pub record MarksRedex (own : Bool) (names : List (List ℕ)) (t : Tree) (s : Binders) (at : List ℕ) (u : Named)
+    : Type 0 where
+  pub line : term_line own names t s ≡ named_text false u ++ codes "\n"
   pub redex : IsRedex (part u at)
   pub marked : IsMarked u at
 
 -- the carets stand under the redex that an order contracts next
 abbrev pub RedexIsMarked : Type 0
-RedexIsMarked = (order : Order) (names : List (List ℕ)) (t : Tree) (at : List ℕ) → next order t ≡ Some at →
-    MarksRedex names t at (lettered names 0 t)
+RedexIsMarked = (order : Order) (own : Bool) (names : List (List ℕ)) (t : Tree) (s : Binders) (at : List ℕ) →
+    (own ≡ true → Fits t s) → next order t ≡ Some at →
+    MarksRedex own names t s at (shown_term own names t s)
+
+-- A tree whose binders have these names: they have its shape, and what is printed is read again, as a term of the same
+-- tree. So no binder takes what isn't its own.
+pub record KeepsNames (names : List (List ℕ)) (t : Tree) (s : Binders) : Type 0 where
+  pub fits : Fits t s
+  pub text : IsText (named_text false (named names [] t s)) (named names [] t s)
+  pub tree : numbered names [] (named names [] t s) ≡ t
+
+-- it is so with each term of a walk from the term of a text, if the binders keep the names that they have in the text
+abbrev pub ReadsAgain : Type 0
+ReadsAgain = (order : Order) (bytes : List ℕ) (source : Named) (v : Tree) (terms : List Tree) → IsText bytes source →
+    Walk order (number source) terms v →
+    KeepsNames (names_of source) v (last_binders order (binders_of source) terms)

@@ -1,8 +1,7 @@
 -- Reduction in an order, term by term, as a text.
-use Rattle.std.specs.Prelude.{◌≡◌, ℕ, ◌+◌, ◌<◌, ◌≤◌, List, [], ◌∷◌, ◌++◌, length, slice_get, codes, Option, None, Some}
-use Rattle.std.specs.Prelude.{Bool, if◌then◌else◌}
+use Rattle.std.specs.Prelude.{◌≡◌, ℕ, ◌+◌, ◌<◌, ◌≤◌, List, [], ◌∷◌, ◌++◌, length, slice_get, codes}
+use Rattle.std.specs.Prelude.{Bool, true, false, if◌then◌else◌, Option, None, Some}
 use Rattle.std.specs.Fmt.{decimal}
-use Rattle.std.specs.List.{flat_map}
 use Rattle.ol_term.specs.declared.translations.Translation.TheVariants.{Two}
 use Rattle.ol_term.specs.Trees as tree
 use Rattle.ol_term.specs.Trees.{Tree}
@@ -19,8 +18,14 @@ use Rattle.ol_strategies.specs.declared.orders.Reached.TheVariants as word
 use Rattle.ol_subjects.specs.declared.answers.End.{End}
 use Rattle.ol_subjects.specs.declared.answers.End.TheVariants.{Yes, No, Refused}
 use Rattle.ol_subjects.specs.Subjects.{IsTerm, RefusesTerm}
+use Rattle.ol_parse.specs.Grammar.{Named}
+use Rattle.ol_parse.specs.Texts.{IsText}
+use Rattle.ol_named.specs.NamedTexts.{named_text}
 use Rattle.ol_named.specs.Lettered.{lettered}
 use Rattle.ol_named.specs.Marks.{mark_line}
+use Rattle.ol_binders.specs.Binders.{Binders, binders_of}
+use Rattle.ol_binders.specs.Contraction.{contracted}
+use Rattle.ol_binders.specs.Naming as own
 use Rattle.ol_steps.specs.declared.stepping.Shown.{Shown}
 
 -- ---- the terms
@@ -38,30 +43,55 @@ pub data Walk (order : Order) (t : Tree) : List Tree → Tree → Type 0 where
 
 -- ---- the lines
 
+-- A term with names: letters for its binders, or if it is wanted the names that they have in the source.
+abbrev pub shown_term : Bool → List (List ℕ) → Tree → Binders → Named
+shown_term named names t s = if named then own.named names [] t s else lettered names 0 t
+
 -- the line of a term
-abbrev pub term_line : List (List ℕ) → Tree → List ℕ
-term_line names t = text_of_term names t ++ codes "\n"
+abbrev pub term_line : Bool → List (List ℕ) → Tree → Binders → List ℕ
+term_line named names t s =
+    (if named then named_text false (own.named names [] t s) else text_of_term names t) ++ codes "\n"
 
 -- the line of an address
 abbrev pub address_line : List ℕ → List ℕ
 address_line at = codes "  at " ++ address_text at ++ codes "\n"
 
 -- the line of carets under the text of a redex, if it is wanted
-abbrev pub carets_if : Bool → List (List ℕ) → Tree → List ℕ → List ℕ
-carets_if wanted names t at = if wanted then mark_line (lettered names 0 t) at else []
+abbrev pub carets_if : Bool → Named → List ℕ → List ℕ
+carets_if wanted t at = if wanted then mark_line t at else []
 
 -- the lines of a redex, where there is one
-abbrev pub redex_lines : Bool → List (List ℕ) → Tree → Option (List ℕ) → List ℕ
-redex_lines marked names t None = []
-redex_lines marked names t (Some at) = carets_if marked names t at ++ address_line at
+abbrev pub redex_lines : Shown → List (List ℕ) → Tree → Binders → Option (List ℕ) → List ℕ
+redex_lines how names t s None = []
+redex_lines how names t s (Some at) = carets_if how.marked (shown_term how.named names t s) at ++ address_line at
 
 -- a term, and where its redex is that comes next in the order
-abbrev pub step_lines : Shown → List (List ℕ) → Tree → List ℕ
-step_lines how names t = term_line names t ++ redex_lines how.marked names t (next how.order t)
+abbrev pub step_lines : Shown → List (List ℕ) → Tree → Binders → List ℕ
+step_lines how names t s = term_line how.named names t s ++ redex_lines how names t s (next how.order t)
 
--- the lines of these terms, one after another
-abbrev pub walk_lines : Shown → List (List ℕ) → List Tree → List ℕ
-walk_lines how names terms = flat_map (step_lines how names) terms
+-- the names of a term's binders after a step: each abstraction keeps its name
+abbrev pub binders_after : Option (List ℕ) → Tree → Binders → Binders
+binders_after None t s = s
+binders_after (Some at) t s = contracted t s at
+
+abbrev pub next_binders : Order → Tree → Binders → Binders
+next_binders order t s = binders_after (next order t) t s
+
+-- the lines of these terms, one after another, of which the first has these names of binders
+abbrev pub walk_lines : Shown → List (List ℕ) → Binders → List Tree → List ℕ
+walk_lines how names s [] = []
+walk_lines how names s (t ∷ terms) =
+    step_lines how names t s ++ walk_lines how names (next_binders how.order t s) terms
+
+-- the names of binders behind these terms
+abbrev pub last_binders : Order → Binders → List Tree → Binders
+last_binders order s [] = s
+last_binders order s (t ∷ terms) = last_binders order (next_binders order t s) terms
+
+-- the lines of these terms, and the line of the one that they lead to
+abbrev pub lines_to : Shown → List (List ℕ) → Binders → List Tree → Tree → List ℕ
+lines_to how names s terms v =
+    walk_lines how names s terms ++ term_line how.named names v (last_binders how.order s terms)
 
 -- the last line: some words, and how many steps were made
 abbrev pub last_line : List ℕ → ℕ → List ℕ
@@ -103,33 +133,38 @@ return_line order made earlier =
 -- ---- the answer
 
 -- The text of an order's walk from a term, by at most so many steps, and how it ends. The term of step k is the k-th
--- of the walk, from 0.
-pub data Tells (how : Shown) (names : List (List ℕ)) (most : ℕ) (t : Tree) (text : List ℕ) : End → Type 0 where
+-- of the walk, from 0. The binders of the first term have the names s.
+pub data Tells (how : Shown) (names : List (List ℕ)) (most : ℕ) (t : Tree) (s : Binders) (text : List ℕ)
+    : End → Type 0 where
   -- the last term is what the order ends in
   ends : {terms : List Tree} {v : Tree} (word : Reached) → Walk how.order t terms v → length terms ≤ most →
       IsEnd how.order v word →
-      text ≡ walk_lines how names terms ++ term_line names v ++ last_line (reached_words word) (length terms) →
-      Tells how names most t text (reached_end word)
+      text ≡ lines_to how names s terms v ++ last_line (reached_words word) (length terms) →
+      Tells how names most t s text (reached_end word)
   -- the last term is that of an earlier step
   returns : {terms : List Tree} {v : Tree} (k : ℕ) → Walk how.order t terms v → length terms ≤ most →
       slice_get terms k ≡ Some v →
-      text ≡ walk_lines how names terms ++ term_line names v ++ return_line how.order (length terms) k →
-      Tells how names most t text No
+      text ≡ lines_to how names s terms v ++ return_line how.order (length terms) k →
+      Tells how names most t s text No
   -- all steps were made, and a redex is left
   left : {terms : List Tree} {v : Tree} {at : List ℕ} → Walk how.order t terms v → length terms ≡ most →
       IsNew terms v → next how.order v ≡ Some at →
-      text ≡ walk_lines how names (terms ++ v ∷ []) ++ last_line (codes "a redex is left") most →
-      Tells how names most t text No
+      text ≡ walk_lines how names s (terms ++ v ∷ []) ++ last_line (codes "a redex is left") most →
+      Tells how names most t s text No
   -- the next step makes a term out of bounds
   past : {terms : List Tree} {v : Tree} {at : List ℕ} {size depth : ℕ} → Walk how.order t terms v →
       length terms < most → IsNew terms v → next how.order v ≡ Some at → IsPastAfter v at size depth →
-      text ≡ walk_lines how names (terms ++ v ∷ []) ++ past_line (length terms + 1) size depth →
-      Tells how names most t text No
+      text ≡ walk_lines how names s (terms ++ v ∷ []) ++ past_line (length terms + 1) size depth →
+      Tells how names most t s text No
+
+-- the binders of a file's term have these names, if they are wanted
+abbrev pub IsSource : Bool → List ℕ → Binders → Type 0
+IsSource named bytes s = named ≡ true → (t : Named) × IsText bytes t × (s ≡ binders_of t)
 
 -- The answer to a file, by at most so many steps.
 pub data IsStepsOf (bytes : List ℕ) (how : Shown) (most : ℕ) (text : List ℕ) : End → Type 0 where
   refused : RefusesTerm Two bytes text → IsStepsOf bytes how most text Refused
   too_large : {t : Tree} {names : List (List ℕ)} → IsTerm Two bytes t names → IsPast t →
       text ≡ past_line 0 (tree.term_size t) (tree.depth t) → IsStepsOf bytes how most text No
-  steps : {t : Tree} {names : List (List ℕ)} {e : End} → IsTerm Two bytes t names → IsWithin t →
-      Tells how names most t text e → IsStepsOf bytes how most text e
+  steps : {t : Tree} {names : List (List ℕ)} {s : Binders} {e : End} → IsTerm Two bytes t names → IsWithin t →
+      IsSource how.named bytes s → Tells how names most t s text e → IsStepsOf bytes how most text e

@@ -1,6 +1,7 @@
-//! Laws of terms that come back, and of carets: no code, only what follows from the definitions.
+//! Laws of terms that come back, of carets and of names: no code, only what follows from the
+//! definitions.
 
-ghost use Rattle.ol_steps.specs.Laws.{RedexIsMarked, ReturnIsEndless, ReturnHasNone};
+ghost use Rattle.ol_steps.specs.Laws.{ReadsAgain, RedexIsMarked, ReturnIsEndless, ReturnHasNone};
 
 /// Where a term of an order's walk is that of an earlier step, the order has no end: each term that
 /// it leads to from the first has a next redex. So the first term has no normal form, if the order
@@ -16,4 +17,10 @@ pub fn returns_are_endless()
 /// its place, its text stands in the term's line behind the same bytes and before the same bytes.
 pub fn redexes_are_marked()
     ensures { RedexIsMarked }
+{}
+
+/// What is printed of each term of a walk, if the binders keep the names that they have in the
+/// file, is read again, as a term of the same tree: no binder takes what isn't its own.
+pub fn names_are_read_again()
+    ensures { ReadsAgain }
 {}

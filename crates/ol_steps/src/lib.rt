@@ -4,7 +4,7 @@
 //! - `earlier`: the terms of earlier steps
 //! - `finding`: whether a term is that of an earlier step
 //! - `lines`: the lines of an answer
-//! - `laws`: what a term that comes back says, and what carets stand under
+//! - `laws`: what a term that comes back says, what carets stand under, what is read again
 #![tactic(auto)]
 
 mod earlier;
@@ -13,5 +13,5 @@ mod laws;
 mod lines;
 mod stepping;
 
-pub use laws::{redexes_are_marked, returns_are_endless};
+pub use laws::{names_are_read_again, redexes_are_marked, returns_are_endless};
 pub use stepping::{Shown, is_within, steps};

@@ -6,32 +6,64 @@ ghost use Rattle.std.specs.List.{flat_map};
 ghost use Rattle.ol_term.specs.Trees.{tree_of, is_below, is_named_below};
 ghost use Rattle.ol_beta.specs.Beta.{IsWithin};
 ghost use Rattle.ol_named.specs.Marks.{mark_line};
-ghost use Rattle.ol_named.specs.Lettered.{lettered};
-ghost use Rattle.ol_steps.specs.Steps.{address_line, last_line, past_line, redex_lines, reached_end, reached_words, return_line, return_words, term_line};
+ghost use Rattle.ol_named.specs.Terms.{named_of};
+ghost use Rattle.ol_binders.specs.Trees.{binders_in};
+ghost use Rattle.ol_steps.specs.Steps.{address_line, last_line, past_line, redex_lines, reached_end, reached_words, return_line, return_words, shown_term, term_line};
 
+use crate::stepping::Shown;
 use ol_beta::Address;
+use ol_binders::{BinderTree, name};
 use ol_memory::NoMemory;
-use ol_named::{letter, put_mark};
+use ol_named::{NamedTerm, letter, put_mark, put_named};
 use ol_strategies::{Order, Reached};
 use ol_subjects::{End, put, put_number};
 use ol_term::{Names, Term, print_term};
 use std::alloc::Global;
+
+// A term with names: letters for its binders, or if it is wanted their own.
+fn shown(
+    alloc: Global,
+    term: &Term,
+    binders: &BinderTree,
+    names: &Names,
+    own: bool,
+) -> Result<NamedTerm, NoMemory>
+    requires bound { is_below 0 (tree_of term.now) ≡ true }
+    requires named { is_named_below (length names.now) (tree_of term.now) ≡ true }
+    requires within { IsWithin (tree_of term.now) }
+    ensures { IfOk result (λ t. named_of t
+        ≡ shown_term own names.now (tree_of term.now) (binders_in binders.now)) }
+{
+    if own {
+        let named = name(alloc, term, binders, names)?;
+        return Ok(named);
+    }
+    let named = letter(alloc, term, names)?;
+    Ok(named)
+}
 
 // A term's line.
 pub fn put_term(
     alloc: Global,
     text: &mut Vec<u8>,
     term: &Term,
+    binders: &BinderTree,
     names: &Names,
+    own: bool,
 ) -> Result<(), NoMemory>
     requires bound { is_below 0 (tree_of term.now) ≡ true }
     requires named { is_named_below (length names.now) (tree_of term.now) ≡ true }
     requires within { IsWithin (tree_of term.now) }
-    ensures { OnOk result
-        (text.new.items ≡ text.old.items ++ term_line names.now (tree_of term.now)) }
+    ensures { OnOk result (text.new.items ≡ text.old.items
+        ++ term_line own names.now (tree_of term.now) (binders_in binders.now)) }
 {
-    let words = print_term(alloc, term, names)?;
-    put(text, &words)?;
+    if own {
+        let named = name(alloc, term, binders, names)?;
+        put_named(text, &named)?;
+    } else {
+        let words = print_term(alloc, term, names)?;
+        put(text, &words)?;
+    }
     put(text, b"\n")
 }
 
@@ -60,7 +92,7 @@ fn put_address(alloc: Global, text: &mut Vec<u8>, at: &Address) -> Result<(), No
 }
 
 // All moves of an address.
-fn moves_of(alloc: Global, at: &Address) -> Result<Vec<u8>, NoMemory>
+pub fn moves_of(alloc: Global, at: &Address) -> Result<Vec<u8>, NoMemory>
     ensures { IfOk result (λ moves. moves.items ≡ at.now) }
 {
     let mut moves = Vec::new(alloc);
@@ -76,16 +108,18 @@ fn put_carets(
     alloc: Global,
     text: &mut Vec<u8>,
     term: &Term,
+    binders: &BinderTree,
     names: &Names,
+    own: bool,
     at: &Address,
 ) -> Result<(), NoMemory>
     requires bound { is_below 0 (tree_of term.now) ≡ true }
     requires named { is_named_below (length names.now) (tree_of term.now) ≡ true }
     requires within { IsWithin (tree_of term.now) }
-    ensures { OnOk result (text.new.items
-        ≡ text.old.items ++ mark_line (lettered names.now 0 (tree_of term.now)) at.now) }
+    ensures { OnOk result (text.new.items ≡ text.old.items ++ mark_line
+        (shown_term own names.now (tree_of term.now) (binders_in binders.now)) at.now) }
 {
-    let named = letter(alloc, term, names)?;
+    let named = shown(alloc, term, binders, names, own)?;
     let moves = moves_of(alloc, at)?;
     put_mark(alloc, text, &named, &moves)?;
     Ok(())
@@ -96,18 +130,20 @@ pub fn put_redex(
     alloc: Global,
     text: &mut Vec<u8>,
     term: &Term,
+    binders: &BinderTree,
     names: &Names,
-    marked: bool,
+    how: Shown,
     at: &Address,
 ) -> Result<(), NoMemory>
     requires bound { is_below 0 (tree_of term.now) ≡ true }
     requires named { is_named_below (length names.now) (tree_of term.now) ≡ true }
     requires within { IsWithin (tree_of term.now) }
     ensures { OnOk result (text.new.items
-        ≡ text.old.items ++ redex_lines marked names.now (tree_of term.now) (Some at.now)) }
+        ≡ text.old.items ++ redex_lines how names.now (tree_of term.now) (binders_in binders.now)
+        (Some at.now)) }
 {
-    if marked {
-        put_carets(alloc, text, term, names, at)?;
+    if how.marked {
+        put_carets(alloc, text, term, binders, names, how.named, at)?;
     }
     put_address(alloc, text, at)
 }

@@ -6,16 +6,23 @@ ghost use Rattle.ol_term.specs.Trees.{tree_of, is_below, is_named_below, term_si
 ghost use Rattle.ol_beta.specs.Beta.{IsWithin};
 ghost use Rattle.ol_limits.specs.Limits.{most_term_bytes};
 ghost use Rattle.ol_subjects.specs.Subjects.{IsTerm};
-ghost use Rattle.ol_steps.specs.Steps.{past_line, Tells, IsStepsOf};
+ghost use Rattle.ol_parse.specs.Grammar.{Named};
+ghost use Rattle.ol_parse.specs.Texts.{IsText};
+ghost use Rattle.ol_binders.specs.Binders.{binders_of};
+ghost use Rattle.ol_binders.specs.Contraction.{contracted};
+ghost use Rattle.ol_binders.specs.Trees.{binders_in};
+ghost use Rattle.ol_steps.specs.Steps.{past_line, Tells, IsSource, IsStepsOf};
 
 use crate::earlier::Earlier;
 use crate::finding::step_of;
 use crate::lines::{
-    past_line, put_last, put_redex, put_term, reached_end, reached_words, return_line,
+    moves_of, past_line, put_last, put_redex, put_term, reached_end, reached_words, return_line,
 };
-use ol_beta::{BetaFault, beta};
+use ol_beta::{Address, BetaFault, beta};
+use ol_binders::{BinderTree, contract};
 use ol_limits::{MOST_DEPTH, MOST_SIZE};
 use ol_memory::NoMemory;
+use ol_sources::binders;
 use ol_strategies::{Order, reached, redex};
 use ol_subjects::{Answer, End, TermRead, put, read_term};
 use ol_term::{Names, Term, TermFile, Translation, depth, size};
@@ -29,6 +36,8 @@ pub struct Shown {
     pub order: Order,
     /// Whether carets stand under the redex that is contracted next.
     pub marked: bool,
+    /// Whether binders keep the names that they have in the source.
+    pub named: bool,
 }
 
 /// Whether a term is one that steps are made from: it has at most 100,000 constructors, at most
@@ -40,19 +49,44 @@ pub fn is_within(term: &Term) -> bool
     size(term) <= MOST_SIZE as u64 && depth(term) <= MOST_DEPTH as u64
 }
 
+// The names of a term's binders after contraction of the redex at an address.
+fn contracted(
+    alloc: Global,
+    term: &Term,
+    binders: &BinderTree,
+    at: &Address,
+) -> Result<BinderTree, NoMemory>
+    requires within { IsWithin (tree_of term.now) }
+    ensures { IfOk result (λ s. binders_in s
+        ≡ contracted (tree_of term.now) (binders_in binders.now) at.now) }
+{
+    let moves = moves_of(alloc, at)?;
+    let after = contract(alloc, term, binders, &moves)?;
+    Ok(after)
+}
+
 // The terms from one that is within bounds, by at most so many steps.
-fn walk(alloc: Global, term: Term, names: &Names, how: Shown, most: u32) -> Result<Answer, NoMemory>
+fn walk(
+    alloc: Global,
+    term: Term,
+    own: BinderTree,
+    names: &Names,
+    how: Shown,
+    most: u32,
+) -> Result<Answer, NoMemory>
     requires bound { is_below 0 (tree_of term) ≡ true }
     requires named { is_named_below (length names.now) (tree_of term) ≡ true }
     requires within { IsWithin (tree_of term) }
-    ensures { IfOk result (λ a. Tells how names.now most (tree_of term) a.text.items a.end) }
+    ensures { IfOk result (λ a. Tells how names.now most (tree_of term) (binders_in own)
+        a.text.items a.end) }
 {
     let mut text = Vec::new(alloc);
     let mut kept: Vec<Earlier> = Vec::new(alloc);
     let mut here = term;
+    let mut binders = own;
     loop {
         let made = kept.len();
-        put_term(alloc, &mut text, &here, names)?;
+        put_term(alloc, &mut text, &here, &binders, names, how.named)?;
         if let Some(earlier) = step_of(&kept, &here) {
             let line = return_line(alloc, how.order, made, earlier)?;
             put(&mut text, &line)?;
@@ -65,7 +99,7 @@ fn walk(alloc: Global, term: Term, names: &Names, how: Shown, most: u32) -> Resu
             let end = reached_end(word);
             return Ok(Answer { text, end });
         };
-        put_redex(alloc, &mut text, &here, names, how.marked, &at)?;
+        put_redex(alloc, &mut text, &here, &binders, names, how, &at)?;
         if made == most as usize {
             put_last(alloc, &mut text, b"a redex is left", made)?;
             let end = End::No;
@@ -73,6 +107,8 @@ fn walk(alloc: Global, term: Term, names: &Names, how: Shown, most: u32) -> Resu
         }
         match beta(alloc, &here, &at) {
             Ok(next) => {
+                let after = contracted(alloc, &here, &binders, &at)?;
+                binders = after;
                 let before = mem::replace(&mut here, next);
                 kept.push(Earlier::of(before))?;
             }
@@ -102,15 +138,34 @@ fn too_large(alloc: Global, term: &Term) -> Result<Answer, NoMemory>
     Ok(Answer { text, end })
 }
 
+// The names of the binders of a file's term, if they are wanted.
+fn own_binders(alloc: Global, bytes: &[u8], wanted: bool) -> Result<BinderTree, NoMemory>
+    ensures { IfOk result (λ s. wanted ≡ true → (t : Named) → IsText bytes.now t
+        → binders_in s ≡ binders_of t) }
+{
+    if wanted {
+        let own = binders(alloc, bytes)?;
+        return Ok(own);
+    }
+    Ok(BinderTree::Leaf)
+}
+
 // The answer for the term of a file.
-fn of_file(alloc: Global, file: TermFile, how: Shown, most: u32) -> Result<Answer, NoMemory>
+fn of_file(
+    alloc: Global,
+    file: TermFile,
+    own: BinderTree,
+    how: Shown,
+    most: u32,
+) -> Result<Answer, NoMemory>
     requires few { term_size (tree_of file.term) < 2 ^ 64 }
     ensures { IfOk result (λ a. (bytes : List ℕ) →
         IsTerm Two bytes (tree_of file.term) file.names
+        → IsSource how.named bytes (binders_in own)
         → IsStepsOf bytes how most a.text.items a.end) }
 {
     if is_within(&file.term) {
-        let answer = walk(alloc, file.term, &file.names, how, most)?;
+        let answer = walk(alloc, file.term, own, &file.names, how, most)?;
         Ok(answer)
     } else {
         let answer = too_large(alloc, &file.term)?;
@@ -118,10 +173,30 @@ fn of_file(alloc: Global, file: TermFile, how: Shown, most: u32) -> Result<Answe
     }
 }
 
+// The answer for a text of the term of a file.
+fn of_text(
+    alloc: Global,
+    bytes: &[u8],
+    file: TermFile,
+    how: Shown,
+    most: u32,
+) -> Result<Answer, NoMemory>
+    requires few { term_size (tree_of file.term) < 2 ^ 64 }
+    ensures { IfOk result (λ a.
+        IsTerm Two bytes.now (tree_of file.term) file.names
+        → IsStepsOf bytes.now how most a.text.items a.end) }
+{
+    let own = own_binders(alloc, bytes, how.named)?;
+    let answer = of_file(alloc, file, own, how, most)?;
+    Ok(answer)
+}
+
 /// The terms of reduction in an order, one under another, each with the address of the redex that
 /// comes next, by at most `most` steps. If the redex is to be marked, a line between the two has
-/// carets under its text, without brackets round it (`redexes_are_marked`). The file has a term
-/// that `ol` takes by translation 2, in at most 1,048,576 bytes. Step 0 is the term itself.
+/// carets under its text, without brackets round it (`redexes_are_marked`). If binders are to keep
+/// their names, each has the one that it has in the file, with as few primes as keep it from every
+/// free name and every binder round it that is used in its body. The file has a term that `ol`
+/// takes by translation 2, in at most 1,048,576 bytes. Step 0 is the term itself.
 ///
 /// - `Yes`: the last term is what the order ends in, and the last line has the order's word for it:
 ///   a normal form, for leftmost and applicative order; a head normal form; a weak head normal form;
@@ -147,7 +222,7 @@ pub fn steps(alloc: Global, bytes: &[u8], how: Shown, most: u32) -> Result<Answe
             Ok(Answer { text, end })
         }
         TermRead::Term { file, .. } => {
-            let answer = of_file(alloc, file, how, most)?;
+            let answer = of_text(alloc, bytes, file, how, most)?;
             Ok(answer)
         }
     }

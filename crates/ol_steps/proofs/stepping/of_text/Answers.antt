@@ -1,0 +1,6 @@
+use Rattle.ol_steps.proofs.stepping.of_text.Goals as goal
+
+pub returns : goal.returns
+returns c = λ i.
+    c.in_ok-answer.ensures c.args.bytes.now i
+    (λ e. (i.file.named, i.file.text, c.in_ok-own.ensures e i.file.named i.file.text))
