@@ -188,6 +188,11 @@ fn steps<'a>(alloc: Global) -> Result<Command<'a>, AllocError> {
             "mark",
             "a line of carets under the redex that comes next",
         ))?
+        .arg(flag(
+            alloc,
+            "names",
+            "binders keep the names that they have in the file, primed where they would clash",
+        ))?
         .arg(number(
             alloc,
             "most",
@@ -448,6 +453,7 @@ fn on_one(name: &str, found: &ArgMatches) -> OnOne
             how: Shown {
                 order: reduction_of(found),
                 marked: found.get_flag("mark"),
+                named: found.get_flag("names"),
             },
             most: number_of(found, "most", 0, MOST_STEPS, 100),
         },

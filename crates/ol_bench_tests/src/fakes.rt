@@ -19,8 +19,11 @@ pub fn leftmost(most: u32) -> OnOne
     ensures { IsOneWithin result }
 {
     let order = Order::Leftmost;
-    let marked = false;
-    let how = Shown { order, marked };
+    let how = Shown {
+        order,
+        marked: false,
+        named: false,
+    };
     OnOne::Steps { how, most }
 }
 

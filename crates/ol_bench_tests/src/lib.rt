@@ -17,6 +17,7 @@
 //! - `limits`: rows of `steps` at the limits of terms
 //! - `marks`: rows of `steps` with carets
 //! - `outside`: `same` through `bench`, where a call of the source or of a sink fails
+//! - `own_names`: rows of `steps` whose binders keep their names
 //! - `reasons`: rows of `explain`: copies that are numbered otherwise, and links that lines made
 //! - `steps`: reduction in each order, and terms that come back
 //! - `stops`: where texts stop being terms
@@ -55,6 +56,8 @@ mod limits;
 mod marks;
 #[cfg(test)]
 mod outside;
+#[cfg(test)]
+mod own_names;
 #[cfg(test)]
 mod reasons;
 #[cfg(test)]

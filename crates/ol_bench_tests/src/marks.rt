@@ -49,8 +49,11 @@ head normal after 1 steps
 fn redexes_are_marked(rt: HostRuntime) -> Result<(), Fail> {
     for (order, source, wanted) in ROWS {
         assert!(rt; source.len() <= 1_048_576, "{source}");
-        let marked = true;
-        let how = Shown { order, marked };
+        let how = Shown {
+            order,
+            marked: true,
+            named: false,
+        };
         let answer = steps(rt.alloc(), source.as_bytes(), how, 9)
             .ok()
             .ok_or("no memory")?;

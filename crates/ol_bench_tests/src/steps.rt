@@ -18,8 +18,11 @@ fn assert_steps(
 ) -> Result<(), Fail> {
     let (source, most, end, wanted) = row;
     assert!(rt; source.len() <= 1_048_576, "{source}");
-    let marked = false;
-    let how = Shown { order, marked };
+    let how = Shown {
+        order,
+        marked: false,
+        named: false,
+    };
     let answer = steps(alloc, source.as_bytes(), how, most)
         .ok()
         .ok_or("no memory")?;
