@@ -38,6 +38,7 @@ use Rattle.ol_grades.specs.declared.grading.Work.TheVariants as work
 use Rattle.ol_grades.specs.declared.reading.Bounds.{Bounds}
 use Rattle.ol_grades.specs.Grades.{IsGraded}
 use Rattle.ol_decoding.specs.Shown.{IsShown}
+use Rattle.ol_boehm.specs.Told.{IsTreeAnswer}
 
 -- ---- a command on one file
 
@@ -53,6 +54,7 @@ content_of one.Free = Subject (subject.Term translation.Two)
 content_of (one.Waves s fuel) = Subject s
 content_of (one.Story s fuel) = Subject s
 content_of (one.Show translation fuel heads) = Subject (subject.Term translation)
+content_of (one.Tree translation depth fuel heads) = Subject (subject.Term translation)
 
 -- its numbers are within their bounds
 abbrev pub IsOneWithin : OnOne → Type 0
@@ -66,6 +68,7 @@ IsOneWithin one.Free = Unit {0}
 IsOneWithin (one.Waves s fuel) = Unit {0}
 IsOneWithin (one.Story s fuel) = Unit {0}
 IsOneWithin (one.Show translation fuel heads) = Unit {0}
+IsOneWithin (one.Tree translation depth fuel heads) = Unit {0}
 
 -- the answer to the bytes of the file
 abbrev pub IsAnswerToOne : OnOne → List ℕ → List ℕ → End → Type 0
@@ -81,6 +84,8 @@ IsAnswerToOne (one.Waves s fuel) bytes text e = IsWavesAnswer bytes fuel.most te
 IsAnswerToOne (one.Story s fuel) bytes text e = IsStoryAnswer bytes fuel.most text s e
 IsAnswerToOne (one.Show translation fuel heads) bytes text e =
     IsShown bytes translation fuel.most heads.most text e
+IsAnswerToOne (one.Tree translation depth fuel heads) bytes text e =
+    IsTreeAnswer bytes translation depth heads.most fuel.most text e
 
 -- ---- a command on two files
 

@@ -7,6 +7,7 @@ ghost use Rattle.std.specs.Prelude.{◌≡◌, ◌≤◌, length, IfOk};
 ghost use Rattle.ol_bench.specs.Inputs.{most_of};
 ghost use Rattle.ol_bench.specs.Commands.{IsOneWithin, IsTwoWithin, IsAnswerToOne, IsAnswerToTwo, content_of, contents_of};
 
+use ol_boehm::tree;
 use ol_counts::{Bounds, Columns, counted};
 use ol_decoding::show;
 use ol_derivations::derivation;
@@ -107,6 +108,14 @@ pub enum OnOne {
         fuel: Fuel,
         heads: Heads,
     },
+    /// The Böhm tree of a term down to a depth, any number. `demand` finds the head of each part by
+    /// at most `fuel` interactions, and of at most `heads` parts.
+    Tree {
+        translation: Translation,
+        depth: u32,
+        fuel: Fuel,
+        heads: Heads,
+    },
 }
 
 impl OnOne {
@@ -125,6 +134,7 @@ impl OnOne {
             OnOne::Waves { subject, .. } => Content::Subject(subject),
             OnOne::Story { subject, .. } => Content::Subject(subject),
             OnOne::Show { translation, .. } => Content::Subject(Subject::Term(translation)),
+            OnOne::Tree { translation, .. } => Content::Subject(Subject::Term(translation)),
         }
     }
 
@@ -186,6 +196,15 @@ impl OnOne {
                 heads,
             } => {
                 let answer = show(alloc, bytes, translation, fuel, heads)?;
+                Ok(answer)
+            }
+            OnOne::Tree {
+                translation,
+                depth,
+                fuel,
+                heads,
+            } => {
+                let answer = tree(alloc, bytes, translation, depth, fuel, heads)?;
                 Ok(answer)
             }
         }

@@ -32,6 +32,9 @@ const PLAIN_FUEL_HELP: &str = "the most interactions, by itself 200000";
 // How many interactions `story` tells by itself.
 const STORY_FUEL: u32 = 1_000;
 
+// How many interactions `tree` makes for a part by itself.
+const TREE_FUEL: u32 = 10_000;
+
 // How many moves the machine of call-by-need makes by itself, and at most.
 const PLAIN_MOVES: u32 = 1_000_000;
 
@@ -258,6 +261,17 @@ fn show<'a>(alloc: Global) -> Result<Command<'a>, AllocError> {
     of_term(alloc, command, OF_TERM)
 }
 
+fn tree<'a>(alloc: Global) -> Result<Command<'a>, AllocError> {
+    let depth = "how deep a part may be to be asked, where the root is of depth 0";
+    let command = Command::new(alloc, "tree")
+        .about("The Böhm tree of a term down to a depth, by demand, part by part")
+        .arg(number(alloc, "depth", 0, MOST_HEADS as i64, depth).required(true))?
+        .arg(number(alloc, "translation", 1, 2, TRANSLATION))?
+        .arg(fuel(alloc, "the most interactions for one part, by itself 10000"))?
+        .arg(heads(alloc))?;
+    of_term(alloc, command, OF_TERM)
+}
+
 fn places<'a>(alloc: Global) -> Result<Command<'a>, AllocError> {
     let byte = Arg::new(alloc, "byte")
         .action(ArgAction::Set)
@@ -326,6 +340,7 @@ fn command<'a>(alloc: Global) -> Result<Command<'a>, AllocError> {
         .subcommand(waves(alloc)?)?
         .subcommand(story(alloc)?)?
         .subcommand(show(alloc)?)?
+        .subcommand(tree(alloc)?)?
         .subcommand(grade(alloc)?)
 }
 
@@ -483,6 +498,12 @@ fn on_one(name: &str, found: &ArgMatches) -> OnOne
         "show" => OnOne::Show {
             translation: translation_of(found),
             fuel,
+            heads,
+        },
+        "tree" => OnOne::Tree {
+            translation: translation_of(found),
+            depth: number_of(found, "depth", 0, MOST_HEADS, 0),
+            fuel: fuel_of(found, TREE_FUEL),
             heads,
         },
         _ => place_of(found),

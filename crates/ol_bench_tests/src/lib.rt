@@ -23,6 +23,7 @@
 //! - `stops`: where texts stop being terms
 //! - `stories`: rows of `story`
 //! - `texts`: rows of commands on a term that stands on the command line
+//! - `trees`: rows of `tree`
 //! - `waves`: rows of `waves`
 #![tactic(auto)]
 
@@ -68,5 +69,7 @@ mod stops;
 mod stories;
 #[cfg(test)]
 mod texts;
+#[cfg(test)]
+mod trees;
 #[cfg(test)]
 mod waves;
