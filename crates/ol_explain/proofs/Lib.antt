@@ -7,6 +7,7 @@ pub mod Rules
 pub mod Breaks
 pub mod Cuts
 pub mod Joins
+pub mod Weighs
 pub mod Reasoned
 pub mod BadLines
 pub mod Waits

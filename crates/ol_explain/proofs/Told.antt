@@ -1,5 +1,5 @@
 -- A journal that was followed, and what `after` says of it.
-use Rattle.std.proofs.Common.{◌≡◌, ◌≢◌, ℕ, ◌+◌, ◌<◌, ◌≤◌, List, ◌++◌, length, drop, Option, ◌⊎◌, refl, subst, arith}
+use Rattle.std.proofs.Common.{◌≡◌, ◌≢◌, ℕ, ◌+◌, ◌<◌, ◌≤◌, Bool, true, false, List, ◌++◌, length, drop, Option, ◌⊎◌, refl, subst, arith}
 use Rattle.std.proofs.Math.ListN.{drop_of_length-le}
 use Rattle.ol_net.specs.Graph.{Graph}
 use Rattle.ol_diamond.specs.declared.weighing.Rewritten.{Rewritten}
@@ -11,7 +11,8 @@ use Rattle.ol_view.specs.Checks.{start_net_of_graph, IsFound, BeginsWithRun, Has
 use Rattle.ol_view.specs.Checks as found
 use Rattle.ol_view.specs.Laws.{IsTable}
 use Rattle.ol_replay.specs.declared.replaying.Replay.{Replay}
-use Rattle.ol_explain.specs.Afters.{shown_text, IsNetAfter, HasLines}
+use Rattle.ol_explain.specs.Afters.{IsPaused, Shows, HasLines}
+use Rattle.ol_explain.specs.Besides.{IsShown}
 use Rattle.ol_replay.specs.Replays.{names_of, IsReplay}
 use Rattle.ol_explain.specs.declared.following.Stop.TheVariants as stop
 use Rattle.ol_explain.specs.Followed.{IsTold, Stops, no_header, good, no_line, otherwise}
@@ -19,10 +20,8 @@ use Rattle.ol_replay.specs.Replays.{net_here}
 
 module _ (old : Graph) (r : Replay) (u : IsReplay old r) (journal : List ℕ) (end : ℕ)
     (form : Form) (waves : List ℕ) (told : IsTold form waves old r journal end) (lines : ℕ) where
-  pub net_after : length r.run.journal + 1 ≡ lines → IsTable r.net → (text : List ℕ) →
-      text ≡ shown_text (names_of r) (length r.run.journal) r.net →
-      IsNetAfter old journal lines text
-  net_after count tabled text e = record {
+  paused : length r.run.journal + 1 ≡ lines → IsTable r.net → IsPaused old journal lines
+  paused count tabled = record {
     form = form;
     entries = r.run.journal;
     waves = waves;
@@ -36,6 +35,18 @@ module _ (old : Graph) (r : Replay) (u : IsReplay old r) (journal : List ℕ) (e
         let i = u.listed j (omega arith) in
         let i' = u.listed k b in
         rw (i, i') (u.named.rising j k l);
+  }
+
+  pub net_after : (weights : Bool) → length r.run.journal + 1 ≡ lines → IsTable r.net → (text : List ℕ) →
+      IsShown weights old r text → Shows weights old journal lines text
+  unfolding paused
+  net_after false count tabled text e = record { paused = paused count tabled; text_is = e }
+  net_after true count tabled text (ws, W, run, same, e) = record {
+    paused = paused count tabled;
+    waves = ws;
+    weighed = W;
+    run = run;
+    same = same;
     text_is = e;
   }
 

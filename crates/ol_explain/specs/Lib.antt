@@ -12,3 +12,4 @@ pub mod Followed
 pub mod Found
 pub mod Fields
 pub mod Reasons
+pub mod Besides

@@ -10,6 +10,7 @@
 //! - `left`: the pairs that are left after a run
 //! - `wanting`: where a line that isn't one of a journal breaks off, and what is wanted there
 //! - `others`: whether it is one of a run of the other translation
+//! - `weighing`: what the links of a run's last net weigh
 //! - `naming`: a net as a text, under the names of a run
 #![tactic(auto)]
 
@@ -24,8 +25,9 @@ mod others;
 mod pausing;
 mod tallying;
 mod wanting;
+mod weighing;
 
 pub use explaining::explained;
 pub use judging::judged;
-pub use pausing::after;
+pub use pausing::{after, after_with_weights};
 pub use tallying::{Finding, Tally, checked, tallied};

@@ -2,13 +2,15 @@
 
 ghost use Rattle.std.specs.Prelude.{◌≡◌, ◌+◌, ◌≤◌, length, IfOk};
 ghost use Rattle.ol_view.specs.Laws.{IsTable};
-ghost use Rattle.ol_explain.specs.Afters.{IsAfter, IsAfterOf, line_with, shown_text};
-ghost use Rattle.ol_replay.specs.Replays.{names_of};
+ghost use Rattle.ol_explain.specs.Afters.{IsAfter, IsAfterOf, IsAfterWithWeights, IsPausedAnswer, line_with, shown_text};
+ghost use Rattle.ol_explain.specs.Besides.{IsShown, beside_words};
+ghost use Rattle.ol_replay.specs.Replays.{IsReplay, names_of};
 ghost use Rattle.ol_subjects.specs.Subjects.{most_bytes};
 ghost use Rattle.ol_limits.specs.Limits.{most_fuel, most_nodes};
 
 use crate::following::{Stop, follow};
-use crate::naming::named_net;
+use crate::naming::{Beside, named_net};
+use crate::weighing::words_beside;
 use ol_memory::NoMemory;
 use ol_net::Net;
 use ol_replay::Replay;
@@ -28,29 +30,49 @@ fn nothing(alloc: Global, words: &str, number: u32) -> Result<Answer, NoMemory>
     Ok(Answer { text, end })
 }
 
-// The last net of a run, behind the number of its steps.
-fn shown(alloc: Global, replay: &Replay) -> Result<Answer, NoMemory>
-    ensures text { IfOk result (λ a. a.text.items ≡ shown_text (names_of replay.now)
-        (length replay.now.run.journal) replay.now.net) }
-    ensures end { IfOk result (λ a. a.end ≡ End.Yes) }
-    ensures tabled { IsTable replay.now.net }
+// The last net of a run, behind the number of its steps, and what stands beside its links.
+fn last_net(alloc: Global, replay: &Replay, beside: &Beside) -> Result<Vec<u8>, NoMemory>
+    ensures { IfOk result (λ text. text.items ≡ shown_text (names_of replay.now)
+        (beside_words beside.now replay.now) (length replay.now.run.journal) replay.now.net) }
 {
-    replay.net.is_tabled();
-    let net = named_net(alloc, replay)?;
+    let net = named_net(alloc, replay, beside)?;
     let mut text = Vec::new(alloc);
     put(&mut text, b"step ")?;
     put_number(alloc, &mut text, replay.run.journal.len() as u64)?;
     put(&mut text, b"\n")?;
     put(&mut text, &net)?;
+    Ok(text)
+}
+
+// The last net of a run from the net, with weights or without.
+fn shown(alloc: Global, net: &Net, replay: &Replay, weights: bool) -> Result<Answer, NoMemory>
+    requires few { length net.now.nodes ≤ most_nodes }
+    requires entries { length replay.now.run.journal ≤ most_fuel }
+    requires replay { IsReplay net.now replay.now }
+    ensures text { IfOk result (λ a. IsShown weights net.now replay.now a.text.items) }
+    ensures end { IfOk result (λ a. a.end ≡ End.Yes) }
+    ensures tabled { IsTable replay.now.net }
+{
+    net.is_net();
+    replay.net.is_tabled();
+    let beside = words_beside(alloc, net, replay, weights)?;
+    let text = last_net(alloc, replay, &beside)?;
     let end = End::Yes;
     Ok(Answer { text, end })
 }
 
 // The net after so many lines.
-fn of_net(alloc: Global, net: &Net, journal: &[u8], lines: u32) -> Result<Answer, NoMemory>
+fn of_net(
+    alloc: Global,
+    net: &Net,
+    journal: &[u8],
+    lines: u32,
+    weights: bool,
+) -> Result<Answer, NoMemory>
     requires few { length net.now.nodes ≤ most_nodes }
     requires lines { (1 ≤ lines) × (lines ≤ most_fuel + 1) }
-    ensures { IfOk result (λ a. IsAfterOf net.now journal.now lines a.text.items a.end) }
+    ensures { IfOk result (λ a.
+        IsAfterOf weights net.now journal.now lines a.text.items a.end) }
 {
     let followed = follow(alloc, net, journal, lines - 1)?;
     match followed.stop {
@@ -61,7 +83,7 @@ fn of_net(alloc: Global, net: &Net, journal: &[u8], lines: u32) -> Result<Answer
         Stop::Good => {
             let has = followed.replay.run.journal.len() + 1;
             if has == lines {
-                let answer = shown(alloc, &followed.replay)?;
+                let answer = shown(alloc, net, &followed.replay, weights)?;
                 return Ok(answer);
             }
             let answer = nothing(alloc, "the last line is line ", has)?;
@@ -75,6 +97,33 @@ fn of_net(alloc: Global, net: &Net, journal: &[u8], lines: u32) -> Result<Answer
         Stop::Otherwise { .. } => {
             let bad = followed.replay.run.journal.len() + 2;
             let answer = nothing(alloc, "not a run at line ", bad)?;
+            Ok(answer)
+        }
+    }
+}
+
+// The net after so many lines, of a file with a term or a net.
+fn paused(
+    alloc: Global,
+    bytes: &[u8],
+    journal: &[u8],
+    subject: Subject,
+    lines: u32,
+    weights: bool,
+) -> Result<Answer, NoMemory>
+    requires short { length bytes.now ≤ most_bytes subject }
+    requires lines { (1 ≤ lines) × (lines ≤ most_fuel + 1) }
+    ensures { IfOk result (λ a. IsPausedAnswer weights bytes.now journal.now lines
+        a.text.items subject a.end) }
+{
+    let read = read_subject(alloc, bytes, subject)?;
+    match read {
+        NetRead::Refused(text) => {
+            let end = End::Refused;
+            Ok(Answer { text, end })
+        }
+        NetRead::Net(net) => {
+            let answer = of_net(alloc, &net, journal, lines, weights)?;
             Ok(answer)
         }
     }
@@ -104,14 +153,23 @@ pub fn after(
     ensures { IfOk result (λ a.
         IsAfter bytes.now journal.now lines a.text.items subject a.end) }
 {
-    match read_subject(alloc, bytes, subject)? {
-        NetRead::Refused(text) => {
-            let end = End::Refused;
-            Ok(Answer { text, end })
-        }
-        NetRead::Net(net) => {
-            let answer = of_net(alloc, &net, journal, lines)?;
-            Ok(answer)
-        }
-    }
+    paused(alloc, bytes, journal, subject, lines, false)
+}
+
+/// The same net, and beside each port's partner a colon and what the link of the two weighs
+/// (docs/WAVES.md, "How the wave is found"): `2 app 0 3.1:0 f0:2 1.3.0:2`. This is a text of its own,
+/// which nothing reads as a net; without the colons and the weights it is that of `after`.
+pub fn after_with_weights(
+    alloc: Global,
+    bytes: &[u8],
+    journal: &[u8],
+    subject: Subject,
+    lines: u32,
+) -> Result<Answer, NoMemory>
+    requires short { length bytes.now ≤ most_bytes subject }
+    requires lines { (1 ≤ lines) × (lines ≤ most_fuel + 1) }
+    ensures { IfOk result (λ a.
+        IsAfterWithWeights bytes.now journal.now lines a.text.items subject a.end) }
+{
+    paused(alloc, bytes, journal, subject, lines, true)
 }

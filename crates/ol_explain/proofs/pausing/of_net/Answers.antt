@@ -18,7 +18,7 @@ returns-in-NoHeader c =
     let s = subst (λ s. Stops c.args.net.now c.args.journal.now (c.args.lines - 1) f.replay f.at s)
     c.in-NoHeader.is c.in_ok-followed.ensures.stops in
     let a = c.in_ok-answer-in-NoHeader in
-    subst (λ e. IsAfterOf c.args.net.now c.args.journal.now c.args.lines a.answer.text.items e) (sym a.ensures.end)
+    subst (λ e. IsAfterOf c.args.weights c.args.net.now c.args.journal.now c.args.lines a.answer.text.items e) (sym a.ensures.end)
     (of.IsAfterOf.bad_text (at_header c.args.net.now c.args.journal.now (c.args.lines - 1) f.replay f.at s)
     c.requires.lines.0 a.ensures.text)
 
@@ -33,6 +33,19 @@ overflow_add-has c =
     let b = c.requires.lines.1 in
     omega arith
 
+pub shown-requires-clause-entries : goal.shown-requires-clause-entries
+shown-requires-clause-entries c =
+    let f = c.in_ok-followed.followed in
+    let s = subst (λ s. Stops c.args.net.now c.args.journal.now (c.args.lines - 1) f.replay f.at s)
+    c.in-Good.is c.in_ok-followed.ensures.stops in
+    let g = at_good c.args.net.now c.args.journal.now (c.args.lines - 1) f.replay f.at s in
+    let w = g.within in
+    let b = c.requires.lines.1 in
+    omega arith
+
+pub shown-requires-clause-replay : goal.shown-requires-clause-replay
+shown-requires-clause-replay c = c.in_ok-followed.ensures.replay
+
 pub returns-then-has-lines : goal.returns-then-has-lines
 returns-then-has-lines c =
     let f = c.in_ok-followed.followed in
@@ -42,9 +55,9 @@ returns-then-has-lines c =
     let a = c.in_ok-answer-in-Good in
     let count : length f.replay.run.journal + 1 ≡ c.args.lines = (let l = c.len-has.ensures in
     let e = c.if-has-lines.true in omega arith) in
-    subst (λ e. IsAfterOf c.args.net.now c.args.journal.now c.args.lines a.answer.text.items e) (sym a.ensures.end)
+    subst (λ e. IsAfterOf c.args.weights c.args.net.now c.args.journal.now c.args.lines a.answer.text.items e) (sym a.ensures.end)
     (of.IsAfterOf.shown (net_after c.args.net.now f.replay c.in_ok-followed.ensures.replay c.args.journal.now f.at
-    g.form g.waves g.told c.args.lines count a.ensures.tabled a.answer.text.items a.ensures.text))
+    g.form g.waves g.told c.args.lines c.args.weights count a.ensures.tabled a.answer.text.items a.ensures.text))
 
 pub returns-in-Good : goal.returns-in-Good
 returns-in-Good c =
@@ -61,7 +74,7 @@ returns-in-Good c =
     let count : length f.replay.run.journal + 1 ≡ c.len-has.result + 1 = (let l = c.len-has.ensures in omega arith) in
     let few : c.len-has.result + 1 < c.args.lines = (let l = c.len-has.ensures in let w = g.within in
     let e = c.if-has-lines.false in let b = c.requires.lines.0 in omega arith) in
-    subst (λ e. IsAfterOf c.args.net.now c.args.journal.now c.args.lines a.answer.text.items e) (sym a.ensures.end)
+    subst (λ e. IsAfterOf c.args.weights c.args.net.now c.args.journal.now c.args.lines a.answer.text.items e) (sym a.ensures.end)
     (of.IsAfterOf.too_few (has_lines c.args.net.now f.replay c.in_ok-followed.ensures.replay c.args.journal.now f.at
     g.form g.waves g.told has all count) few a.ensures.text)
 
@@ -84,7 +97,7 @@ returns-in-NoLine c =
     let g = at_no_line c.args.net.now c.args.journal.now (c.args.lines - 1) f.replay f.at s in
     let a = c.in_ok-answer-in-NoLine in
     let q : length f.replay.run.journal + 2 ≡ c.len-line.result + 2 = (let l = c.len-line.ensures in omega arith) in
-    subst (λ e. IsAfterOf c.args.net.now c.args.journal.now c.args.lines a.answer.text.items e) (sym a.ensures.end)
+    subst (λ e. IsAfterOf c.args.weights c.args.net.now c.args.journal.now c.args.lines a.answer.text.items e) (sym a.ensures.end)
     (of.IsAfterOf.bad_text (subst (λ n. IsFound (start_net_of_graph c.args.net.now) c.args.journal.now (BadText n))
     q g.1)
     (let w = g.0 in let l = c.len-line.ensures in omega arith) a.ensures.text)
@@ -110,7 +123,7 @@ returns c =
     let g = at_other c.args.net.now c.args.journal.now (c.args.lines - 1) f.replay f.at o.line o.made s in
     let a = c.in_ok-answer-in-Otherwise in
     let q : length f.replay.run.journal + 2 ≡ c.len-bad.result + 2 = (let l = c.len-bad.ensures in omega arith) in
-    subst (λ e. IsAfterOf c.args.net.now c.args.journal.now c.args.lines a.answer.text.items e) (sym a.ensures.end)
+    subst (λ e. IsAfterOf c.args.weights c.args.net.now c.args.journal.now c.args.lines a.answer.text.items e) (sym a.ensures.end)
     (of.IsAfterOf.not_a_run (subst (λ n. IsFound (start_net_of_graph c.args.net.now) c.args.journal.now (NotARun n))
     q g.1)
     (let w = g.0 in let l = c.len-bad.ensures in omega arith) a.ensures.text)

@@ -1,13 +1,13 @@
 use Rattle.std.proofs.Common.{subst}
 use Rattle.ol_subjects.specs.Readied.{IsSubjectRead}
 use Rattle.ol_explain.specs.Afters.{refused, answered}
-use Rattle.ol_explain.proofs.pausing.after.Goals as goal
+use Rattle.ol_explain.proofs.pausing.paused.Goals as goal
 
 pub returns-in-Refused : goal.returns-in-Refused
 returns-in-Refused c = refused (subst
-    (IsSubjectRead c.args.subject c.args.bytes.now) c.in-Refused.is c.in_ok-text.ensures)
+    (IsSubjectRead c.args.subject c.args.bytes.now) c.in-Refused.is c.in_ok-read.ensures)
 
 pub returns-in_ok-answer-in-Net : goal.returns-in_ok-answer-in-Net
 returns-in_ok-answer-in-Net c =
-    let r = subst (IsSubjectRead c.args.subject c.args.bytes.now) c.in-Net.is c.in_ok-text.ensures in
+    let r = subst (IsSubjectRead c.args.subject c.args.bytes.now) c.in-Net.is c.in_ok-read.ensures in
     answered r.0 c.in_ok-answer-in-Net.ensures
