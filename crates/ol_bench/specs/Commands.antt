@@ -25,7 +25,7 @@ use Rattle.ol_steps.specs.Steps.{IsStepsOf}
 use Rattle.ol_derivations.specs.Derivations.{IsDerivation}
 use Rattle.ol_counts.specs.Counted.{IsCounted}
 use Rattle.ol_orders.specs.Orders.{IsJournal}
-use Rattle.ol_explain.specs.Afters.{IsAfter}
+use Rattle.ol_explain.specs.Afters.{IsPausedAnswer}
 use Rattle.ol_explain.specs.Explained.{IsExplained}
 use Rattle.ol_explain.specs.Judged.{IsJudged}
 use Rattle.ol_same.specs.Same.{IsSame}
@@ -91,21 +91,22 @@ IsAnswerToOne (one.Tree translation depth fuel heads) bytes text e =
 
 -- what stands in the first file, and in the second one
 abbrev pub contents_of : OnTwo → Content × Content
-contents_of (two.After s lines) = (Subject s, Journal)
+contents_of (two.After s lines weights) = (Subject s, Journal)
 contents_of (two.Check s) = (Subject s, Journal)
 contents_of (two.Explain s) = (Subject s, Journal)
 contents_of two.Same = (Subject subject.Net, Subject subject.Net)
 
 -- its numbers are within their bounds
 abbrev pub IsTwoWithin : OnTwo → Type 0
-IsTwoWithin (two.After s lines) = (1 ≤ lines) × (lines ≤ most_fuel + 1)
+IsTwoWithin (two.After s lines weights) = (1 ≤ lines) × (lines ≤ most_fuel + 1)
 IsTwoWithin (two.Check s) = Unit {0}
 IsTwoWithin (two.Explain s) = Unit {0}
 IsTwoWithin two.Same = Unit {0}
 
 -- the answer to the bytes of the first file and to those of the second one
 abbrev pub IsAnswerToTwo : OnTwo → List ℕ → List ℕ → List ℕ → End → Type 0
-IsAnswerToTwo (two.After s lines) bytes more text e = IsAfter bytes more lines text s e
+IsAnswerToTwo (two.After s lines weights) bytes more text e =
+    IsPausedAnswer weights bytes more lines text s e
 IsAnswerToTwo (two.Check s) bytes more text e = IsJudged bytes more text s e
 IsAnswerToTwo (two.Explain s) bytes more text e = IsExplained bytes more text s e
 IsAnswerToTwo two.Same bytes more text e = IsSame bytes more text e

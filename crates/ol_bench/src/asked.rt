@@ -11,7 +11,7 @@ use ol_boehm::tree;
 use ol_counts::{Bounds, Columns, counted};
 use ol_decoding::show;
 use ol_derivations::derivation;
-use ol_explain::{after, explained, judged};
+use ol_explain::{after, after_with_weights, explained, judged};
 use ol_free::free_names;
 use ol_grades::Bounds as Following;
 use ol_limits::{Fuel, Heads, MOST_JOURNAL_BYTES};
@@ -215,14 +215,23 @@ impl OnOne {
 #[derive(Clone, Copy, Debug)]
 pub enum OnTwo {
     /// The net after the first `lines` lines of a journal, from 1, its first line, which tells its
-    /// form, to 8,000,001. The first file has the term or the net, the second one the journal.
-    After { subject: Subject, lines: u32 },
+    /// form, to 8,000,001; and what each link weighs, where `weights` says so. The first file has
+    /// the term or the net, the second one the journal.
+    After {
+        subject: Subject,
+        lines: u32,
+        weights: bool,
+    },
     /// What a journal is found to be. The first file has the term or the net, the second one the
     /// journal.
-    Check { subject: Subject },
+    Check {
+        subject: Subject,
+    },
     /// What a journal is found to be, and why. The first file has the term or the net, the second
     /// one the journal.
-    Explain { subject: Subject },
+    Explain {
+        subject: Subject,
+    },
     /// Whether two nets are one up to the numbers of their nodes.
     Same,
 }
@@ -251,7 +260,19 @@ impl OnTwo {
         ensures { IfOk result (λ a. IsAnswerToTwo self bytes.now more.now a.text.items a.end) }
     {
         match self {
-            OnTwo::After { subject, lines } => {
+            OnTwo::After {
+                subject,
+                lines,
+                weights: true,
+            } => {
+                let answer = after_with_weights(alloc, bytes, more, subject, lines)?;
+                Ok(answer)
+            }
+            OnTwo::After {
+                subject,
+                lines,
+                weights: false,
+            } => {
                 let answer = after(alloc, bytes, more, subject, lines)?;
                 Ok(answer)
             }

@@ -153,7 +153,8 @@ fn after<'a>(alloc: Global) -> Result<Command<'a>, AllocError> {
     let command = Command::new(alloc, "after").about(
         "The net after the first lines of a journal, under the journal's names",
     );
-    of_journal(alloc, command.arg(lines)?)
+    let weights = flag(alloc, "weights", "beside each link what it weighs");
+    of_journal(alloc, command.arg(weights)?.arg(lines)?)
 }
 
 fn check<'a>(alloc: Global) -> Result<Command<'a>, AllocError> {
@@ -519,6 +520,7 @@ fn on_two(name: &str, found: &ArgMatches) -> Option<OnTwo>
         "after" => Some(OnTwo::After {
             subject,
             lines: number_of(found, "lines", 1, MOST_FUEL + 1, 1),
+            weights: found.get_flag("weights"),
         }),
         "check" => Some(OnTwo::Check { subject }),
         "explain" => Some(OnTwo::Explain { subject }),

@@ -38,15 +38,38 @@ f0 1.2.0
 1.2 lam 0 f0 1.0.1 1.1.1
 ";
 
+// The same with weights: the first step has wave 1, and makes the links of 2.
+const WEIGHED_ONE: &str = "step 1
+nodes 3
+f0 2.1:1
+2 croissant 0 3.0:1 f0:1
+3 lam 1 2.0:1 4.1:0 4.0:0
+4 croissant 1 3.2:0 3.1:0
+";
+
+// The second one has wave 2, and each link is new.
+const WEIGHED_TWO: &str = "step 2
+nodes 4
+f0 1.2.0:2
+4 croissant 1 1.1.0:2 1.0.0:2
+1.0 croissant 0 4.1:2 1.2.1:2
+1.1 croissant 0 4.0:2 1.2.2:2
+1.2 lam 0 f0:2 1.0.1:2 1.1.1:2
+";
+
 // What is asked of the file and a journal.
-fn asked(alloc: Global, subject: Subject, lines: u32) -> Result<Asked, AllocError>
+fn asked(alloc: Global, subject: Subject, lines: u32, weights: bool) -> Result<Asked, AllocError>
     requires { (1 ≤ lines) × (lines ≤ 8000001) }
     ensures { IfOk result IsWithinBounds }
 {
     Ok(Asked::Two {
         file: named(alloc, "file")?,
         other: named(alloc, "journal")?,
-        command: OnTwo::After { subject, lines },
+        command: OnTwo::After {
+            subject,
+            lines,
+            weights,
+        },
     })
 }
 
@@ -55,14 +78,14 @@ fn asked(alloc: Global, subject: Subject, lines: u32) -> Result<Asked, AllocErro
 fn assert_after(
     rt: &impl Abort,
     alloc: Global,
-    of: (Subject, &str),
+    of: (Subject, &str, bool),
     row: (u32, &str, Status, &str),
 ) -> Result<(), Fail>
     requires { (1 ≤ row.0) × (row.0 ≤ 8000001) }
 {
-    let (subject, text) = of;
+    let (subject, text, weights) = of;
     let (lines, journal, status, wanted) = row;
-    let asked = asked(alloc, subject, lines)?;
+    let asked = asked(alloc, subject, lines, weights)?;
     let mut files = Vec::new(alloc);
     files.push(file(alloc, "file", text)?)?;
     files.push(file(alloc, "journal", journal)?)?;
@@ -110,7 +133,21 @@ fn nets_after_lines_are_told(rt: HostRuntime) -> Result<(), Fail> {
         ),
         (1, "", Status::No, "bad text at line 1\n"),
     ];
-    let of = (Subject::Term(Translation::Two), TERM);
+    let of = (Subject::Term(Translation::Two), TERM, false);
+    for row in rows {
+        assert_after(&rt, rt.alloc(), of, row)?;
+    }
+    Ok(())
+}
+
+#[test]
+fn weights_stand_beside_links(rt: HostRuntime) -> Result<(), Fail> {
+    let rows: [(u32, &str, Status, &str); 3] = [
+        (2, JOURNAL, Status::Yes, WEIGHED_ONE),
+        (3, JOURNAL, Status::Yes, WEIGHED_TWO),
+        (6, JOURNAL, Status::No, "the last line is line 5\n"),
+    ];
+    let of = (Subject::Term(Translation::Two), TERM, true);
     for row in rows {
         assert_after(&rt, rt.alloc(), of, row)?;
     }
@@ -126,7 +163,7 @@ fn nets_after_lines_are_told_of_a_net_file(rt: HostRuntime) -> Result<(), Fail> 
         (2, "ol trace 2\nerase 1 0 1\n", Status::Yes, one),
     ];
     for row in rows {
-        assert_after(&rt, rt.alloc(), (Subject::Net, NET), row)?;
+        assert_after(&rt, rt.alloc(), (Subject::Net, NET, false), row)?;
     }
     Ok(())
 }
@@ -135,7 +172,8 @@ fn nets_after_lines_are_told_of_a_net_file(rt: HostRuntime) -> Result<(), Fail> 
 fn a_file_is_refused_before_its_journal(rt: HostRuntime) -> Result<(), Fail> {
     let alloc = rt.alloc();
     let term = (1, "", Status::Refused, "syntax at byte 2\n");
-    assert_after(&rt, alloc, (Subject::Term(Translation::Two), "(x"), term)?;
+    let of = (Subject::Term(Translation::Two), "(x", true);
+    assert_after(&rt, alloc, of, term)?;
     let net = (1, "", Status::Refused, "bad net at line 1\n");
-    assert_after(&rt, alloc, (Subject::Net, "x"), net)
+    assert_after(&rt, alloc, (Subject::Net, "x", false), net)
 }

@@ -52,7 +52,11 @@ fn a_term_on_the_line_is_read(rt: HostRuntime) -> Result<(), Fail> {
     let asked = Asked::Two {
         file: written(alloc, "(\\x. x) (\\y. y)")?,
         other: named(alloc, "journal")?,
-        command: OnTwo::After { subject, lines: 2 },
+        command: OnTwo::After {
+            subject,
+            lines: 2,
+            weights: false,
+        },
     };
     assert_asked(&rt, alloc, &asked, (Status::Yes, shown, ""))
 }
