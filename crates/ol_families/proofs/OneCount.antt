@@ -11,7 +11,7 @@ use Rattle.ol_law_families.specs.HeadFamilies.{HasSoManyDifferent}
 use Rattle.ol_law_families.specs.Readings.{AreDifferent}
 use Rattle.ol_law_optimal.specs.Labels.{Label, Labelled, erased, contracted, degree, LeftmostContracts, ready, contract}
 use Rattle.ol_term.specs.Trees.{Tree}
-use Rattle.ol_families.specs.Counts.{IsSmall, IsLarge, AreSmall, Reduces, CountIsOne}
+use Rattle.ol_families.specs.Counts.{IsShortLabelled, IsLongLabelled, AreShortLabelled, ReducesLabelled, FamilyCountIsOne}
 use Rattle.ol_families.specs.Counts.{ended, short, past, long}
 use Rattle.ol_families.specs.Letters.{letters_of, most_letters}
 use Rattle.ol_families.proofs.Renaming.{renamed, relabelled, numbered, reduces_too, erased_too, letters_in_too}
@@ -40,7 +40,7 @@ record First {t v : Labelled} {ds : List Label} (r : LeftmostContracts t ds v) :
   becomes : contracted t at ≡ Some next
   is : ds ≡ word ∷ rest
   onward : LeftmostContracts next rest v
-  small : AreSmall r → AreSmall onward
+  small : AreShortLabelled r → AreShortLabelled onward
 
 first : (t v : Labelled) (ds : List Label) (r : LeftmostContracts t ds v) (at : List ℕ) →
     leftmost (erased t) ≡ Some at → leftmost (erased v) ≡ None → First r
@@ -64,7 +64,7 @@ record Through {t v : Labelled} {ds : List Label} (r : LeftmostContracts t ds v)
   more : List Label
   is : ds ≡ es ++ more
   onward : LeftmostContracts x more v
-  small : AreSmall r → AreSmall onward
+  small : AreShortLabelled r → AreShortLabelled onward
 
 through : (t x v : Labelled) (ds es : List Label) (s : LeftmostContracts t es x) (r : LeftmostContracts t ds v) →
     leftmost (erased v) ≡ None → Through r x es
@@ -74,7 +74,7 @@ through t x v ds es (contract {t = t'} {u = u} {v = x'} {w = d} {ws = fs} at l e
     let a : f.at ≡ at = same_some (sym f.here ∙ l) in
     let b : f.next ≡ u = same_some (sym f.becomes ∙ ap (contracted t') a ∙ c) in
     let w : f.word ≡ d = same_some (sym f.has ∙ ap (degree t') a ∙ e) in
-    let P : Labelled → Type 0 = λ z. (q : LeftmostContracts z f.rest v) × (AreSmall f.onward → AreSmall q) in
+    let P : Labelled → Type 0 = λ z. (q : LeftmostContracts z f.rest v) × (AreShortLabelled f.onward → AreShortLabelled q) in
     let m = subst P b (f.onward, λ z. z) in
     let g = through u x' v f.rest fs s m.0 n in
     record {
@@ -103,7 +103,7 @@ same_end t x v ds es s r m n =
     let h = through t x v ds es s r n in
     h.is ∙ ap (λ (more : List Label). es ++ more) (no_more x v h.more h.onward m) ∙ append_nil es
 
-first_small : (x v : Labelled) (ds : List Label) (r : LeftmostContracts x ds v) → AreSmall r → IsSmall x
+first_small : (x v : Labelled) (ds : List Label) (r : LeftmostContracts x ds v) → AreShortLabelled r → IsShortLabelled x
 first_small x v ds (ready {t = t}) s = s
 first_small x v ds (contract {t = t} at l e c r) s = s.0
 
@@ -111,7 +111,7 @@ letters_append : (ds es : List Label) → letters_of (ds ++ es) ≡ letters_of d
 letters_append [] es = omega arith
 letters_append (d ∷ ds) es = let e = letters_append ds es in omega arith
 
-not_both : (x : Labelled) → IsSmall x → IsLarge x → ⊥
+not_both : (x : Labelled) → IsShortLabelled x → IsLongLabelled x → ⊥
 not_both x s (inl p) = past_within (erased x) p s.0
 not_both x s (inr p) = let b = s.1 in absurd (omega (arith, p, b))
 
@@ -194,20 +194,20 @@ module _ (f g : Label → Label) where
 
 -- ---- the same reduction, with numbers in preorder for letters
 
-record Canonical {t : Tree} {most : ℕ} {ds : List Label} {v : Labelled} (r : Reduces t most ds v) : Type 0 where
+record Canonical {t : Tree} {most : ℕ} {ds : List Label} {v : Labelled} (r : ReducesLabelled t most ds v) : Type 0 where
   names : ℕ → ℕ
   reduction : LeftmostContracts (numbered 0 t) (map (λ w. renamed names w) ds) (relabelled names v)
-  small : AreSmall r.reduction → AreSmall reduction
+  small : AreShortLabelled r.reduction → AreShortLabelled reduction
   count : leftmost (erased v) ≡ None → (n : ℕ) → HasSoManyDifferent ds n →
       HasSoManyDifferent (map (λ w. renamed names w) ds) n
 
-canonical_by : (t : Tree) (most : ℕ) (ds : List Label) (v : Labelled) (r : Reduces t most ds v) →
+canonical_by : (t : Tree) (most : ℕ) (ds : List Label) (v : Labelled) (r : ReducesLabelled t most ds v) →
     AreOneUpToLetters r.start (erased r.start) → Canonical r
 canonical_by t most ds v r u =
     let too = reduces_too u.there r.start v ds r.reduction in
     let es = map (λ w. renamed u.there w) ds in
     let x = relabelled u.there v in
-    let P : Labelled → Type 0 = λ T. (q : LeftmostContracts T es x) × (AreSmall r.reduction → AreSmall q) in
+    let P : Labelled → Type 0 = λ T. (q : LeftmostContracts T es x) × (AreShortLabelled r.reduction → AreShortLabelled q) in
     let Q : Labelled → Type 0 = λ T. LeftmostContracts T es x in
     let m = subst P (u.was ∙ ap (numbered 0) r.is) (too.reduction, too.small) in
     let back = reduces_too u.back (numbered 0 (erased r.start)) x es (subst Q u.was too.reduction) in
@@ -223,7 +223,7 @@ canonical_by t most ds v r u =
           (ap leftmost (erased_too u.back x ∙ erased_too u.there v) ∙ n) n) h;
     }
 
-canonical : (t : Tree) (most : ℕ) (ds : List Label) (v : Labelled) (r : Reduces t most ds v) → Canonical r
+canonical : (t : Tree) (most : ℕ) (ds : List Label) (v : Labelled) (r : ReducesLabelled t most ds v) → Canonical r
 canonical t most ds v r = canonical_by t most ds v r (up_to_letters r.start r.own)
 
 module _ (t : Tree) (most : ℕ) where
@@ -231,7 +231,7 @@ module _ (t : Tree) (most : ℕ) where
       leftmost (erased (relabelled ρ v)) ≡ o
   normal_too ρ v o e = ap leftmost (erased_too ρ v) ∙ e
 
-  ended_ended : (ds es : List Label) (v x : Labelled) (n m : ℕ) (r : Reduces t most ds v) (s : Reduces t most es x) →
+  ended_ended : (ds es : List Label) (v x : Labelled) (n m : ℕ) (r : ReducesLabelled t most ds v) (s : ReducesLabelled t most es x) →
       leftmost (erased v) ≡ None → leftmost (erased x) ≡ None → HasSoManyDifferent ds n → HasSoManyDifferent es m → n ≡ m
   ended_ended ds es v x n m r s a b h k =
       let c = canonical t most ds v r in
@@ -242,7 +242,7 @@ module _ (t : Tree) (most : ℕ) where
       let P : List Label → Type 0 = λ ds. HasSoManyDifferent ds n in
       one_number (map (λ w. renamed d.names w) es) n m (subst P e (c.count a n h)) (d.count b m k)
 
-  module _ (ds es : List Label) (v x : Labelled) (r : Reduces t most ds v) (s : Reduces t most es x)
+  module _ (ds es : List Label) (v x : Labelled) (r : ReducesLabelled t most ds v) (s : ReducesLabelled t most es x)
       (a : leftmost (erased v) ≡ None) where
     way : Through (canonical t most ds v r).reduction (relabelled (canonical t most es x s).names x)
         (map (λ w. renamed (canonical t most es x s).names w) es)
@@ -265,7 +265,7 @@ module _ (t : Tree) (most : ℕ) where
         let y = r.made in
         absurd (omega (arith, i, j, k, p, q, y, l))
 
-    not_past : AreSmall r.reduction → IsLarge x → ⊥
+    not_past : AreShortLabelled r.reduction → IsLongLabelled x → ⊥
     not_past h p =
         let c = canonical t most ds v r in
         let d = canonical t most es x s in
@@ -273,7 +273,7 @@ module _ (t : Tree) (most : ℕ) where
         not_both (relabelled d.names x) (first_small (relabelled d.names x) (relabelled c.names v) g.more g.onward
         (g.small (c.small h))) (large_too d.names p)
       where
-        large_too : (ρ : ℕ → ℕ) → IsLarge x → IsLarge (relabelled ρ x)
+        large_too : (ρ : ℕ → ℕ) → IsLongLabelled x → IsLongLabelled (relabelled ρ x)
         large_too ρ (inl p) = inl (subst IsPast (sym (erased_too ρ x)) p)
         large_too ρ (inr p) = let e = letters_in_too ρ x in inr (omega (arith, e, p))
 
@@ -288,7 +288,7 @@ module _ (t : Tree) (most : ℕ) where
         let f = letters_of_too d.names es in
         absurd (omega (arith, j, k, e, f, h, p))
 
-pub count_is_one : CountIsOne
+pub count_is_one : FamilyCountIsOne
 count_is_one t most (Some n) (Some m) (ended {ds = ds} {v = v} r a z w h) (ended {ds = es} {v = x} s b y u k) =
     ap (λ (n : ℕ). Some n) (ended_ended t most ds es v x n m r s a b h k)
 count_is_one t most (Some n) None (ended {ds = ds} {v = v} r a z w h) (short {ds = es} {v = x} s l i) =

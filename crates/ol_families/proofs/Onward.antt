@@ -15,7 +15,7 @@ use Rattle.ol_law_optimal.specs.Labels.{Label, none, Labelled, erased, LeftmostC
 use Rattle.ol_law_optimal.specs.Labels as labels
 use Rattle.ol_term.specs.Trees.{Tree}
 use Rattle.ol_families.specs.declared.degrees.Letter.{Letter}
-use Rattle.ol_families.specs.Counts.{IsSmall, AreSmall, Reduces, IsFamilyCount, ended, short, past, long}
+use Rattle.ol_families.specs.Counts.{IsShortLabelled, AreShortLabelled, ReducesLabelled, IsFamilyCount, ended, short, past, long}
 use Rattle.ol_families.specs.Letters.{letters, letters_of, most_letters}
 use Rattle.ol_families.specs.Held.{Held, bare, lettered, contracted, degree, held_letters}
 use Rattle.ol_families.specs.Steps.{AreLetters}
@@ -34,7 +34,7 @@ letters_more (e ∷ ds) d = let h = letters_more ds d in omega arith
 -- a reduction with one step more
 record More (T : Labelled) (ds : List Label) (d : Label) (v u : Labelled) (r : LeftmostContracts T ds v) : Type 0 where
   reduction : LeftmostContracts T (ds ++ d ∷ []) u
-  small : AreSmall r → IsSmall u → AreSmall reduction
+  small : AreShortLabelled r → IsShortLabelled u → AreShortLabelled reduction
 
 one_more : (T v u : Labelled) (ds : List Label) (d : Label) (r : LeftmostContracts T ds v) (at : List ℕ) →
     leftmost (erased v) ≡ Some at → labels.degree v at ≡ Some d → labels.contracted v at ≡ Some u → More T ds d v u r
@@ -57,7 +57,7 @@ pub record Follows (t : Tree) (made : ℕ) (here : Tree) (h : Held) (ls : List L
   pub is : erased start ≡ t
   pub own : HaveOwnLetters start
   pub reduction : LeftmostContracts start degrees (labelled ls h)
-  pub small : AreSmall reduction
+  pub small : AreShortLabelled reduction
   pub bare_is : bare h ≡ here
   pub known : IsKnown (length ls) h
   pub made_is : length degrees ≡ made
@@ -68,7 +68,7 @@ pub record Follows (t : Tree) (made : ℕ) (here : Tree) (h : Held) (ls : List L
   pub same : (d : Label) → IsIn d ls ↔ IsIn d degrees
 
 small_of : (ls : List Label) (h : Held) (t : Tree) → bare h ≡ t → IsWithin t → held_letters h ≤ most_letters →
-    IsSmall (labelled ls h)
+    IsShortLabelled (labelled ls h)
 small_of ls h t e w f = (
   subst IsWithin (sym (bare_is ls h ∙ e)) w,
   (let l = letters_are ls h in omega arith),
@@ -169,7 +169,7 @@ module _ (t : Tree) (made : ℕ) (here : Tree) (h : Held) (ls : List Label) (wri
   leftmost_here : (o : Option (List ℕ)) → leftmost here ≡ o → leftmost (erased (labelled ls h)) ≡ o
   leftmost_here o e = ap leftmost erased_here ∙ e
 
-  abbrev so_far : (most : ℕ) → made ≤ most → Reduces t most f.degrees (labelled ls h)
+  abbrev so_far : (most : ℕ) → made ≤ most → ReducesLabelled t most f.degrees (labelled ls h)
   so_far most l = record {
     start = f.start;
     is = f.is;
@@ -202,7 +202,7 @@ module _ (t : Tree) (made : ℕ) (here : Tree) (h : Held) (ls : List Label) (wri
           degree_there d
 
       one_further : (most : ℕ) → made < most → (v : Labelled) → labels.contracted (labelled ls h) at ≡ Some v →
-          Reduces t most (f.degrees ++ label_of ls r ∷ []) v
+          ReducesLabelled t most (f.degrees ++ label_of ls r ∷ []) v
       one_further most b v d = record {
         start = f.start;
         is = f.is;

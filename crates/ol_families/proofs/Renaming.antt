@@ -16,7 +16,7 @@ use Rattle.ol_law_optimal.specs.Labels.{before, shifted, substituted, applied, c
 use Rattle.ol_law_optimal.specs.Labels.{degree_of_abstraction, LeftmostContracts, ready, contract}
 use Rattle.ol_term.specs.Trees.{Tree, term_size}
 use Rattle.ol_term.specs.Trees as trees
-use Rattle.ol_families.specs.Counts.{IsSmall, AreSmall}
+use Rattle.ol_families.specs.Counts.{IsShortLabelled, AreShortLabelled}
 use Rattle.ol_families.specs.Letters.{letters, letters_in, letters_of}
 
 abbrev pub renamed : (ℕ → ℕ) → Label → Label
@@ -165,13 +165,13 @@ module _ (ρ : ℕ → ℕ) where
   letters_of_too [] = refl
   letters_of_too (d ∷ ds) = let e = letters_too d in let c = letters_of_too ds in omega arith
 
-  small_too : (t : Labelled) → IsSmall t → IsSmall (relabelled ρ t)
+  small_too : (t : Labelled) → IsShortLabelled t → IsShortLabelled (relabelled ρ t)
   small_too t s = (subst IsWithin (sym (erased_too t)) s.0, (let e = letters_in_too t in let b = s.1 in omega arith))
 
   -- the reduction with the other letters
   pub record Too (t v : Labelled) (ds : List Label) (r : LeftmostContracts t ds v) : Type 0 where
     pub reduction : LeftmostContracts (relabelled ρ t) (map (λ w. renamed ρ w) ds) (relabelled ρ v)
-    pub small : AreSmall r → AreSmall reduction
+    pub small : AreShortLabelled r → AreShortLabelled reduction
 
   pub reduces_too : (t v : Labelled) (ds : List Label) (r : LeftmostContracts t ds v) → Too t v ds r
   reduces_too t v ds (ready {t = u}) = record { reduction = ready; small = λ s. small_too u s }

@@ -10,21 +10,21 @@ use Rattle.ol_law_families.specs.HeadFamilies.{HasSoManyDifferent}
 use Rattle.ol_families.specs.Letters.{letters_in, letters_of, most_letters}
 
 -- a labelled term within bounds, of size and depth, and of the letters of its labels
-abbrev pub IsSmall : Labelled → Type 0
-IsSmall t = IsWithin (erased t) × (letters_in t ≤ most_letters)
+abbrev pub IsShortLabelled : Labelled → Type 0
+IsShortLabelled t = IsWithin (erased t) × (letters_in t ≤ most_letters)
 
 -- a labelled term out of these bounds
-abbrev pub IsLarge : Labelled → Type 0
-IsLarge t = IsPast (erased t) ⊎ (most_letters < letters_in t)
+abbrev pub IsLongLabelled : Labelled → Type 0
+IsLongLabelled t = IsPast (erased t) ⊎ (most_letters < letters_in t)
 
 -- each term of a reduction is within bounds, the first and the last one too
-abbrev pub AreSmall : {t v : Labelled} {ds : List Label} → LeftmostContracts t ds v → Type 0
-AreSmall (ready {t = t}) = IsSmall t
-AreSmall (contract {t = t} at l d c r) = IsSmall t × AreSmall r
+abbrev pub AreShortLabelled : {t v : Labelled} {ds : List Label} → LeftmostContracts t ds v → Type 0
+AreShortLabelled (ready {t = t}) = IsShortLabelled t
+AreShortLabelled (contract {t = t} at l d c r) = IsShortLabelled t × AreShortLabelled r
 
 -- leftmost reduction of a term each of whose subterms has a letter of its own, by at most so many
 -- steps, to a labelled term; and the degrees of the redexes that it contracts
-pub record Reduces (t : Tree) (most : ℕ) (ds : List Label) (v : Labelled) : Type 0 where
+pub record ReducesLabelled (t : Tree) (most : ℕ) (ds : List Label) (v : Labelled) : Type 0 where
   pub start : Labelled
   pub is : erased start ≡ t
   pub own : HaveOwnLetters start
@@ -36,17 +36,17 @@ pub record Reduces (t : Tree) (most : ℕ) (ds : List Label) (v : Labelled) : Ty
 -- a redex is left; or a term on the way is out of bounds; or the degrees on the way have too many
 -- letters altogether.
 pub data IsFamilyCount (t : Tree) (most : ℕ) : Option ℕ → Type 0 where
-  ended : {ds : List Label} {v : Labelled} {n : ℕ} (r : Reduces t most ds v) →
-      leftmost (erased v) ≡ None → AreSmall r.reduction → letters_of ds ≤ most_letters →
+  ended : {ds : List Label} {v : Labelled} {n : ℕ} (r : ReducesLabelled t most ds v) →
+      leftmost (erased v) ≡ None → AreShortLabelled r.reduction → letters_of ds ≤ most_letters →
       HasSoManyDifferent ds n → IsFamilyCount t most (Some n)
-  short : {ds : List Label} {v : Labelled} → Reduces t most ds v → length ds ≡ most →
+  short : {ds : List Label} {v : Labelled} → ReducesLabelled t most ds v → length ds ≡ most →
       IsSome (leftmost (erased v)) → IsFamilyCount t most None
-  past : {ds : List Label} {v : Labelled} → Reduces t most ds v → IsLarge v →
+  past : {ds : List Label} {v : Labelled} → ReducesLabelled t most ds v → IsLongLabelled v →
       IsFamilyCount t most None
-  long : {ds : List Label} {v : Labelled} → Reduces t most ds v → most_letters < letters_of ds →
+  long : {ds : List Label} {v : Labelled} → ReducesLabelled t most ds v → most_letters < letters_of ds →
       IsFamilyCount t most None
 
 -- A term has one count, whichever letters its subterms have.
-abbrev pub CountIsOne : Type 0
-CountIsOne = (t : Tree) (most : ℕ) (a b : Option ℕ) → IsFamilyCount t most a →
+abbrev pub FamilyCountIsOne : Type 0
+FamilyCountIsOne = (t : Tree) (most : ℕ) (a b : Option ℕ) → IsFamilyCount t most a →
     IsFamilyCount t most b → a ≡ b

@@ -7,7 +7,7 @@ use Rattle.ol_parse.specs.Texts.{Class, blank, hash, letter, sign, lead, class_o
 use Rattle.ol_parse.specs.Texts.{gap_none, gap_blank, gap_comment, IsLastGap, last_gap, last_comment, AreInWord, IsToken}
 use Rattle.ol_parse.specs.Texts.{token_sign, token_letter, token_word, Spells, spells_none, spells_one}
 use Rattle.ol_tokens.proofs.Lengths.{token_some}
-use Rattle.ol_places.specs.Lets.{start_of}
+use Rattle.ol_places.specs.Lets.{let_start}
 
 -- ---- lists
 
@@ -161,12 +161,12 @@ pub record Cut {after : Bool} {tokens : List Token} {bytes : List ℕ} (s : Spel
   pub second : List Token
   pub is : tokens ≡ first ++ second
   pub spelled : Spells after first front
-  pub starts : (j : ℕ) → j < length first → start_of j s ≡ start_of j spelled
-  pub behind : (j : ℕ) → j < length second → length front ≤ start_of (length first + j) s
+  pub starts : (j : ℕ) → j < length first → let_start j s ≡ let_start j spelled
+  pub behind : (j : ℕ) → j < length second → length front ≤ let_start (length first + j) s
 
 low : {after : Bool} {k : Token} {ks : List Token} {g a bs : List ℕ} (i : IsGap g)
     (apart : after ≡ true → is_word k ≡ true → g ≢ []) (t : IsToken k a) (s : Spells (is_word k) ks bs) (j : ℕ) →
-    length g ≤ start_of j (spells_one i apart t s)
+    length g ≤ let_start j (spells_one i apart t s)
 low i apart t s zero = omega arith
 low i apart t s (suc j) = omega arith
 
@@ -198,19 +198,19 @@ cut_behind {k = k} {ks = ks} {g = g} {a = a} i apart t s front c = record {
 }
   where
     starts : (j : ℕ) → j < length (k ∷ c.first) →
-        start_of j (spells_one i apart t s) ≡ start_of j (spells_one i apart t c.spelled)
+        let_start j (spells_one i apart t s) ≡ let_start j (spells_one i apart t c.spelled)
     starts zero h = refl
     starts (suc j) h = ap (λ n. length g + length a + n) (c.starts j (omega arith))
 
     behind : (j : ℕ) → j < length c.second →
-        length (g ++ (a ++ front)) ≤ start_of (length (k ∷ c.first) + j) (spells_one i apart t s)
+        length (g ++ (a ++ front)) ≤ let_start (length (k ∷ c.first) + j) (spells_one i apart t s)
     behind j h =
         let e : suc (length c.first + j) ≡ length (k ∷ c.first) + j = omega arith in
         let l = c.behind j h in
         let m = length-append g (a ++ front) in
         let n = length-append a front in
-        let r : length (g ++ (a ++ front)) ≤ length g + length a + start_of (length c.first + j) s = omega arith in
-        subst (λ n. length (g ++ (a ++ front)) ≤ start_of n (spells_one i apart t s)) e r
+        let r : length (g ++ (a ++ front)) ≤ length g + length a + let_start (length c.first + j) s = omega arith in
+        subst (λ n. length (g ++ (a ++ front)) ≤ let_start n (spells_one i apart t s)) e r
 
 pub cut : {after : Bool} {tokens : List Token} {bytes : List ℕ} (s : Spells after tokens bytes) (front rest : List ℕ) →
     bytes ≡ front ++ (10 ∷ rest) → Cut s front

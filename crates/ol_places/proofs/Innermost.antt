@@ -8,7 +8,7 @@ use Rattle.ol_parse.specs.Texts.{Spells, spells_none, spells_one, IsText, Begins
 use Rattle.ol_tokens.specs.declared.tokens.FirstToken.{FirstToken}
 use Rattle.ol_tokens.specs.Tokens.{kind_token, IsFirstToken}
 use Rattle.ol_tokens.proofs.Lengths.{token_some}
-use Rattle.ol_places.specs.Lets.{start_of, IsOpenLet, IsInnermost}
+use Rattle.ol_places.specs.Lets.{let_start, IsOpenLet, IsInnermostLet}
 use Rattle.ol_places.specs.Scanned.{lets_after, lets_from, IsLast, nothing, top, IsLastLet}
 use Rattle.ol_places.proofs.Cuts.{Seam, inside, beyond, no_false, seam, head_of, tail_of, none_ends, Cut, cut}
 use Rattle.ol_places.proofs.Nesting.{Each, Rising, scan, Waits, Opened, IsBalanced, term_balanced, defined_balanced}
@@ -92,7 +92,7 @@ left_end front lets rest last each none l tokens s =
 -- ---- where tokens begin
 
 start_rises : {after : Bool} {tokens : List Token} {bytes : List ℕ} (s : Spells after tokens bytes) (j k : ℕ) → j ≤ k →
-    k < length tokens → start_of j s ≤ start_of k s
+    k < length tokens → let_start j s ≤ let_start k s
 start_rises (spells_none g) j k h l = omega arith
 start_rises (spells_one i apart t s) zero zero h l = omega arith
 start_rises (spells_one i apart t s) zero (suc k) h l = omega arith
@@ -100,7 +100,7 @@ start_rises (spells_one i apart t s) (suc j) zero h l = absurd (omega arith)
 start_rises (spells_one i apart t s) (suc j) (suc k) h l = let r = start_rises s j k (omega arith) (omega arith) in omega arith
 
 starts_within : {after : Bool} {tokens : List Token} {bytes : List ℕ} (s : Spells after tokens bytes) (j : ℕ) →
-    j < length tokens → start_of j s < length bytes
+    j < length tokens → let_start j s < length bytes
 starts_within (spells_none g) j l = absurd (omega arith)
 starts_within (spells_one {g = g} {a = a} {bs = bs} i apart t s) zero l =
     let m = length-append g (a ++ bs) in
@@ -115,7 +115,7 @@ starts_within (spells_one {g = g} {a = a} {bs = bs} i apart t s) (suc j) l =
 
 -- where the token begins behind which r others follow
 abbrev at_of : {after : Bool} {tokens : List Token} {bytes : List ℕ} → Spells after tokens bytes → ℕ → ℕ
-at_of {tokens = tokens} s r = start_of (length tokens - (r + 1)) s
+at_of {tokens = tokens} s r = let_start (length tokens - (r + 1)) s
 
 falls_of : {after : Bool} {tokens : List Token} {bytes : List ℕ} (s : Spells after tokens bytes) (r q : ℕ) → r ≤ q →
     at_of s q ≤ at_of s r
@@ -125,21 +125,21 @@ falls_of (spells_one {k = k} {ks = ks} i apart t s) r q h =
 
 scanned : (at : ℕ → ℕ) (falls : (r q : ℕ) → r ≤ q → at q ≤ at r) {after : Bool} {tokens : List Token} {bytes : List ℕ}
     (s : Spells after tokens bytes) (lets : List ℕ) (p : ℕ) →
-    ((j r : ℕ) → j + r + 1 ≡ length tokens → at r ≡ p + start_of j s) → lets_from lets p s ≡ scan at falls lets tokens
+    ((j r : ℕ) → j + r + 1 ≡ length tokens → at r ≡ p + let_start j s) → lets_from lets p s ≡ scan at falls lets tokens
 scanned at falls (spells_none g) lets p h = refl
 scanned at falls (spells_one {k = k} {ks = ks} {g = g} {a = a} i apart t s) lets p h =
     let e : at (length ks) ≡ p + length g = h 0 (length ks) (omega arith) in
     ap (λ n. lets_from (lets_after lets n k) (p + length g + length a) s) (sym e)
     ∙ scanned at falls s (lets_after lets (at (length ks)) k) (p + length g + length a) later
   where
-    later : (j r : ℕ) → j + r + 1 ≡ length ks → at r ≡ p + length g + length a + start_of j s
+    later : (j r : ℕ) → j + r + 1 ≡ length ks → at r ≡ p + length g + length a + let_start j s
     later j r q = let f = h (suc j) r (omega arith) in omega arith
 
 all_scanned : {after : Bool} {tokens : List Token} {bytes : List ℕ} (s : Spells after tokens bytes) →
     lets_from [] 0 s ≡ scan (at_of s) (falls_of s) [] tokens
 all_scanned {tokens = tokens} s = scanned (at_of s) (falls_of s) s [] 0
     (λ j r q. let e : length tokens - (r + 1) ≡ j = omega arith in
-    let f : at_of s r ≡ start_of j s = ap (λ j. start_of j s) e in omega arith)
+    let f : at_of s r ≡ let_start j s = ap (λ j. let_start j s) e in omega arith)
 
 -- ---- what waits is what has no `in` yet
 
@@ -156,8 +156,8 @@ open_let front rest whole text c n w =
     let m = length-append w.within w.more in
     let inner : length w.before < length c.first = omega arith in
     let place : length c.first - (length w.within + 1) ≡ length w.before = omega arith in
-    let starts : start_of (length w.before) text.spelled ≡ n =
-    c.starts (length w.before) inner ∙ ap (λ j. start_of j c.spelled) (sym place) ∙ w.starts in
+    let starts : let_start (length w.before) text.spelled ≡ n =
+    c.starts (length w.before) inner ∙ ap (λ j. let_start j c.spelled) (sym place) ∙ w.starts in
     let low = starts_within c.spelled (length w.before) inner in
     let same = c.starts (length w.before) inner in
     let at_in : length c.first + length w.more ≡ length w.before + 3 + length w.definition = omega arith in
@@ -177,7 +177,7 @@ open_let front rest whole text c n w =
       term = w.term;
       let_at = starts;
       is_before = omega arith;
-      in_behind = subst (λ j. length front ≤ start_of j text.spelled) at_in (c.behind (length w.more) (omega arith));
+      in_behind = subst (λ j. length front ≤ let_start j text.spelled) at_in (c.behind (length w.more) (omega arith));
     }
 
 pub record Has (n : ℕ) (xs : List ℕ) : Type 0 where
@@ -205,7 +205,7 @@ module _ (front : List ℕ) (n : ℕ) (o : IsOpenLet front n) (c : Cut o.text.sp
       let long = ap length f in
       let k = length-append o.before (let_key ∷ u) in
       let place : length o.before ≡ length c.first - (length u + 1) = omega arith in
-      let is : at ≡ n = ap (λ j. start_of j c.spelled) (sym place) ∙ sym (c.starts (length o.before) (omega arith))
+      let is : at ≡ n = ap (λ j. let_start j c.spelled) (sym place) ∙ sym (c.starts (length o.before) (omega arith))
       ∙ o.let_at in
       record {
         before = l;
@@ -217,7 +217,7 @@ module _ (front : List ℕ) (n : ℕ) (o : IsOpenLet front n) (c : Cut o.text.sp
   behind_it : (j : ℕ) → j < length c.second → length o.before ≡ length c.first + j → ⊥
   behind_it j h e =
       let b = c.behind j h in
-      let s = ap (λ j. start_of j o.text.spelled) e in
+      let s = ap (λ j. let_start j o.text.spelled) e in
       let a = o.let_at in
       let l = o.is_before in
       omega arith
@@ -284,7 +284,7 @@ none_has : (n : ℕ) (xs : List ℕ) → Has n xs → xs ≡ [] → ⊥
 none_has n xs h e = none_ends h.before n h.after (sym e ∙ h.is)
 
 pub innermost_of : (front : List ℕ) (last : Option ℕ) → BeginsText (front ++ codes "\n") → IsLastLet front last →
-    IsInnermost front last
+    IsInnermostLet front last
 innermost_of front None b l = λ at o. let c = cut_of front o.rest o.whole o.text in
     go (l c.first c.spelled) (waits front at o c)
   where
@@ -314,12 +314,12 @@ innermost_of front (Some n) b l =
 
 -- without such a text no `let` is open
 pub never_open : (front : List ℕ) (b : Bool) → IsTrue b ↔ BeginsText (front ++ codes "\n") → b ≡ false →
-    IsInnermost front None
+    IsInnermostLet front None
 never_open front b h e = λ at o. no_truth (sym (h.1 (record { rest = o.rest; whole = o.whole; text = o.text })) ∙ e)
   where
     no_truth : true ≡ false → ⊥
     no_truth e = cc
 
-pub before_all : (front : List ℕ) (last : Option ℕ) → IsInnermost front last → IfSome last (λ at. at < length front)
+pub before_all : (front : List ℕ) (last : Option ℕ) → IsInnermostLet front last → IfSome last (λ at. at < length front)
 before_all front None h = tt
 before_all front (Some at) h = h.0.is_before

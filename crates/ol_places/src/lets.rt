@@ -3,7 +3,7 @@
 ghost use Rattle.std.specs.Prelude.{◌≡◌, ℕ, ◌<◌, ◌≤◌, List, length, IfOk, IfSome, OnOk};
 ghost use Rattle.ol_limits.specs.Limits.{most_term_bytes};
 ghost use Rattle.ol_tokens.specs.Tokens.{kind_token};
-ghost use Rattle.ol_places.specs.Lets.{IsInnermost, IsLetLine};
+ghost use Rattle.ol_places.specs.Lets.{IsInnermostLet, IsLetLine};
 ghost use Rattle.ol_places.specs.Scanned.{lets_after, IsLastLet, IsOpenLine};
 
 use crate::placing::{line_of, put_line_and_column};
@@ -50,7 +50,7 @@ fn last_let(alloc: Global, front: &[u8]) -> Result<Option<usize>, NoMemory>
 // The innermost `let` that has no `in` yet behind these bytes.
 fn innermost(alloc: Global, front: &[u8]) -> Result<Option<usize>, NoMemory>
     requires short { length front.now ≤ most_term_bytes }
-    ensures innermost { IfOk result (IsInnermost front.now) }
+    ensures innermost { IfOk result (IsInnermostLet front.now) }
     ensures within { IfOk result (λ last. IfSome last (λ at. at < length front.now)) }
 {
     if !goes_on(alloc, front, b"\n")? {
