@@ -5,7 +5,7 @@ ghost use Rattle.ol_bench.specs.Commands.{IsWithinBounds};
 use crate::fakes::{file, named};
 use ol_bench::{Asked, Status, bench};
 use ol_grades::{Bounds, Student, Work, grade};
-use ol_io::{MemSink, MemSource};
+use ol_io::{MemFile, MemSink, MemSource};
 use ol_limits::{Fuel, Heads};
 use ol_subjects::End;
 use ol_term::Translation;
@@ -173,6 +173,22 @@ fn asked(alloc: Global, solution: &str) -> Result<Asked, AllocError>
     })
 }
 
+fn files(alloc: Global) -> Result<Vec<MemFile>, Fail> {
+    let long = " ".repeat(alloc, 1_048_577)?;
+    let mut files = Vec::new(alloc);
+    files.push(file(alloc, "inputs", "x")?)?;
+    files.push(file(alloc, "anna", "\\v. v")?)?;
+    files.push(file(alloc, "long", &long)?)?;
+    Ok(files)
+}
+
+fn sink(alloc: Global) -> Result<MemSink, Fail> {
+    let sink = MemSink::new(alloc, 1_048_576, 100, Vec::new(alloc))
+        .ok()
+        .ok_or("no memory")?;
+    Ok(sink)
+}
+
 // Asserts the status where the file of this name has the solution, and what each sink has taken.
 fn assert_grade(
     rt: &impl Abort,
@@ -180,19 +196,10 @@ fn assert_grade(
     row: (&str, Status, &str, &str),
 ) -> Result<(), Fail> {
     let (solution, status, wanted, told) = row;
+    let mut src = MemSource::new(files(alloc)?, 65_536, Vec::new(alloc));
+    let mut out = sink(alloc)?;
+    let mut errors = sink(alloc)?;
     let asked = asked(alloc, solution)?;
-    let long = " ".repeat(alloc, 1_048_577)?;
-    let mut files = Vec::new(alloc);
-    files.push(file(alloc, "inputs", "x")?)?;
-    files.push(file(alloc, "anna", "\\v. v")?)?;
-    files.push(file(alloc, "long", &long)?)?;
-    let mut src = MemSource::new(files, 65_536, Vec::new(alloc));
-    let mut out = MemSink::new(alloc, 1_048_576, 100, Vec::new(alloc))
-        .ok()
-        .ok_or("no memory")?;
-    let mut errors = MemSink::new(alloc, 1_048_576, 100, Vec::new(alloc))
-        .ok()
-        .ok_or("no memory")?;
     let ended = bench(alloc, &asked, &mut src, &mut out, &mut errors);
     assert_eq!(rt; ended, status, "{solution}");
     assert!(rt; out.bytes() == wanted.as_bytes(), "{solution}");
