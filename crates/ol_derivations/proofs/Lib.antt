@@ -4,3 +4,5 @@ pub mod Told
 pub mod Right
 pub mod Unique
 pub mod NormalForms
+pub mod Redexes
+pub mod Seeking

@@ -9,7 +9,7 @@ use Rattle.ol_derivations.specs.Lines.{lines_of, all_left_out}
 use Rattle.ol_derivations.specs.Tables.{with_names, in_table}
 use Rattle.ol_derivations.specs.Verdicts.{IsVerdict, is_fine}
 use Rattle.ol_derivations.specs.declared.judging.Verdict.{Verdict}
-use Rattle.ol_derivations.specs.declared.judging.Verdict.TheVariants.{Step, Same, Apart, NoStep}
+use Rattle.ol_derivations.specs.declared.judging.Verdict.TheVariants.{Step, Same, Steps, Apart, NoStep}
 use Rattle.ol_derivations.specs.Derivations.{Terms, IsTold, first, behind, IsLine}
 use Rattle.ol_derivations.specs.Derivations.{left_out, no_term, term, AreLines, none, more, IsDerivation, nothing, said}
 use Rattle.ol_derivations.specs.Laws.{AreTerms, no_line, passed, one_more, IsRightBehind}
@@ -36,6 +36,7 @@ fine_step : (s t : Tree) (v : Verdict) → IsVerdict s t v → is_fine v ≡ tru
     ((at : List ℕ) × (contracted s at ≡ Some t)) ⊎ (s ≡ t)
 fine_step s t (Step at leftmost) is f = inl (at.items, is.0.0)
 fine_step s t Same is f = inr is.1
+fine_step s t (Steps k) is f = absurd (clash f)
 fine_step s t Apart is f = absurd (clash f)
 fine_step s t NoStep is f = absurd (clash f)
 

@@ -6,15 +6,17 @@ use Rattle.ol_term.specs.Trees.{Tree, term_size, depth}
 use Rattle.ol_parse.proofs.Exact.{one_file}
 use Rattle.ol_parse.proofs.Sizes.{one_dead_place}
 use Rattle.ol_beta.specs.AddressTexts.{address_text}
+use Rattle.ol_beta.specs.Beta.{contracted}
 use Rattle.ol_beta.specs.Leftmost.{IsBefore}
 use Rattle.ol_subjects.specs.declared.answers.End.{End}
 use Rattle.ol_subjects.specs.declared.answers.End.TheVariants.{Yes, No}
 use Rattle.ol_derivations.specs.Steps.{IsFirstStep}
 use Rattle.ol_derivations.specs.Lines.{lines_of}
+use Rattle.ol_derivations.specs.Reductions.{AreSteps}
 use Rattle.ol_derivations.specs.Tables.{with_names, in_table}
 use Rattle.ol_derivations.specs.Verdicts.{IsVerdict, is_fine, verdict_words}
 use Rattle.ol_derivations.specs.declared.judging.Verdict.{Verdict}
-use Rattle.ol_derivations.specs.declared.judging.Verdict.TheVariants.{Step, Same, Apart, NoStep}
+use Rattle.ol_derivations.specs.declared.judging.Verdict.TheVariants.{Step, Same, Steps, Apart, NoStep}
 use Rattle.ol_derivations.specs.Derivations.{Terms, with_term, IsTermLine, IsNoTermLine, long, syntax_at, deep, large, IsTold}
 use Rattle.ol_derivations.specs.Derivations.{line_text, first, behind, IsLine, left_out, no_term, term, AreLines, none, more}
 use Rattle.ol_derivations.specs.Derivations.{no_terms, IsDerivation, nothing, said}
@@ -50,6 +52,25 @@ abbrev step_words : List ℕ → Bool → List ℕ
 step_words at is_leftmost =
     codes "one beta step, at " ++ address_text at ++ (if is_leftmost then codes ", leftmost" else [])
 
+same_number : (t u : Tree) (k j : ℕ) → AreSteps t u k → AreSteps t u j → k ≡ j
+same_number t u k j f g =
+    let a = f.shortest j g.reduction in
+    let b = g.shortest k f.reduction in
+    omega (arith, a, b)
+
+-- several steps are told where neither one nor none leads to the term
+not_one : (t u : Tree) (at : List ℕ) (k : ℕ) → contracted t at ≡ Some u → AreSteps t u k → ⊥
+not_one t u at k e are =
+    let l = are.shortest 1 (at, u, e, refl) in
+    let several = are.several in
+    omega (arith, l, several)
+
+not_none : (t u : Tree) (k : ℕ) → t ≡ u → AreSteps t u k → ⊥
+not_none t u k e are =
+    let l = are.shortest 0 e in
+    let several = are.several in
+    omega (arith, l, several)
+
 pub one_verdict : (t u : Tree) (v w : Verdict) → IsVerdict t u v → IsVerdict t u w →
     ((m : ℕ) → verdict_words m v ≡ verdict_words m w) × (is_fine v ≡ is_fine w)
 one_verdict t u (Step a x) (Step b y) f g =
@@ -57,19 +78,28 @@ one_verdict t u (Step a x) (Step b y) f g =
     let same = same_flag x y (λ h. g.1.1 (f.1.0 h ∙ ap Some e)) (λ h. f.1.1 (g.1.0 h ∙ ap Some (sym e))) in
     (λ m. ap (λ at. step_words at x) e ∙ ap (step_words b.items) same, refl)
 one_verdict t u (Step a x) Same f g = absurd (g.0 a.items f.0.0)
+one_verdict t u (Step a x) (Steps j) f g = absurd (not_one t u a.items j f.0.0 g)
+one_verdict t u (Step a x) Apart f g = absurd (g.0 a.items f.0.0)
 one_verdict t u (Step a x) NoStep f g = absurd (g.0 a.items f.0.0)
 one_verdict t u Same (Step b y) f g = absurd (f.0 b.items g.0.0)
 one_verdict t u Same Same f g = (λ m. refl, refl)
-one_verdict t u Same NoStep f g = absurd (g.1 f.1)
-one_verdict t u (Step a x) Apart f g = absurd (g.0 a.items f.0.0)
+one_verdict t u Same (Steps j) f g = absurd (not_none t u j f.1 g)
 one_verdict t u Same Apart f g = absurd (g.1 f.1)
+one_verdict t u Same NoStep f g = absurd (g.1 f.1)
+one_verdict t u (Steps k) (Step b y) f g = absurd (not_one t u b.items k g.0.0 f)
+one_verdict t u (Steps k) Same f g = absurd (not_none t u k g.1 f)
+one_verdict t u (Steps k) (Steps j) f g = (λ m. ap (λ k. decimal k ++ codes " steps") (same_number t u k j f g), refl)
+one_verdict t u (Steps k) Apart f g = absurd (g.2 k f)
+one_verdict t u (Steps k) NoStep f g = absurd (g.2 k f)
 one_verdict t u Apart (Step b y) f g = absurd (f.0 b.items g.0.0)
 one_verdict t u Apart Same f g = absurd (f.1 g.1)
+one_verdict t u Apart (Steps j) f g = absurd (f.2 j g)
 one_verdict t u Apart Apart f g = (λ m. refl, refl)
-one_verdict t u Apart NoStep f g = absurd (g.2 f.2)
-one_verdict t u NoStep Apart f g = absurd (f.2 g.2)
+one_verdict t u Apart NoStep f g = absurd (g.3 f.3)
 one_verdict t u NoStep (Step b y) f g = absurd (f.0 b.items g.0.0)
 one_verdict t u NoStep Same f g = absurd (f.1 g.1)
+one_verdict t u NoStep (Steps j) f g = absurd (f.2 j g)
+one_verdict t u NoStep Apart f g = absurd (f.3 g.3)
 one_verdict t u NoStep NoStep f g = (λ m. refl, refl)
 
 -- ---- lines

@@ -1,14 +1,16 @@
 -- What holds of derivations.
-use Rattle.std.specs.Prelude.{◌≡◌, ℕ, true, false, List, [], ◌∷◌, ◌⊎◌, Some}
+use Rattle.std.specs.Prelude.{◌≡◌, ℕ, ◌≤◌, true, false, List, [], ◌∷◌, ◌⊎◌, Some}
 use Rattle.ol_term.specs.Trees.{Tree}
 use Rattle.ol_beta.specs.Beta.{contracted}
 use Rattle.ol_subjects.specs.declared.answers.End.{End}
 use Rattle.ol_subjects.specs.declared.answers.End.TheVariants.{Yes}
 use Rattle.ol_derivations.specs.Lines.{lines_of, is_left_out}
 use Rattle.ol_derivations.specs.Tables.{with_names, in_table}
+use Rattle.ol_derivations.specs.Reductions.{ReducesBy, IsSeen, most_steps}
 use Rattle.ol_derivations.specs.Verdicts.{IsVerdict, is_fine, verdict_words}
 use Rattle.ol_derivations.specs.Derivations.{IsTermLine, IsDerivation}
 use Rattle.ol_derivations.specs.declared.judging.Verdict.{Verdict}
+use Rattle.ol_derivations.specs.declared.judging.Verdict.TheVariants.{Apart, NoStep}
 
 -- the terms of some lines, of which each has one or is left out; each in the table of the names up to its line
 pub data AreTerms : List (List ℕ) → List (List ℕ) → List Tree → Type 0 where
@@ -35,6 +37,12 @@ YesIsRight = (bytes text : List ℕ) → IsDerivation bytes text Yes →
 abbrev pub OneVerdict : Type 0
 OneVerdict = (t u : Tree) (v w : Verdict) → IsVerdict t u v → IsVerdict t u w →
     ((m : ℕ) → verdict_words m v ≡ verdict_words m w) × (is_fine v ≡ is_fine w)
+
+-- If all reductions of fewer steps than the most are looked at, and neither a step nor steps are told,
+-- no reduction of at most so many steps leads to the term.
+abbrev pub NoneIsMissed : Type 0
+NoneIsMissed = (t u : Tree) → IsSeen most_steps t → IsVerdict t u NoStep ⊎ IsVerdict t u Apart →
+    (k : ℕ) → k ≤ most_steps → ReducesBy k t u → ⊥
 
 -- a file has one answer
 abbrev pub OneAnswer : Type 0

@@ -3,8 +3,10 @@ pub mod Lines
 pub mod Tables
 pub mod Steps
 pub mod NormalForms
+pub mod Reductions
 pub mod Verdicts
 pub mod Derivations
 pub mod Laws
 -- What only contracts of private functions and proofs cite.
 pub mod Inside
+pub mod Searches

@@ -1,12 +1,14 @@
 //! The verdict on a term of a derivation, by the one before it.
 
-ghost use Rattle.std.specs.Prelude.{◌≡◌, ◌↔◌, ◌≤◌, true, Some, IfOk};
+ghost use Rattle.std.specs.Prelude.{◌≡◌, ◌≢◌, ◌↔◌, ◌≤◌, true, Some, IfOk};
 ghost use Rattle.ol_term.specs.Trees.{tree_of, is_below};
 ghost use Rattle.ol_beta.specs.Beta.{IsWithin};
 ghost use Rattle.ol_beta.specs.Leftmost.{leftmost};
+ghost use Rattle.ol_derivations.specs.Steps.{IsNoStep};
 ghost use Rattle.ol_derivations.specs.Verdicts.{IsVerdict, is_fine};
 
 use crate::forms::differ;
+use crate::searching::steps_between;
 use crate::stepping::step_found;
 use ol_beta::{Address, redex};
 use ol_memory::NoMemory;
@@ -25,9 +27,13 @@ pub enum Verdict {
     Step { at: Vec<u8>, leftmost: bool },
     /// It is the same term, up to the names of binders.
     Same,
+    /// So many beta steps lead to it and no fewer, 2 to 5. This is told if the term before has at
+    /// most 1,000 reductions of fewer steps, the empty one not counted, and if each of these leads
+    /// to a term of at most 100,000 constructors, at most 1,000 of them one within another.
+    Steps(u32),
     /// Leftmost reduction of both ends in different normal forms, by at most 1,000 steps each.
     Apart,
-    /// No beta step leads to it.
+    /// No beta step leads to it, and none of these is told.
     NoStep,
 }
 
@@ -39,6 +45,7 @@ impl Verdict {
         match self {
             Verdict::Step { .. } => true,
             Verdict::Same => true,
+            Verdict::Steps(_) => false,
             Verdict::Apart => false,
             Verdict::NoStep => false,
         }
@@ -71,6 +78,24 @@ fn is_leftmost(alloc: Global, t: &Term, at: &[u8]) -> Result<bool, NoMemory>
     }
 }
 
+// The verdict on u, which is neither t nor one beta step of it.
+fn judge_further(alloc: Global, t: &Term, u: &Term) -> Result<Verdict, NoMemory>
+    requires first { IsWithin (tree_of t.now) × (is_below 0 (tree_of t.now) ≡ true) }
+    requires second { IsWithin (tree_of u.now) × (is_below 0 (tree_of u.now) ≡ true) }
+    requires no_step { IsNoStep (tree_of t.now) (tree_of u.now) }
+    requires different { tree_of t.now ≢ tree_of u.now }
+    ensures { IfOk result (IsVerdict (tree_of t.now) (tree_of u.now)) }
+{
+    if let Some(steps) = steps_between(alloc, t, u)? {
+        return Ok(Verdict::Steps(steps));
+    }
+    if differ(alloc, t, u, MOST_LEFTMOST)? {
+        Ok(Verdict::Apart)
+    } else {
+        Ok(Verdict::NoStep)
+    }
+}
+
 /// The verdict on u, by the term t before it.
 ///
 /// Of each, at most 1,000 constructors stand one within another, it has at most 100,000, and each
@@ -90,12 +115,10 @@ pub fn judge(alloc: Global, t: &Term, u: &Term) -> Result<Verdict, NoMemory>
         }
         None => {
             if alpha_eq(t, u) {
-                Ok(Verdict::Same)
-            } else if differ(alloc, t, u, MOST_LEFTMOST)? {
-                Ok(Verdict::Apart)
-            } else {
-                Ok(Verdict::NoStep)
+                return Ok(Verdict::Same);
             }
+            let verdict = judge_further(alloc, t, u)?;
+            Ok(verdict)
         }
     }
 }

@@ -1,6 +1,6 @@
 //! Laws of derivations: no code, only what follows from the definitions.
 
-ghost use Rattle.ol_derivations.specs.Laws.{OneAnswer, OneVerdict, YesIsRight};
+ghost use Rattle.ol_derivations.specs.Laws.{NoneIsMissed, OneAnswer, OneVerdict, YesIsRight};
 
 /// If the answer is `Yes`, the file has a first term, and each further one comes from the one
 /// before it by one beta step, or is it.
@@ -11,6 +11,13 @@ pub fn yes_is_right()
 /// A term has one verdict by the term before it.
 pub fn one_verdict()
     ensures { OneVerdict }
+{}
+
+/// A term that is told to be `no beta step` or `not convertible` doesn't come from the one before it
+/// by 5 beta steps or fewer, if that has at most 1,000 reductions of fewer than 5 steps, and each
+/// leads to a term within bounds.
+pub fn none_is_missed()
+    ensures { NoneIsMissed }
 {}
 
 /// A file has one answer.

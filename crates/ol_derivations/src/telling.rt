@@ -61,6 +61,12 @@ fn verdict_words(alloc: Global, m: usize, verdict: &Verdict) -> Result<Vec<u8>, 
             put(&mut text, b"the same term")?;
             Ok(text)
         }
+        Verdict::Steps(steps) => {
+            let mut text = Vec::new(alloc);
+            put_number(alloc, &mut text, *steps as u64)?;
+            put(&mut text, b" steps")?;
+            Ok(text)
+        }
         Verdict::Apart => {
             let mut text = Vec::new(alloc);
             put(&mut text, b"not convertible")?;
