@@ -10,8 +10,8 @@ use Rattle.ol_term.specs.Trees.{Tree}
 use Rattle.ol_beta.specs.Beta.{contracted, IsWithin, IsPastAfter}
 use Rattle.ol_beta.proofs.Onward.{past_within}
 use Rattle.ol_derivations.specs.Steps.{IsFirstStep, IsNoStep}
-use Rattle.ol_derivations.specs.Reductions.{ReducesBy, redexes, one_and, reductions, StaysWithin, IsSeen}
-use Rattle.ol_derivations.specs.Reductions.{most_steps, most_reductions, AreSteps, AreNoSteps}
+use Rattle.ol_derivations.specs.Reductions.{LeadsBy, redexes, one_and, reductions, StaysWithin, IsSeen}
+use Rattle.ol_derivations.specs.Reductions.{most_told_steps, most_reductions, AreSteps, AreNoSteps}
 use Rattle.ol_derivations.specs.Searches.{is_cut, first_found, IsSearched, IsSearchedTerm, IsSearchedBehind}
 use Rattle.ol_derivations.specs.declared.searching.Search.{Search}
 use Rattle.ol_derivations.specs.declared.searching.Search.TheVariants.{Found, Missed, Cut}
@@ -28,14 +28,14 @@ Stays t m at = (s : Tree) → contracted t at ≡ Some s → IsWithin s × Stays
 
 -- no reduction of m + 2 steps begins with this redex
 abbrev pub Misses : (t u : Tree) → ℕ → List ℕ → Type 0
-Misses t u m at = (s : Tree) → contracted t at ≡ Some s → ReducesBy (suc m) s u → ⊥
+Misses t u m at = (s : Tree) → contracted t at ≡ Some s → LeadsBy (suc m) s u → ⊥
 
 -- how many reductions of at most m + 1 steps begin with this redex
 abbrev pub through : Tree → ℕ → List ℕ → ℕ
 through t m at = one_and (reductions m) (contracted t at)
 
 abbrev pub Results : (t u : Tree) → ℕ → List (List ℕ) → Search → Type 0
-Results t u m ats Found = ReducesBy (suc (suc m)) t u
+Results t u m ats Found = LeadsBy (suc (suc m)) t u
 Results t u m ats Missed = Each (Misses t u m) ats
 Results t u m ats Cut = ⊥
 
@@ -58,9 +58,9 @@ same_term t s x at e f = let g = sym e ∙ f in cc
 stays_at : (t s : Tree) (m : ℕ) (at : List ℕ) → contracted t at ≡ Some s → IsWithin s → StaysWithin m s → Stays t m at
 stays_at t s m at e w k x f = subst (λ x. IsWithin x × StaysWithin m x) (same_term t s x at e f) (w, k)
 
-misses_at : (t u s : Tree) (m : ℕ) (at : List ℕ) → contracted t at ≡ Some s → (ReducesBy (suc m) s u → ⊥) →
+misses_at : (t u s : Tree) (m : ℕ) (at : List ℕ) → contracted t at ≡ Some s → (LeadsBy (suc m) s u → ⊥) →
     Misses t u m at
-misses_at t u s m at e n x f r = n (subst (λ x. ReducesBy (suc m) x u) (sym (same_term t s x at e f)) r)
+misses_at t u s m at e n x f r = n (subst (λ x. LeadsBy (suc m) x u) (sym (same_term t s x at e f)) r)
 
 count_at : (t s : Tree) (m : ℕ) (ats : List (List ℕ)) (at : List ℕ) (before left after : ℕ) → contracted t at ≡ Some s →
     left + sum_by (through t m) ats ≡ before → after + (1 + reductions m s) ≡ left →
@@ -83,7 +83,7 @@ tried_found t u m ats at before left after r tried b =
     }
 
 keeps : (t u s : Tree) (m : ℕ) (ats : List (List ℕ)) (at : List ℕ) (r : Search) → contracted t at ≡ Some s →
-    (ReducesBy (suc m) s u → ⊥) → Results t u m ats r → Results t u m (ats ++ at ∷ []) r
+    (LeadsBy (suc m) s u → ⊥) → Results t u m ats r → Results t u m (ats ++ at ∷ []) r
 keeps t u s m ats at Found e n h = h
 keeps t u s m ats at Missed e n h = each_append (Misses t u m) ats (at ∷ []) h (misses_at t u s m at e n, tt)
 keeps t u s m ats at Cut e n h = h
@@ -258,17 +258,17 @@ seen_less n (suc m) t l h =
 
 -- no reduction of at most n steps leads from t to u
 abbrev pub NoneUpTo : ℕ → (t u : Tree) → Type 0
-NoneUpTo n t u = (j : ℕ) → j ≤ n → ReducesBy j t u → ⊥
+NoneUpTo n t u = (j : ℕ) → j ≤ n → LeadsBy j t u → ⊥
 
 pub none_of_one : (t u : Tree) → IsNoStep t u → t ≢ u → NoneUpTo 1 t u
 none_of_one t u not_so different zero l r = different r
 none_of_one t u not_so different (suc zero) l r = not_so r.0 (r.2 ∙ ap (λ (s : Tree). Some s) r.3)
 none_of_one t u not_so different (suc (suc j)) l r = absurd (omega arith)
 
-one_more : (t u : Tree) (n j : ℕ) → NoneUpTo n t u → (ReducesBy (suc n) t u → ⊥) → j ≤ suc n → (j ≤ n) ⊎ (j ≡ suc n) →
-    ReducesBy j t u → ⊥
+one_more : (t u : Tree) (n j : ℕ) → NoneUpTo n t u → (LeadsBy (suc n) t u → ⊥) → j ≤ suc n → (j ≤ n) ⊎ (j ≡ suc n) →
+    LeadsBy j t u → ⊥
 one_more t u n j none not_so l (inl k) r = none j k r
-one_more t u n j none not_so l (inr e) r = not_so (subst (λ j. ReducesBy j t u) e r)
+one_more t u n j none not_so l (inr e) r = not_so (subst (λ j. LeadsBy j t u) e r)
 
 less_or : (j n : ℕ) → j ≤ suc n → (j ≤ n) ⊎ (j ≡ suc n)
 less_or zero n l = inl (omega arith)
@@ -279,11 +279,11 @@ less_or (suc j) (suc n) l = up (less_or j n (omega (arith, l)))
     up (inl k) = inl (omega (arith, k))
     up (inr e) = inr (ap suc e)
 
-pub none_on : (t u : Tree) (n : ℕ) → NoneUpTo n t u → (ReducesBy (suc n) t u → ⊥) → NoneUpTo (suc n) t u
+pub none_on : (t u : Tree) (n : ℕ) → NoneUpTo n t u → (LeadsBy (suc n) t u → ⊥) → NoneUpTo (suc n) t u
 none_on t u n none not_so j l r = one_more t u n j none not_so l (less_or j n l) r
 
 -- a number above n
-above : (t u : Tree) (n j : ℕ) → NoneUpTo n t u → (j ≤ n) ⊎ (suc n ≤ j) → ReducesBy j t u → suc n ≤ j
+above : (t u : Tree) (n j : ℕ) → NoneUpTo n t u → (j ≤ n) ⊎ (suc n ≤ j) → LeadsBy j t u → suc n ≤ j
 above t u n j none (inl l) r = absurd (none j l r)
 above t u n j none (inr l) r = l
 
@@ -296,7 +296,7 @@ up_to_or (suc j) (suc n) = up (up_to_or j n)
     up (inl k) = inl (omega (arith, k))
     up (inr k) = inr (omega (arith, k))
 
-are_steps : (t u : Tree) (n : ℕ) → 1 ≤ n → n < most_steps → NoneUpTo n t u → ReducesBy (suc n) t u → IsSeen (suc n) t →
+are_steps : (t u : Tree) (n : ℕ) → 1 ≤ n → n < most_told_steps → NoneUpTo n t u → LeadsBy (suc n) t u → IsSeen (suc n) t →
     AreSteps t u (suc n)
 are_steps t u n l m none r seen = record {
   several = omega (arith, l);
@@ -306,7 +306,7 @@ are_steps t u n l m none r seen = record {
   seen = seen;
 }
 
-pub steps_found : (t u : Tree) (n k after : ℕ) → k ≡ suc n → 1 ≤ n → n < most_steps → NoneUpTo n t u →
+pub steps_found : (t u : Tree) (n k after : ℕ) → k ≡ suc n → 1 ≤ n → n < most_told_steps → NoneUpTo n t u →
     IsSearched t u n most_reductions after Found → AreSteps t u k
 steps_found t u n k after e l m none h =
     let c = h.2 in
@@ -320,20 +320,20 @@ steps_cut t u n after none cut k are =
     let many = cut seen.1 in
     omega (arith, few, many)
 
-pub none_in_all : (t u : Tree) (n : ℕ) → most_steps ≤ n → NoneUpTo n t u → AreNoSteps t u
+pub none_in_all : (t u : Tree) (n : ℕ) → most_told_steps ≤ n → NoneUpTo n t u → AreNoSteps t u
 none_in_all t u n l none k are = let few = are.few in none k (omega (arith, l, few)) are.reduction
 
 -- ---- none is missed
 
-next : (t u : Tree) (n : ℕ) → 1 ≤ n → n < most_steps → IsSeen most_steps t → AreNoSteps t u → NoneUpTo n t u →
+next : (t u : Tree) (n : ℕ) → 1 ≤ n → n < most_told_steps → IsSeen most_told_steps t → AreNoSteps t u → NoneUpTo n t u →
     NoneUpTo (suc n) t u
 next t u n l m seen not_so none = none_on t u n none
-    (λ r. not_so (suc n) (are_steps t u n l m none r (seen_less n most_steps t m seen)))
+    (λ r. not_so (suc n) (are_steps t u n l m none r (seen_less n most_told_steps t m seen)))
 
-pub none_missed : (t u : Tree) → IsSeen most_steps t → IsNoStep t u → t ≢ u → AreNoSteps t u → NoneUpTo most_steps t u
+pub none_missed : (t u : Tree) → IsSeen most_told_steps t → IsNoStep t u → t ≢ u → AreNoSteps t u → NoneUpTo most_told_steps t u
 none_missed t u seen not_so different none =
-    let five : most_steps ≡ 5 = refl in
-    let on = λ (n : ℕ) (l : 1 ≤ n) (m : n < most_steps) (h : NoneUpTo n t u). next t u n l m seen none h in
+    let five : most_told_steps ≡ 5 = refl in
+    let on = λ (n : ℕ) (l : 1 ≤ n) (m : n < most_told_steps) (h : NoneUpTo n t u). next t u n l m seen none h in
     on 4 (omega arith) (omega (arith, five)) (on 3 (omega arith) (omega (arith, five))
     (on 2 (omega arith) (omega (arith, five)) (on 1 (omega arith) (omega (arith, five))
     (none_of_one t u not_so different))))

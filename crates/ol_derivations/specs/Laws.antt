@@ -6,7 +6,7 @@ use Rattle.ol_subjects.specs.declared.answers.End.{End}
 use Rattle.ol_subjects.specs.declared.answers.End.TheVariants.{Yes}
 use Rattle.ol_derivations.specs.Lines.{lines_of, is_left_out}
 use Rattle.ol_derivations.specs.Tables.{with_names, in_table}
-use Rattle.ol_derivations.specs.Reductions.{ReducesBy, IsSeen, most_steps}
+use Rattle.ol_derivations.specs.Reductions.{LeadsBy, IsSeen, most_told_steps}
 use Rattle.ol_derivations.specs.Verdicts.{IsVerdict, is_fine, verdict_words}
 use Rattle.ol_derivations.specs.Derivations.{IsTermLine, IsDerivation}
 use Rattle.ol_derivations.specs.declared.judging.Verdict.{Verdict}
@@ -41,8 +41,8 @@ OneVerdict = (t u : Tree) (v w : Verdict) → IsVerdict t u v → IsVerdict t u 
 -- If all reductions of fewer steps than the most are looked at, and neither a step nor steps are told,
 -- no reduction of at most so many steps leads to the term.
 abbrev pub NoneIsMissed : Type 0
-NoneIsMissed = (t u : Tree) → IsSeen most_steps t → IsVerdict t u NoStep ⊎ IsVerdict t u Apart →
-    (k : ℕ) → k ≤ most_steps → ReducesBy k t u → ⊥
+NoneIsMissed = (t u : Tree) → IsSeen most_told_steps t →
+    IsVerdict t u NoStep ⊎ IsVerdict t u Apart → (k : ℕ) → k ≤ most_told_steps → LeadsBy k t u → ⊥
 
 -- a file has one answer
 abbrev pub OneAnswer : Type 0

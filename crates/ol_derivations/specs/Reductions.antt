@@ -6,9 +6,9 @@ use Rattle.ol_beta.specs.Beta.{contracted, IsWithin}
 use Rattle.ol_beta.specs.Leftmost.{is_abstraction}
 
 -- so many beta steps, of whatever redexes, lead from t to u
-abbrev pub ReducesBy : ℕ → (t u : Tree) → Type 0
-ReducesBy zero t u = t ≡ u
-ReducesBy (suc n) t u = (at : List ℕ) × (s : Tree) × (contracted t at ≡ Some s) × ReducesBy n s u
+abbrev pub LeadsBy : ℕ → (t u : Tree) → Type 0
+LeadsBy zero t u = t ≡ u
+LeadsBy (suc n) t u = (at : List ℕ) × (s : Tree) × (contracted t at ≡ Some s) × LeadsBy n s u
 
 -- ---- how far is searched
 
@@ -33,11 +33,12 @@ reductions (suc n) t = sum_by (λ at. one_and (reductions n) (contracted t at)) 
 -- each term to which at most n steps lead is within bounds
 abbrev pub StaysWithin : ℕ → Tree → Type 0
 StaysWithin zero t = Unit {0}
-StaysWithin (suc n) t = (at : List ℕ) (s : Tree) → contracted t at ≡ Some s → IsWithin s × StaysWithin n s
+StaysWithin (suc n) t = (at : List ℕ) (s : Tree) → contracted t at ≡ Some s →
+    IsWithin s × StaysWithin n s
 
 -- the most steps, and the most reductions, that are looked at
-abbrev pub most_steps : ℕ
-most_steps = 5
+abbrev pub most_told_steps : ℕ
+most_told_steps = 5
 
 abbrev pub most_reductions : ℕ
 most_reductions = 1000
@@ -52,9 +53,9 @@ IsSeen (suc n) t = (reductions n t ≤ most_reductions) × StaysWithin n t
 -- k is the least number of steps that lead from t to u, and more than one. All shorter reductions of t are looked at.
 pub record AreSteps (t u : Tree) (k : ℕ) : Type 0 where
   pub several : 2 ≤ k
-  pub few : k ≤ most_steps
-  pub reduction : ReducesBy k t u
-  pub shortest : (j : ℕ) → ReducesBy j t u → k ≤ j
+  pub few : k ≤ most_told_steps
+  pub reduction : LeadsBy k t u
+  pub shortest : (j : ℕ) → LeadsBy j t u → k ≤ j
   pub seen : IsSeen k t
 
 -- no number of steps is told

@@ -2,7 +2,7 @@
 use Rattle.std.specs.Prelude.{◌≡◌, ℕ, Bool, true, false, suc, ◌+◌, ◌<◌, List, ◌++◌, map, Option, Some, None}
 use Rattle.ol_term.specs.Trees.{Tree}
 use Rattle.ol_beta.specs.Beta.{IsWithin}
-use Rattle.ol_derivations.specs.Reductions.{ReducesBy, reductions, one_and, StaysWithin, AreSteps, AreNoSteps}
+use Rattle.ol_derivations.specs.Reductions.{LeadsBy, reductions, one_and, StaysWithin, AreSteps, AreNoSteps}
 use Rattle.ol_derivations.specs.declared.searching.Search.{Search}
 use Rattle.ol_derivations.specs.declared.searching.Search.TheVariants.{Found, Missed, Cut}
 
@@ -24,17 +24,18 @@ first_found Cut s = Cut
 -- one step more than n leads from t to u, or doesn't; or more reductions of at most n steps than may be looked at, or a
 -- term out of bounds
 abbrev pub IsSearched : (t u : Tree) (n before after : ℕ) → Search → Type 0
-IsSearched t u n before after Found = ReducesBy (suc n) t u × StaysWithin n t × (after + reductions n t ≡ before)
+IsSearched t u n before after Found =
+    LeadsBy (suc n) t u × StaysWithin n t × (after + reductions n t ≡ before)
 IsSearched t u n before after Missed =
-    (ReducesBy (suc n) t u → ⊥) × StaysWithin n t × (after + reductions n t ≡ before)
+    (LeadsBy (suc n) t u → ⊥) × StaysWithin n t × (after + reductions n t ≡ before)
 IsSearched t u n before after Cut = StaysWithin n t → before < reductions n t
 
 -- the same of a term that is looked at itself
 abbrev pub IsSearchedTerm : (s u : Tree) (n before after : ℕ) → Search → Type 0
 IsSearchedTerm s u n before after Found =
-    IsWithin s × ReducesBy (suc n) s u × StaysWithin n s × (after + (1 + reductions n s) ≡ before)
+    IsWithin s × LeadsBy (suc n) s u × StaysWithin n s × (after + (1 + reductions n s) ≡ before)
 IsSearchedTerm s u n before after Missed =
-    IsWithin s × (ReducesBy (suc n) s u → ⊥) × StaysWithin n s × (after + (1 + reductions n s) ≡ before)
+    IsWithin s × (LeadsBy (suc n) s u → ⊥) × StaysWithin n s × (after + (1 + reductions n s) ≡ before)
 IsSearchedTerm s u n before after Cut = IsWithin s → StaysWithin n s → before < 1 + reductions n s
 
 -- the same of the term to which a step leads

@@ -13,9 +13,9 @@ pub fn one_verdict()
     ensures { OneVerdict }
 {}
 
-/// A term that is told to be `no beta step` or `not convertible` doesn't come from the one before it
-/// by 5 beta steps or fewer, if that has at most 1,000 reductions of fewer than 5 steps, and each
-/// leads to a term within bounds.
+/// A term that is told to be `no beta step` or `not convertible` doesn't come from the one before
+/// it by 5 beta steps or fewer, if that has at most 1,000 reductions of fewer than 5 steps, and
+/// each leads to a term within bounds.
 pub fn none_is_missed()
     ensures { NoneIsMissed }
 {}

@@ -1,13 +1,13 @@
 use Rattle.std.proofs.Common.{ℕ, ◌≤◌, ◌⊎◌, inl, inr}
 use Rattle.ol_term.specs.Trees.{Tree}
-use Rattle.ol_derivations.specs.Reductions.{ReducesBy, IsSeen, most_steps}
+use Rattle.ol_derivations.specs.Reductions.{LeadsBy, IsSeen, most_told_steps}
 use Rattle.ol_derivations.specs.Verdicts.{IsVerdict}
 use Rattle.ol_derivations.specs.declared.judging.Verdict.TheVariants.{Apart, NoStep}
 use Rattle.ol_derivations.proofs.Seeking.{none_missed}
 use Rattle.ol_derivations.proofs.laws.none_is_missed.Goals as goal
 
-missed : (t u : Tree) → IsSeen most_steps t → IsVerdict t u NoStep ⊎ IsVerdict t u Apart → (k : ℕ) → k ≤ most_steps →
-    ReducesBy k t u → ⊥
+missed : (t u : Tree) → IsSeen most_told_steps t → IsVerdict t u NoStep ⊎ IsVerdict t u Apart → (k : ℕ) → k ≤ most_told_steps →
+    LeadsBy k t u → ⊥
 missed t u seen (inl v) = none_missed t u seen v.0 v.1 v.2
 missed t u seen (inr v) = none_missed t u seen v.0 v.1 v.2
 
