@@ -18,7 +18,9 @@ use Rattle.ol_bench.specs.declared.asked.OnOne.{OnOne}
 use Rattle.ol_bench.specs.declared.asked.OnTwo.{OnTwo}
 use Rattle.ol_bench.specs.declared.top.Status.{Status}
 use Rattle.ol_bench.specs.Commands.{IsAnswerToOne, IsAnswerToTwo, IsCauseOfOne, IsCauseOfTwo, IsCauseOnward}
-use Rattle.ol_bench.specs.Commands.{content_of, contents_of, of_term, IsStudent, IsWork, IsCauseOfStudents, IsCauseOfSolution, IsCauseOfGrade}
+use Rattle.ol_bench.specs.Commands.{content_of, contents_of, of_term, IsStudent, IsWork, IsCauseOfStudents, IsCauseOfSolution, IsCauseOfGrade, IsCauseOfWalk}
+use Rattle.ol_walks.specs.declared.telling.Wanted.{Wanted}
+use Rattle.ol_walks.specs.Answers.{IsFrameWalk}
 use Rattle.ol_grades.specs.declared.grading.Student.{Student}
 use Rattle.ol_grades.specs.declared.grading.Work.{Work}
 use Rattle.ol_grades.specs.declared.reading.Bounds.{Bounds}
@@ -169,6 +171,11 @@ module _ (files : Files) (faults faults' : ℕ) (text : List ℕ) (e : End) wher
   inputs_read bounds file solution students bytes mid all stays cause = of_bytes bytes all
       (subst (λ f. IsCauseOfSolution bounds bytes solution students (after_taking file files) f faults' text e)
       stays cause)
+
+  pub walk_read : (wanted : Wanted) (file : Given) (bytes : List ℕ) →
+      IsAllWithin (most_of of_term) (told_of files file) bytes → faults' ≡ faults →
+      IsFrameWalk bytes wanted text e → IsCauseOfWalk wanted file files faults faults' text e
+  walk_read wanted file bytes all stays answer = of_bytes bytes all (stays, answer)
 
 -- the readings of the first of two files, and those after it
 pub parts : (g : Given) (files : Files) (tells : List ℕ → Option (List ℕ))

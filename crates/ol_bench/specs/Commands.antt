@@ -32,6 +32,8 @@ use Rattle.ol_same.specs.Same.{IsSame}
 use Rattle.ol_free.specs.Frees.{IsFree}
 use Rattle.ol_waves.specs.Answers.{IsWavesAnswer}
 use Rattle.ol_stories.specs.Stories.{IsStoryAnswer}
+use Rattle.ol_walks.specs.declared.telling.Wanted.{Wanted}
+use Rattle.ol_walks.specs.Answers.{IsFrameWalk}
 use Rattle.ol_grades.specs.declared.grading.Student.{Student}
 use Rattle.ol_grades.specs.declared.grading.Work.{Work}
 use Rattle.ol_grades.specs.declared.grading.Work.TheVariants as work
@@ -172,6 +174,7 @@ IsCauseOfGrade bounds inputs solution students files faults faults' text e =
 abbrev pub IsWithinBounds : Asked → Type 0
 IsWithinBounds (asked.One file command) = IsOneWithin command
 IsWithinBounds (asked.Two file other command) = IsTwoWithin command
+IsWithinBounds (asked.Walk file wanted) = Unit {0}
 IsWithinBounds (asked.Grade inputs solution students bounds) = length students.items ≤ most_students
 
 -- one of these files has this name
@@ -183,6 +186,7 @@ HaveName (file ∷ files) name = IsNamed file name ⊎ HaveName files name
 abbrev pub Names : Asked → List ℕ → Type 0
 Names (asked.One file command) name = IsNamed file name
 Names (asked.Two file other command) name = IsNamed file name ⊎ IsNamed other name
+Names (asked.Walk file wanted) name = IsNamed file name
 Names (asked.Grade inputs solution students bounds) name =
     IsNamed inputs name ⊎ (IsNamed solution name ⊎ HaveName students.items name)
 
@@ -208,11 +212,19 @@ IsCauseOfTwo command file other files faults faults' text e =
     (λ bytes text e. IsCauseOnward command bytes other (after_taking file files)
     faults faults' text e) text e
 
+-- the answer where a place of a term is wanted
+abbrev pub IsCauseOfWalk : Wanted → Given → Files → (faults faults' : ℕ) → List ℕ → End → Type 0
+IsCauseOfWalk wanted file files faults faults' text e =
+    ComesOf of_term (told_of files file) faults faults'
+    (λ bytes text e. (faults' ≡ faults) × IsFrameWalk bytes wanted text e) text e
+
 -- the answer to what is asked
 abbrev pub IsCause : Asked → Files → (faults faults' : ℕ) → List ℕ → End → Type 0
 IsCause (asked.One file command) files faults faults' text e =
     IsCauseOfOne command file files faults faults' text e
 IsCause (asked.Two file other command) files faults faults' text e =
     IsCauseOfTwo command file other files faults faults' text e
+IsCause (asked.Walk file wanted) files faults faults' text e =
+    IsCauseOfWalk wanted file files faults faults' text e
 IsCause (asked.Grade inputs solution students bounds) files faults faults' text e =
     IsCauseOfGrade bounds inputs solution students.items files faults faults' text e

@@ -23,6 +23,7 @@ use ol_steps::{Shown, steps};
 use ol_stories::story;
 use ol_subjects::{Answer, Subject, most_bytes};
 use ol_term::Translation;
+use ol_walks::Wanted;
 use ol_waves::wave_table;
 use std::alloc::Global;
 
@@ -304,6 +305,11 @@ pub enum Asked {
         file: Given,
         other: Given,
         command: OnTwo,
+    },
+    /// The questions that a place of a term is asked, crossing by crossing.
+    Walk {
+        file: Given,
+        wanted: Wanted,
     },
     /// What is said of students' functions, each compared with a solution on the same inputs: of at
     /// most 1,000 students. Each of them is named as his file. If his file can't be read, or has more

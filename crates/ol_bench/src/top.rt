@@ -3,7 +3,7 @@
 ghost use Rattle.std.specs.Prelude.{◌≡◌, ℕ, List, [], ◌∷◌, ◌++◌, Option, ◌≤◌, length, drop, true, IfOk};
 ghost use Rattle.ol_io.specs.Readings.{AreOfSince};
 ghost use Rattle.ol_bench.specs.Inputs.{IsNamed, most_of};
-ghost use Rattle.ol_bench.specs.Commands.{IsCause, IsCauseOfOne, IsCauseOfTwo, IsCauseOnward, IsOneWithin, IsTwoWithin, IsWithinBounds, Names, contents_of};
+ghost use Rattle.ol_bench.specs.Commands.{IsCause, IsCauseOfOne, IsCauseOfTwo, IsCauseOfWalk, IsCauseOnward, IsOneWithin, IsTwoWithin, IsWithinBounds, Names, contents_of};
 ghost use Rattle.ol_bench.specs.Commands.{HaveName, IsCauseOfGrade, IsCauseOfSolution, IsCauseOfStudents, student_name};
 ghost use Rattle.ol_bench.specs.Taking.{IsWorkOf};
 ghost use Rattle.ol_bench.specs.Statuses.{status_number};
@@ -15,6 +15,7 @@ use ol_grades::{Bounds as Following, Student, Work, grade};
 use ol_io::{ReadAll, Sink, Source, Written, write_all};
 use ol_memory::NoMemory;
 use ol_subjects::{Answer, End, put};
+use ol_walks::{Wanted, frame_walk};
 use std::alloc::Global;
 
 /// How a call of the bench ended.
@@ -147,6 +148,33 @@ fn of_two<S: Source>(
         }
         Ok(bytes) => {
             let answer = onward(alloc, src, &bytes, other, command)?;
+            Ok(answer)
+        }
+    }
+}
+
+// The answer where a place of a term is wanted.
+fn of_walk<S: Source>(
+    alloc: Global,
+    src: &mut S,
+    file: &Given,
+    wanted: &Wanted,
+) -> Result<Answer, NoMemory>
+    requires known { (name : List ℕ) → IsNamed file.now name → S.knows src.old name ≡ true }
+    ensures caused { (files : ℕ → List ℕ → Option (List ℕ))
+        → AreOfSince files (S.readings src.old) (S.readings src.new)
+        → IfOk result (λ a. IsCauseOfWalk wanted.now file.now files
+        (S.faults src.old) (S.faults src.new) a.text.items a.end) }
+    ensures told { AreOfSince (λ _. S.contents src.old) (S.readings src.old) (S.readings src.new) }
+{
+    let content = Content::Subject(TERM);
+    match bytes_of(alloc, src, file, content) {
+        Err(fault) => {
+            let answer = refusal(alloc, fault, content)?;
+            Ok(answer)
+        }
+        Ok(bytes) => {
+            let answer = frame_walk(alloc, &bytes, wanted)?;
             Ok(answer)
         }
     }
@@ -315,6 +343,7 @@ fn answer<S: Source>(alloc: Global, asked: &Asked, src: &mut S) -> Result<Answer
             other,
             command,
         } => of_two(alloc, src, file, other, *command),
+        Asked::Walk { file, wanted } => of_walk(alloc, src, file, wanted),
         Asked::Grade {
             inputs,
             solution,

@@ -9,13 +9,15 @@ use ol_bench::{Asked, Given, OnOne, OnTwo};
 use ol_counts::{Bounds, Columns};
 use ol_grades::Bounds as Following;
 use ol_limits::{
-    Fuel, Heads, MOST_FUEL, MOST_HEADS, MOST_JOURNAL_BYTES, MOST_STEPS, PLAIN_FUEL, PLAIN_HEADS,
+    Fuel, Heads, MOST_EDGES, MOST_FUEL, MOST_HEADS, MOST_JOURNAL_BYTES, MOST_NODES, MOST_STEPS,
+    PLAIN_FUEL, PLAIN_HEADS,
 };
 use ol_orders::Order;
 use ol_steps::Shown;
 use ol_strategies::Order as Reduction;
 use ol_subjects::Subject;
 use ol_term::Translation;
+use ol_walks::Wanted;
 use std::alloc::{AllocError, Global};
 
 const OF_TERM: &str = "the file with the term, `-` for standard input";
@@ -39,6 +41,13 @@ const TREE_FUEL: u32 = 10_000;
 const PLAIN_MOVES: u32 = 1_000_000;
 
 const MOST_MOVES: u32 = 8_000_000;
+
+// How many crossings `walk` tells by itself, and at most; and how many each walk makes by itself.
+const PLAIN_LINES: u32 = 1_000;
+
+const MOST_LINES: u32 = 100_000;
+
+const PLAIN_EDGES: u32 = 100_000;
 
 // How many students `grade` compares at most.
 const MOST_STUDENTS: usize = 1_000;
@@ -273,6 +282,30 @@ fn tree<'a>(alloc: Global) -> Result<Command<'a>, AllocError> {
     of_term(alloc, command, OF_TERM)
 }
 
+fn walk<'a>(alloc: Global) -> Result<Command<'a>, AllocError> {
+    let frame = Arg::new(alloc, "frame")
+        .long("frame")
+        .value_name("path")
+        .required(true)
+        .action(ArgAction::Set)
+        .help("the place: `root`, or numbers of arguments from the root with dots between them");
+    let about =
+        "The questions that one place of a term is asked by `ol walk`, crossing by crossing";
+    let asked = "the question for this many abstractions alone, by itself all that are asked";
+    let lines = "the most crossings that are told, by itself 1000";
+    let edges = "the most crossings of each walk, by itself 100000";
+    let heads = "the most places that are asked, by itself 4096";
+    let command = Command::new(alloc, "walk")
+        .about(about)
+        .arg(frame)?
+        .arg(number(alloc, "asked", 0, MOST_NODES as i64, asked))?
+        .arg(number(alloc, "lines", 0, MOST_LINES as i64, lines))?
+        .arg(number(alloc, "edges", 1, MOST_EDGES as i64, edges))?
+        .arg(number(alloc, "heads", 1, MOST_HEADS as i64, heads))?
+        .arg(number(alloc, "translation", 1, 2, TRANSLATION))?;
+    of_term(alloc, command, OF_TERM)
+}
+
 fn places<'a>(alloc: Global) -> Result<Command<'a>, AllocError> {
     let byte = Arg::new(alloc, "byte")
         .action(ArgAction::Set)
@@ -342,6 +375,7 @@ fn command<'a>(alloc: Global) -> Result<Command<'a>, AllocError> {
         .subcommand(story(alloc)?)?
         .subcommand(show(alloc)?)?
         .subcommand(tree(alloc)?)?
+        .subcommand(walk(alloc)?)?
         .subcommand(grade(alloc)?)
 }
 
@@ -604,12 +638,64 @@ fn grading_of(alloc: Global, found: &ArgMatches) -> Result<Asked, Error>
     })
 }
 
+// The number that a word of digits tells. 0 stands for any other word, and for a number beyond
+// 2^32.
+fn argument_of(word: &str) -> u32 {
+    match word.parse::<u32>() {
+        Ok(number) => number,
+        Err(_) => 0,
+    }
+}
+
+// The path that a word tells. Where it tells none, it has an argument number 0, and no place has
+// that one.
+fn path_of(alloc: Global, word: &str) -> Result<Vec<u32>, Error> {
+    let mut path: Vec<u32> = Vec::new(alloc);
+    if word == "root" {
+        return Ok(path);
+    }
+    for part in word.split('.') {
+        path.push(argument_of(part))?;
+    }
+    Ok(path)
+}
+
+// The command `walk`: on the file of the name, or the term behind `-e`.
+fn walk_of(alloc: Global, found: &ArgMatches) -> Result<Asked, Error>
+    ensures { IfOk result IsWithinBounds }
+{
+    let file = match term_of(alloc, found)? {
+        Some(term) => term,
+        None => file_of(alloc, found, "name")?,
+    };
+    let path = match found.get_str("frame") {
+        Some(word) => path_of(alloc, word)?,
+        None => Vec::new(alloc),
+    };
+    let question = match found.get_one::<u32>("asked") {
+        Some(_) => Some(number_of(found, "asked", 0, MOST_NODES, 0)),
+        None => None,
+    };
+    let wanted = Wanted {
+        translation: translation_of(found),
+        heads: Heads::of(number_of(found, "heads", 1, MOST_HEADS, PLAIN_HEADS)),
+        edges: number_of(found, "edges", 1, MOST_EDGES, PLAIN_EDGES) as u64,
+        path,
+        question,
+        lines: number_of(found, "lines", 0, MOST_LINES, PLAIN_LINES),
+    };
+    Ok(Asked::Walk { file, wanted })
+}
+
 // What is asked by what was given behind the name of a command.
 fn asked_of(alloc: Global, name: &str, found: &ArgMatches) -> Result<Asked, Error>
     ensures { IfOk result IsWithinBounds }
 {
     if name == "grade" {
         return grading_of(alloc, found);
+    }
+    if name == "walk" {
+        return walk_of(alloc, found);
     }
     let term = term_of(alloc, found)?;
     match on_two(name, found) {

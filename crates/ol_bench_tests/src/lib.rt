@@ -24,6 +24,7 @@
 //! - `stories`: rows of `story`
 //! - `texts`: rows of commands on a term that stands on the command line
 //! - `trees`: rows of `tree`
+//! - `walks`: rows of `walk --frame`
 //! - `waves`: rows of `waves`
 #![tactic(auto)]
 
@@ -71,5 +72,6 @@ mod stories;
 mod texts;
 #[cfg(test)]
 mod trees;
+mod walks;
 #[cfg(test)]
 mod waves;

@@ -12,6 +12,11 @@ returns-in-Two-clause-caused g c = λ files of.
     subst (λ asked. IfOk c.of_two.result (λ a. IsCause asked files (g.S.Source.faults c.args.src.now)
     (g.S.Source.faults c.of_two.new.src) a.text.items a.end)) (sym c.in-Two.is) (c.of_two.ensures.caused files of)
 
+pub returns-in-Walk-clause-caused : goal.returns-in-Walk-clause-caused
+returns-in-Walk-clause-caused g c = λ files of.
+    subst (λ asked. IfOk c.of_walk.result (λ a. IsCause asked files (g.S.Source.faults c.args.src.now)
+    (g.S.Source.faults c.of_walk.new.src) a.text.items a.end)) (sym c.in-Walk.is) (c.of_walk.ensures.caused files of)
+
 pub returns-in-Grade-clause-caused : goal.returns-in-Grade-clause-caused
 returns-in-Grade-clause-caused g c = λ files of.
     subst (λ asked. IfOk c.of_grade.result (λ a. IsCause asked files (g.S.Source.faults c.args.src.now)
