@@ -15,3 +15,5 @@ pub mod Alone
 pub mod Leaving
 pub mod Finds
 pub mod Lefts
+pub mod Below
+pub mod AsObject

@@ -6,6 +6,7 @@ pub mod Wanted
 pub mod Others
 pub mod Explained
 pub mod Judged
+pub mod Objects
 pub mod Tallies
 -- What only contracts of private functions and proofs cite.
 pub mod Followed
@@ -13,3 +14,4 @@ pub mod Found
 pub mod Fields
 pub mod Reasons
 pub mod Besides
+pub mod Explanations

@@ -6,7 +6,8 @@ ghost use Rattle.ol_view.specs.LineReading.{TellsOf};
 ghost use Rattle.ol_explain.specs.Found.{IsToldBy};
 ghost use Rattle.ol_explain.specs.Reasons.{AreJoined, IsOffBy};
 ghost use Rattle.ol_replay.specs.Replays.{IsReplay};
-ghost use Rattle.ol_explain.specs.Explained.{IsExplained, IsExplainedOf};
+ghost use Rattle.ol_explain.specs.Explained.{IsExplained};
+ghost use Rattle.ol_explain.specs.Explanations.{IsExplanation};
 ghost use Rattle.ol_subjects.specs.Subjects.{most_bytes};
 ghost use Rattle.ol_limits.specs.Limits.{most_fuel, most_nodes};
 
@@ -25,6 +26,13 @@ use ol_replay::Replay;
 use ol_subjects::{Answer, End, NetRead, Subject, read_subject};
 use ol_view::{Check, Line, check};
 use std::alloc::Global;
+
+/// An answer whose first line tells what a journal is found to be.
+#[derive(Drop)]
+pub struct Explanation {
+    pub answer: Answer,
+    pub found: Check,
+}
 
 // The answer of a line that isn't the next one of a run.
 fn off(
@@ -54,55 +62,71 @@ fn off(
     Ok(Answer { text, end })
 }
 
-// The answer where all lines are good.
-fn ended(alloc: Global, net: &Net, journal: &[u8], replay: &mut Replay) -> Result<Answer, NoMemory>
+// What is said where all lines are good.
+fn ended(
+    alloc: Global,
+    net: &Net,
+    journal: &[u8],
+    replay: &mut Replay,
+) -> Result<Explanation, NoMemory>
     requires few { length net.now.nodes ≤ most_nodes }
     requires told { IsToldBy net.now journal.now replay.old }
     requires replay { IsReplay net.now replay.old }
-    ensures { IfOk result (λ a. IsExplainedOf net.now journal.now a.text.items a.end) }
+    ensures { IfOk result (λ it.
+        IsExplanation net.now journal.now it.answer.text.items it.answer.end it.found) }
 {
     net.is_net();
-    match check(alloc, net, journal)? {
+    let found = check(alloc, net, journal)?;
+    match found {
         Check::Complete => {
             let answer = complete(alloc)?;
-            Ok(answer)
+            Ok(Explanation { answer, found })
         }
         Check::Run { k } => {
             let answer = run_and_left(alloc, net, k, replay)?;
-            Ok(answer)
+            Ok(Explanation { answer, found })
         }
         Check::BadText { .. } => unreachable!(),
         Check::NotARun { .. } => unreachable!(),
     }
 }
 
-fn of_net(alloc: Global, net: &Net, journal: &[u8]) -> Result<Answer, NoMemory>
+/// What a journal is found to be against a net, with an answer that says why: its first line is that
+/// of what is found.
+pub fn of_net(alloc: Global, net: &Net, journal: &[u8]) -> Result<Explanation, NoMemory>
     requires few { length net.now.nodes ≤ most_nodes }
-    ensures { IfOk result (λ a. IsExplainedOf net.now journal.now a.text.items a.end) }
+    ensures { IfOk result (λ it.
+        IsExplanation net.now journal.now it.answer.text.items it.answer.end it.found) }
 {
     net.is_net();
     let mut followed = follow(alloc, net, journal, MOST_FUEL)?;
     match followed.stop {
         Stop::NoHeader => {
             let answer = bad_header(alloc, journal)?;
-            Ok(answer)
+            let found = Check::BadText { line: 1 };
+            Ok(Explanation { answer, found })
         }
         Stop::Good => {
             if followed.at < journal.len() {
                 let answer = past_the_end(alloc, followed.at)?;
-                return Ok(answer);
+                let line = MOST_FUEL + 2;
+                let found = Check::BadText { line };
+                return Ok(Explanation { answer, found });
             }
-            let answer = ended(alloc, net, journal, &mut followed.replay)?;
-            Ok(answer)
+            let explanation = ended(alloc, net, journal, &mut followed.replay)?;
+            Ok(explanation)
         }
         Stop::NoLine { form } => {
             let bad = followed.replay.run.journal.len() + 2;
             let answer = bad_line(alloc, form, journal, followed.at, bad)?;
-            Ok(answer)
+            let found = Check::BadText { line: bad };
+            Ok(Explanation { answer, found })
         }
         Stop::Otherwise { line, made } => {
+            let number = followed.replay.run.journal.len() + 2;
             let answer = off(alloc, net, &followed.replay, line, made)?;
-            Ok(answer)
+            let found = Check::NotARun { line: number };
+            Ok(Explanation { answer, found })
         }
     }
 }
@@ -146,9 +170,9 @@ pub fn explained(
             Ok(Answer { text, end })
         }
         NetRead::Net(net) => {
-            let mut answer = of_net(alloc, &net, journal)?;
-            put_other(alloc, &mut answer, bytes, journal, subject)?;
-            Ok(answer)
+            let mut explanation = of_net(alloc, &net, journal)?;
+            put_other(alloc, &mut explanation.answer, bytes, journal, subject)?;
+            Ok(explanation.answer)
         }
     }
 }

@@ -36,8 +36,8 @@ pub fn complete(alloc: Global) -> Result<Answer, NoMemory>
     Ok(Answer { text, end })
 }
 
-// The line of what a journal is found to be.
-fn answer_of(alloc: Global, found: Check) -> Result<Answer, NoMemory>
+/// The line of what a journal is found to be, and how a command ends that answers with it.
+pub fn answer_of(alloc: Global, found: Check) -> Result<Answer, NoMemory>
     ensures text { IfOk result (λ a. a.text.items ≡ found_line found) }
     ensures end { IfOk result (λ a. a.end ≡ end_of found) }
 {

@@ -4,6 +4,7 @@
 //! - `pausing`: the command `after`: the net after the first lines of a journal
 //! - `explaining`: the command `explain`: what a journal is found to be, and why
 //! - `judging`: the command `check`: what a journal is found to be, as a line
+//! - `objects`: the answers of `check` and `explain`, each as one JSON object
 //! - `tallying`: what a journal is found to be, by its value, and how often each rule stands in its run
 //! - `causes`: why a line of a journal isn't one of a run
 //! - `joining`: after which entry of a journal two nodes are joined
@@ -21,6 +22,7 @@ mod joining;
 mod judging;
 mod left;
 mod naming;
+mod objects;
 mod others;
 mod pausing;
 mod tallying;
@@ -29,5 +31,6 @@ mod weighing;
 
 pub use explaining::explained;
 pub use judging::judged;
+pub use objects::{explained_object, judged_object};
 pub use pausing::{after, after_with_weights};
 pub use tallying::{Finding, Tally, checked, tallied};

@@ -12,4 +12,4 @@ returns-in_ok-put_other-in-Net c =
     let r = subst (IsSubjectRead c.args.subject c.args.bytes.now) c.in-Net.is c.in_ok-text.ensures in
     let o = c.in_ok-put_other-in-Net.ensures in
     subst (λ e. IsExplained c.args.bytes.now c.args.journal.now c.put_other.new.answer.text.items c.args.subject e)
-    (sym o.end) (answered r.0 c.in_ok-answer-in-Net.ensures o.text.1 o.text.2)
+    (sym o.end) (answered r.0 c.in_ok-explanation-in-Net.ensures.explained o.text.1 o.text.2)

@@ -1,6 +1,9 @@
-use Rattle.std.proofs.Common.{◌≡◌, ◌+◌, length, refl, sym, subst, arith}
+use Rattle.std.proofs.Common.{◌≡◌, ◌+◌, ◌++◌, length, None, refl, sym, subst, arith}
+use Rattle.std.specs.Prelude.{codes}
 use Rattle.ol_explain.specs.Explained.{IsExplainedOf}
 use Rattle.ol_explain.specs.Followed.{Stops}
+use Rattle.ol_explain.specs.Wanted.{end_at}
+use Rattle.ol_explain.proofs.Below.{below_line, below_broken, below_bad, below_off}
 use Rattle.ol_explain.proofs.Told.{at_header, no_header_here, no_line_here, at_other}
 use Rattle.ol_explain.proofs.BadLines.{at_the_header, at_the_line, at_the_end}
 use Rattle.ol_explain.proofs.Reasoned.{whole, explains, made_joined, made_wrong}
@@ -21,9 +24,15 @@ returns-in-NoHeader c =
     let s = subst (λ s. Stops c.args.net.now c.args.journal.now 8000000 f.replay f.at s)
     c.in-NoHeader.is c.in_ok-followed.ensures.stops in
     let a = c.in_ok-answer-in-NoHeader in
-    subst (λ e. IsExplainedOf c.args.net.now c.args.journal.now a.answer.text.items e) (sym a.ensures.end)
-    (at_the_header c.args.net.now c.args.journal.now a.answer.text.items
-    (at_header c.args.net.now c.args.journal.now 8000000 f.replay f.at s) a.ensures.text)
+    let b = below_broken None c.args.journal.now 0 1 a.answer.text.items a.ensures.text in
+    record {
+      explained = subst (λ e. IsExplainedOf c.args.net.now c.args.journal.now a.answer.text.items e) (sym a.ensures.end)
+          (at_the_header c.args.net.now c.args.journal.now a.answer.text.items
+          (at_header c.args.net.now c.args.journal.now 8000000 f.replay f.at s) a.ensures.text);
+      end_is = a.ensures.end;
+      below = b.0;
+      text_is = b.1;
+    }
 
 pub returns-then-followed-journal : goal.returns-then-followed-journal
 returns-then-followed-journal c =
@@ -31,9 +40,14 @@ returns-then-followed-journal c =
     let s = subst (λ s. Stops c.args.net.now c.args.journal.now 8000000 f.replay f.at s)
     c.in-Good.is c.in_ok-followed.ensures.stops in
     let a = c.in_ok-answer-in-Good in
-    subst (λ e. IsExplainedOf c.args.net.now c.args.journal.now a.answer.text.items e) (sym a.ensures.end)
-    (at_the_end c.args.net.now c.args.journal.now 8000000 f.replay f.at refl s
-    c.if-followed-journal.true a.answer.text.items a.ensures.text)
+    record {
+      explained = subst (λ e. IsExplainedOf c.args.net.now c.args.journal.now a.answer.text.items e) (sym a.ensures.end)
+          (at_the_end c.args.net.now c.args.journal.now 8000000 f.replay f.at refl s
+          c.if-followed-journal.true a.answer.text.items a.ensures.text);
+      end_is = a.ensures.end;
+      below = end_at f.at ++ codes "\n";
+      text_is = below_line (codes "bad text at line ") 8000002 (end_at f.at) a.answer.text.items a.ensures.text;
+    }
 
 pub ended-requires-clause-told : goal.ended-requires-clause-told
 ended-requires-clause-told c =
@@ -69,9 +83,15 @@ returns-in-NoLine c =
     c.in-NoLine.is c.in_ok-followed.ensures.stops) in
     let a = c.in_ok-answer-in-NoLine in
     let q : c.len-bad.result + 2 ≡ length f.replay.run.journal + 2 = (let l = c.len-bad.ensures in omega arith) in
-    subst (λ e. IsExplainedOf c.args.net.now c.args.journal.now a.answer.text.items e) (sym a.ensures.end)
-    (at_the_line c.args.net.now c.args.journal.now 8000000 f.replay f.at refl c.in-NoLine.form n
-    (c.len-bad.result + 2) q a.answer.text.items a.ensures.text)
+    let b = below_bad c.in-NoLine.form c.args.journal.now f.at (c.len-bad.result + 2) a.answer.text.items a.ensures.text in
+    record {
+      explained = subst (λ e. IsExplainedOf c.args.net.now c.args.journal.now a.answer.text.items e) (sym a.ensures.end)
+          (at_the_line c.args.net.now c.args.journal.now 8000000 f.replay f.at refl c.in-NoLine.form n
+          (c.len-bad.result + 2) q a.answer.text.items a.ensures.text);
+      end_is = a.ensures.end;
+      below = b.0;
+      text_is = b.1;
+    }
 
 pub off-requires-clause-entries : goal.off-requires-clause-entries
 off-requires-clause-entries c =
@@ -101,6 +121,15 @@ returns c =
     let s = subst (λ s. Stops c.args.net.now c.args.journal.now 8000000 f.replay f.at s)
     c.in-Otherwise.is c.in_ok-followed.ensures.stops in
     let a = c.in_ok-answer-in-Otherwise in
-    subst (λ e. IsExplainedOf c.args.net.now c.args.journal.now a.answer.text.items e) (sym a.ensures.end)
-    (explains c.args.net.now c.args.journal.now 8000000 f.replay f.at c.in-Otherwise.line c.in-Otherwise.made s
-    a.answer.text.items a.ensures.text)
+    let q : length f.replay.run.journal + 2 ≡ c.len-number.result + 2 =
+    (let l = c.len-number.ensures in omega arith) in
+    let b = below_off c.args.net.now f.replay c.in-Otherwise.line c.in-Otherwise.made a.answer.text.items
+    (c.len-number.result + 2) q a.ensures.text in
+    record {
+      explained = subst (λ e. IsExplainedOf c.args.net.now c.args.journal.now a.answer.text.items e) (sym a.ensures.end)
+          (explains c.args.net.now c.args.journal.now 8000000 f.replay f.at c.in-Otherwise.line c.in-Otherwise.made s
+          a.answer.text.items a.ensures.text);
+      end_is = a.ensures.end;
+      below = b.0;
+      text_is = b.1;
+    }
