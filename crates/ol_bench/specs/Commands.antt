@@ -7,6 +7,7 @@ use Rattle.ol_io.specs.Outside.{Rose, IsLonger}
 use Rattle.ol_limits.specs.Limits.{most_fuel}
 use Rattle.ol_term.specs.declared.translations.Translation.TheVariants as translation
 use Rattle.ol_subjects.specs.declared.answers.End.{End}
+use Rattle.ol_subjects.specs.declared.subjects.Subject as of
 use Rattle.ol_subjects.specs.declared.subjects.Subject.TheVariants as subject
 use Rattle.ol_bench.specs.declared.asked.Content.{Content}
 use Rattle.ol_bench.specs.declared.asked.Content.TheVariants.{Subject, Journal}
@@ -28,6 +29,9 @@ use Rattle.ol_orders.specs.Orders.{IsJournal}
 use Rattle.ol_explain.specs.Afters.{IsPausedAnswer}
 use Rattle.ol_explain.specs.Explained.{IsExplained}
 use Rattle.ol_explain.specs.Judged.{IsJudged}
+use Rattle.ol_explain.specs.Objects.{IsJudgedObject, IsExplainedObject}
+use Rattle.ol_objects.specs.declared.layouts.Layout.{Layout}
+use Rattle.ol_objects.specs.declared.layouts.Layout.TheVariants.{Lines, Object}
 use Rattle.ol_same.specs.Same.{IsSame}
 use Rattle.ol_free.specs.Frees.{IsFree}
 use Rattle.ol_waves.specs.Answers.{IsWavesAnswer}
@@ -50,7 +54,7 @@ content_of (one.Where byte) = Journal
 content_of one.Stop = Subject (subject.Term translation.Two)
 content_of one.Derivation = Subject (subject.Term translation.Two)
 content_of (one.Steps how most) = Subject (subject.Term translation.Two)
-content_of (one.Counts s bounds columns) = Subject s
+content_of (one.Counts s bounds columns layout) = Subject s
 content_of (one.Journal s order fuel heads) = Subject s
 content_of one.Free = Subject (subject.Term translation.Two)
 content_of (one.Waves s fuel) = Subject s
@@ -64,7 +68,7 @@ IsOneWithin (one.Where byte) = Unit {0}
 IsOneWithin one.Stop = Unit {0}
 IsOneWithin one.Derivation = Unit {0}
 IsOneWithin (one.Steps how most) = Unit {0}
-IsOneWithin (one.Counts s bounds columns) = Unit {0}
+IsOneWithin (one.Counts s bounds columns layout) = Unit {0}
 IsOneWithin (one.Journal s order fuel heads) = Unit {0}
 IsOneWithin one.Free = Unit {0}
 IsOneWithin (one.Waves s fuel) = Unit {0}
@@ -78,7 +82,8 @@ IsAnswerToOne (one.Where byte) bytes text e = IsWhere bytes byte text e
 IsAnswerToOne one.Stop bytes text e = IsStop bytes text e
 IsAnswerToOne one.Derivation bytes text e = IsDerivation bytes text e
 IsAnswerToOne (one.Steps how most) bytes text e = IsStepsOf bytes how most text e
-IsAnswerToOne (one.Counts s bounds columns) bytes text e = IsCounted bytes bounds columns text s e
+IsAnswerToOne (one.Counts s bounds columns layout) bytes text e =
+    IsCounted bytes bounds columns layout text s e
 IsAnswerToOne (one.Journal s order fuel heads) bytes text e =
     IsJournal bytes order fuel.most heads.most text s e
 IsAnswerToOne one.Free bytes text e = IsFree bytes text e
@@ -94,23 +99,33 @@ IsAnswerToOne (one.Tree translation depth fuel heads) bytes text e =
 -- what stands in the first file, and in the second one
 abbrev pub contents_of : OnTwo → Content × Content
 contents_of (two.After s lines weights) = (Subject s, Journal)
-contents_of (two.Check s) = (Subject s, Journal)
-contents_of (two.Explain s) = (Subject s, Journal)
+contents_of (two.Check s layout) = (Subject s, Journal)
+contents_of (two.Explain s layout) = (Subject s, Journal)
 contents_of two.Same = (Subject subject.Net, Subject subject.Net)
 
 -- its numbers are within their bounds
 abbrev pub IsTwoWithin : OnTwo → Type 0
 IsTwoWithin (two.After s lines weights) = (1 ≤ lines) × (lines ≤ most_fuel + 1)
-IsTwoWithin (two.Check s) = Unit {0}
-IsTwoWithin (two.Explain s) = Unit {0}
+IsTwoWithin (two.Check s layout) = Unit {0}
+IsTwoWithin (two.Explain s layout) = Unit {0}
 IsTwoWithin two.Same = Unit {0}
+
+-- what a journal is found to be, in this layout
+abbrev pub IsJudgedIn : Layout → (bytes journal text : List ℕ) → of.Subject → End → Type 0
+IsJudgedIn Lines bytes journal text s e = IsJudged bytes journal text s e
+IsJudgedIn Object bytes journal text s e = IsJudgedObject bytes journal text s e
+
+-- the same with its cause
+abbrev pub IsExplainedIn : Layout → (bytes journal text : List ℕ) → of.Subject → End → Type 0
+IsExplainedIn Lines bytes journal text s e = IsExplained bytes journal text s e
+IsExplainedIn Object bytes journal text s e = IsExplainedObject bytes journal text s e
 
 -- the answer to the bytes of the first file and to those of the second one
 abbrev pub IsAnswerToTwo : OnTwo → List ℕ → List ℕ → List ℕ → End → Type 0
 IsAnswerToTwo (two.After s lines weights) bytes more text e =
     IsPausedAnswer weights bytes more lines text s e
-IsAnswerToTwo (two.Check s) bytes more text e = IsJudged bytes more text s e
-IsAnswerToTwo (two.Explain s) bytes more text e = IsExplained bytes more text s e
+IsAnswerToTwo (two.Check s layout) bytes more text e = IsJudgedIn layout bytes more text s e
+IsAnswerToTwo (two.Explain s layout) bytes more text e = IsExplainedIn layout bytes more text s e
 IsAnswerToTwo two.Same bytes more text e = IsSame bytes more text e
 
 -- ---- students' functions

@@ -5,17 +5,18 @@
 
 ghost use Rattle.std.specs.Prelude.{◌≡◌, ◌≤◌, length, IfOk};
 ghost use Rattle.ol_bench.specs.Inputs.{most_of};
-ghost use Rattle.ol_bench.specs.Commands.{IsOneWithin, IsTwoWithin, IsAnswerToOne, IsAnswerToTwo, content_of, contents_of};
+ghost use Rattle.ol_bench.specs.Commands.{IsOneWithin, IsTwoWithin, IsAnswerToOne, IsAnswerToTwo, IsExplainedIn, IsJudgedIn, content_of, contents_of};
 
 use ol_boehm::tree;
 use ol_counts::{Bounds, Columns, counted};
 use ol_decoding::show;
 use ol_derivations::derivation;
-use ol_explain::{after, after_with_weights, explained, judged};
+use ol_explain::{after, after_with_weights, explained, explained_object, judged, judged_object};
 use ol_free::free_names;
 use ol_grades::Bounds as Following;
 use ol_limits::{Fuel, Heads, MOST_JOURNAL_BYTES};
 use ol_memory::NoMemory;
+use ol_objects::Layout;
 use ol_orders::{Order, journal};
 use ol_places::{stop, whereabouts};
 use ol_same::same;
@@ -81,6 +82,7 @@ pub enum OnOne {
         subject: Subject,
         bounds: Bounds,
         columns: Columns,
+        layout: Layout,
     },
     /// The journal of a run in this order: of at most `fuel` interactions, and on demand of at
     /// most `heads` subterms.
@@ -166,8 +168,9 @@ impl OnOne {
                 subject,
                 bounds,
                 columns,
+                layout,
             } => {
-                let answer = counted(alloc, bytes, subject, bounds, columns)?;
+                let answer = counted(alloc, bytes, subject, bounds, columns, layout)?;
                 Ok(answer)
             }
             OnOne::Journal {
@@ -212,6 +215,54 @@ impl OnOne {
     }
 }
 
+// What a journal is found to be.
+fn found(
+    alloc: Global,
+    bytes: &[u8],
+    journal: &[u8],
+    subject: Subject,
+    layout: Layout,
+) -> Result<Answer, NoMemory>
+    requires short { length bytes.now ≤ most_of (Content.Subject subject) }
+    ensures { IfOk result (λ a.
+        IsJudgedIn layout bytes.now journal.now a.text.items subject a.end) }
+{
+    match layout {
+        Layout::Lines => {
+            let answer = judged(alloc, bytes, journal, subject)?;
+            Ok(answer)
+        }
+        Layout::Object => {
+            let answer = judged_object(alloc, bytes, journal, subject)?;
+            Ok(answer)
+        }
+    }
+}
+
+// What a journal is found to be, and why.
+fn found_with_why(
+    alloc: Global,
+    bytes: &[u8],
+    journal: &[u8],
+    subject: Subject,
+    layout: Layout,
+) -> Result<Answer, NoMemory>
+    requires short { length bytes.now ≤ most_of (Content.Subject subject) }
+    ensures { IfOk result (λ a.
+        IsExplainedIn layout bytes.now journal.now a.text.items subject a.end) }
+{
+    match layout {
+        Layout::Lines => {
+            let answer = explained(alloc, bytes, journal, subject)?;
+            Ok(answer)
+        }
+        Layout::Object => {
+            let answer = explained_object(alloc, bytes, journal, subject)?;
+            Ok(answer)
+        }
+    }
+}
+
 /// A command on two files.
 #[derive(Clone, Copy, Debug)]
 pub enum OnTwo {
@@ -227,11 +278,13 @@ pub enum OnTwo {
     /// journal.
     Check {
         subject: Subject,
+        layout: Layout,
     },
     /// What a journal is found to be, and why. The first file has the term or the net, the second
     /// one the journal.
     Explain {
         subject: Subject,
+        layout: Layout,
     },
     /// Whether two nets are one up to the numbers of their nodes.
     Same,
@@ -244,8 +297,8 @@ impl OnTwo {
     {
         match self {
             OnTwo::After { subject, .. } => (Content::Subject(subject), Content::Journal),
-            OnTwo::Check { subject } => (Content::Subject(subject), Content::Journal),
-            OnTwo::Explain { subject } => (Content::Subject(subject), Content::Journal),
+            OnTwo::Check { subject, .. } => (Content::Subject(subject), Content::Journal),
+            OnTwo::Explain { subject, .. } => (Content::Subject(subject), Content::Journal),
             OnTwo::Same => (
                 Content::Subject(Subject::Net),
                 Content::Subject(Subject::Net),
@@ -277,12 +330,12 @@ impl OnTwo {
                 let answer = after(alloc, bytes, more, subject, lines)?;
                 Ok(answer)
             }
-            OnTwo::Check { subject } => {
-                let answer = judged(alloc, bytes, more, subject)?;
+            OnTwo::Check { subject, layout } => {
+                let answer = found(alloc, bytes, more, subject, layout)?;
                 Ok(answer)
             }
-            OnTwo::Explain { subject } => {
-                let answer = explained(alloc, bytes, more, subject)?;
+            OnTwo::Explain { subject, layout } => {
+                let answer = found_with_why(alloc, bytes, more, subject, layout)?;
                 Ok(answer)
             }
             OnTwo::Same => {

@@ -12,6 +12,7 @@ use ol_limits::{
     Fuel, Heads, MOST_EDGES, MOST_FUEL, MOST_HEADS, MOST_JOURNAL_BYTES, MOST_NODES, MOST_STEPS,
     PLAIN_FUEL, PLAIN_HEADS,
 };
+use ol_objects::Layout;
 use ol_orders::Order;
 use ol_steps::Shown;
 use ol_strategies::Order as Reduction;
@@ -95,6 +96,10 @@ fn flag<'a>(alloc: Global, id: &'a str, help: &'a str) -> Arg<'a> {
         .help(help)
 }
 
+fn json<'a>(alloc: Global) -> Arg<'a> {
+    flag(alloc, "json", "the answer as one JSON object on one line")
+}
+
 // A command that reads a term or a net.
 fn of_subject<'a>(alloc: Global, command: Command<'a>) -> Result<Command<'a>, AllocError> {
     let net = flag(alloc, "net", "the file has a net, as `ol net` writes one").conflicts_with(
@@ -170,14 +175,14 @@ fn check<'a>(alloc: Global) -> Result<Command<'a>, AllocError> {
     let command = Command::new(alloc, "check").about(
         "What a journal is found to be, as `ol check` tells it, with a status for each",
     );
-    of_journal(alloc, command)
+    of_journal(alloc, command.arg(json(alloc))?)
 }
 
 fn explain<'a>(alloc: Global) -> Result<Command<'a>, AllocError> {
     let command = Command::new(alloc, "explain").about(
         "What a journal is found to be; pairs left, what bad text wants, why a line is wrong",
     );
-    of_journal(alloc, command)
+    of_journal(alloc, command.arg(json(alloc))?)
 }
 
 fn steps<'a>(alloc: Global) -> Result<Command<'a>, AllocError> {
@@ -232,7 +237,8 @@ fn counts<'a>(alloc: Global) -> Result<Command<'a>, AllocError> {
         .arg(flag(alloc, "no-leftmost", "no column for leftmost order"))?
         .arg(flag(alloc, "applicative", "a column for applicative order"))?
         .arg(flag(alloc, "need", "a column for call-by-need"))?
-        .arg(flag(alloc, "families", "a column for the families of redexes"))?;
+        .arg(flag(alloc, "families", "a column for the families of redexes"))?
+        .arg(json(alloc))?;
     of_term(alloc, command, OF_TERM_OR_NET)
 }
 
@@ -424,6 +430,15 @@ fn fuel_of(found: &ArgMatches, default: u32) -> Fuel
     Fuel::of(number_of(found, "fuel", 0, MOST_FUEL, default))
 }
 
+// How the answer is written.
+fn layout_of(found: &ArgMatches) -> Layout {
+    if found.get_flag("json") {
+        Layout::Object
+    } else {
+        Layout::Lines
+    }
+}
+
 // Which ways of reducing have a column.
 fn columns_of(found: &ArgMatches) -> Columns {
     Columns {
@@ -516,6 +531,7 @@ fn on_one(name: &str, found: &ArgMatches) -> OnOne
                 moves: number_of(found, "moves", 0, MOST_MOVES, PLAIN_MOVES),
             },
             columns: columns_of(found),
+            layout: layout_of(found),
         },
         "journal" => OnOne::Journal {
             subject,
@@ -550,14 +566,15 @@ fn on_two(name: &str, found: &ArgMatches) -> Option<OnTwo>
     ensures { IfSome result IsTwoWithin }
 {
     let subject = subject_of(found);
+    let layout = layout_of(found);
     match name {
         "after" => Some(OnTwo::After {
             subject,
             lines: number_of(found, "lines", 1, MOST_FUEL + 1, 1),
             weights: found.get_flag("weights"),
         }),
-        "check" => Some(OnTwo::Check { subject }),
-        "explain" => Some(OnTwo::Explain { subject }),
+        "check" => Some(OnTwo::Check { subject, layout }),
+        "explain" => Some(OnTwo::Explain { subject, layout }),
         "same" => Some(OnTwo::Same),
         _ => None,
     }

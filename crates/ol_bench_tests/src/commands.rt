@@ -8,6 +8,7 @@ use ol_bench::{Asked, OnOne, Status, bench};
 use ol_counts::{Bounds, Columns};
 use ol_io::{MemFile, MemSink, MemSource};
 use ol_limits::{Fuel, Heads};
+use ol_objects::Layout;
 use ol_orders::Order;
 use ol_subjects::Subject;
 use ol_term::Translation;
@@ -112,6 +113,7 @@ fn counts(subject: Subject, fuel: u32) -> OnOne
         subject,
         bounds,
         columns,
+        layout: Layout::Lines,
     }
 }
 

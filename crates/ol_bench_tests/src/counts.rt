@@ -5,6 +5,7 @@ ghost use Rattle.ol_subjects.specs.Subjects.{most_bytes};
 
 use ol_counts::{Bounds, Columns, counted};
 use ol_limits::{Fuel, Heads};
+use ol_objects::Layout;
 use ol_subjects::{End, Subject};
 use ol_term::Translation;
 use std::alloc::Global;
@@ -55,36 +56,79 @@ interactions               1           0           -           -           -    
 stuck                      0           0           -           -           -           -
 ";
 
-// Asserts the end and the table of a text.
-fn assert_table(
+const NET_OBJECT: &str =
+    "{\"columns\":{\"run\":{\"beta\":0,\"fan\":0,\"croissant\":0,\"bracket\":0,\"cross-fan\":0,\"cross-croissant\":0,\"cross-bracket\":0,\"erase\":1,\"interactions\":1,\"stuck\":0},\"demand\":{\"beta\":0,\"fan\":0,\"croissant\":0,\"bracket\":0,\"cross-fan\":0,\"cross-croissant\":0,\"cross-bracket\":0,\"erase\":0,\"interactions\":0,\"stuck\":0},\"leftmost\":null,\"applicative\":null,\"need\":null}}\n";
+
+// Asserts the end of a text, and what is written of it.
+fn assert_written(
     rt: &impl Abort,
     alloc: Global,
     subject: Subject,
     text: &str,
-    columns: Columns,
+    asked: (Columns, Layout),
     end: End,
-    table: &str,
+    written: &str,
 ) -> Result<(), Fail>
     requires { 1000 ≤ most_bytes subject }
 {
     if text.len() > 1_000 {
         return Err(Fail::from("too long"));
     }
+    let (columns, layout) = asked;
     let bounds = Bounds {
         fuel: Fuel::of(100),
         heads: Heads::of(10),
         steps: 20,
         moves: 1_000,
     };
-    let answer = counted(alloc, text.as_bytes(), subject, bounds, columns)?;
+    let answer = counted(alloc, text.as_bytes(), subject, bounds, columns, layout)?;
     assert!(rt; answer.end == end, "{text}");
-    assert!(rt; answer.text.as_slice() == table.as_bytes(), "{text}");
+    assert!(rt; answer.text.as_slice() == written.as_bytes(), "{text}");
     Ok(())
 }
 
 #[test]
 fn a_net_is_counted_by_its_runs(rt: HostRuntime) -> Result<(), Fail> {
-    assert_table(&rt, rt.alloc(), Subject::Net, NET, ALL, End::Yes, NET_TABLE)
+    let asked = (ALL, Layout::Lines);
+    assert_written(
+        &rt,
+        rt.alloc(),
+        Subject::Net,
+        NET,
+        asked,
+        End::Yes,
+        NET_TABLE,
+    )
+}
+
+#[test]
+fn columns_are_objects(rt: HostRuntime) -> Result<(), Fail> {
+    let asked = (ALL, Layout::Object);
+    assert_written(
+        &rt,
+        rt.alloc(),
+        Subject::Net,
+        NET,
+        asked,
+        End::Yes,
+        NET_OBJECT,
+    )?;
+    let subject = Subject::Term(Translation::Two);
+    let asked = (OF_TERM, Layout::Object);
+    let text = "(\\x. \\y. y) ((\\x. x x) (\\x. x x)) z";
+    let object =
+        "{\"columns\":{\"leftmost\":{\"beta\":2},\"applicative\":null,\"need\":{\"beta\":2}}}\n";
+    assert_written(&rt, rt.alloc(), subject, text, asked, End::No, object)?;
+    let asked = (NONE, Layout::Object);
+    assert_written(
+        &rt,
+        rt.alloc(),
+        subject,
+        "x",
+        asked,
+        End::Yes,
+        "{\"columns\":{}}\n",
+    )
 }
 
 #[test]
@@ -141,7 +185,8 @@ stuck                      0
     ];
     let subject = Subject::Term(Translation::Two);
     for (text, columns, end, table) in rows {
-        assert_table(&rt, rt.alloc(), subject, text, columns, end, table)?;
+        let asked = (columns, Layout::Lines);
+        assert_written(&rt, rt.alloc(), subject, text, asked, end, table)?;
     }
     Ok(())
 }

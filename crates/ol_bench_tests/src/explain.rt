@@ -5,6 +5,7 @@ ghost use Rattle.ol_bench.specs.Commands.{IsTwoWithin, IsWithinBounds};
 use crate::fakes::{file, named};
 use ol_bench::{Asked, OnTwo, Status, bench};
 use ol_io::{MemSink, MemSource};
+use ol_objects::Layout;
 use ol_subjects::Subject;
 use ol_term::Translation;
 use std::alloc::{AllocError, Global};
@@ -19,6 +20,10 @@ const NET: &str =
 // A stuck pair and an active one.
 const TWO_PAIRS: &str =
     "ol net 1\nfree 8\nnode lam 0\nnode lam 0\nnode app 0\nnode lam 0\nlink f0 0.1\nlink f1 0.2\nlink f2 1.1\nlink f3 1.2\nlink f4 2.1\nlink f5 2.2\nlink f6 3.1\nlink f7 3.2\nlink 0.0 1.0\nlink 2.0 3.0\n";
+
+// Two active pairs.
+const TWO_ERASERS: &str =
+    "ol net 1\nfree 0\nnode eraser -\nnode eraser -\nnode eraser -\nnode eraser -\nlink 0.0 1.0\nlink 2.0 3.0\n";
 
 // One pair more than are told.
 const MANY_PAIRS: &str =
@@ -83,7 +88,8 @@ pub fn assert_explained(
     row: (&str, Status, &str),
 ) -> Result<(), Fail> {
     let (subject, text) = of;
-    assert_told(rt, alloc, OnTwo::Explain { subject }, text, row)
+    let layout = Layout::Lines;
+    assert_told(rt, alloc, OnTwo::Explain { subject, layout }, text, row)
 }
 
 // The same, of `check` of a term.
@@ -94,7 +100,78 @@ fn assert_judged(
     row: (&str, Status, &str),
 ) -> Result<(), Fail> {
     let subject = Subject::Term(Translation::Two);
-    assert_told(rt, alloc, OnTwo::Check { subject }, text, row)
+    let layout = Layout::Lines;
+    assert_told(rt, alloc, OnTwo::Check { subject, layout }, text, row)
+}
+
+#[test]
+fn findings_are_objects(rt: HostRuntime) -> Result<(), Fail> {
+    let rows: [(&str, Status, &str); 3] = [
+        (JOURNAL, Status::Yes, "{\"verdict\":\"complete\"}\n"),
+        (
+            "ol trace 1\n",
+            Status::Run,
+            "{\"verdict\":\"run\",\"entries\":0}\n",
+        ),
+        (
+            "",
+            Status::BadText,
+            "{\"verdict\":\"bad text\",\"line\":1}\n",
+        ),
+    ];
+    let subject = Subject::Term(Translation::Two);
+    let layout = Layout::Object;
+    for row in rows {
+        assert_told(&rt, rt.alloc(), OnTwo::Check { subject, layout }, TERM, row)?;
+    }
+    Ok(())
+}
+
+#[test]
+fn causes_are_objects(rt: HostRuntime) -> Result<(), Fail> {
+    let rows: [(&str, Status, &str); 4] = [
+        (
+            JOURNAL,
+            Status::Yes,
+            "{\"verdict\":\"complete\",\"why\":[]}\n",
+        ),
+        (
+            "ol trace 1\n0 1\n",
+            Status::Run,
+            "{\"verdict\":\"run\",\"entries\":1,\"why\":[\"cross-croissant 2 2 3\"]}\n",
+        ),
+        (
+            "ol trace 1\n0 1\n1 2\n",
+            Status::NotARun,
+            "{\"verdict\":\"not a run\",\"line\":3,\"why\":[\"1 is gone, by line 2\"]}\n",
+        ),
+        (
+            "ol trace 1\n3 2\n",
+            Status::BadText,
+            "{\"verdict\":\"bad text\",\"line\":2,\"why\":[\"byte 13: wanted a name greater than 3\"]}\n",
+        ),
+    ];
+    let subject = Subject::Term(Translation::Two);
+    let layout = Layout::Object;
+    for row in rows {
+        assert_told(
+            &rt,
+            rt.alloc(),
+            OnTwo::Explain { subject, layout },
+            TERM,
+            row,
+        )?;
+    }
+    let row = ("ol trace 1\n", Status::Refused, "bad net at line 1\n");
+    let command = OnTwo::Explain {
+        subject: Subject::Net,
+        layout,
+    };
+    assert_told(&rt, rt.alloc(), command, "", row)?;
+    let two_left =
+        "{\"verdict\":\"run\",\"entries\":0,\"why\":[\"erase 1 0 1\",\"erase 1 2 3\"]}\n";
+    let row = ("ol trace 1\n", Status::Run, two_left);
+    assert_told(&rt, rt.alloc(), command, TWO_ERASERS, row)
 }
 
 #[test]

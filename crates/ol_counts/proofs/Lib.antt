@@ -1,2 +1,3 @@
 pub mod OneSubject
 pub mod Onward
+pub mod RowOn

@@ -7,11 +7,13 @@ ghost use Rattle.ol_limits.specs.Limits.{most_net_bytes, most_nodes, most_term_b
 ghost use Rattle.ol_counts.specs.Counted.{AreColumns, IsCounted};
 ghost use Rattle.ol_counts.specs.Tabled.{tree_in, IsTabled};
 
-use crate::tables::{Column, end_of, table};
+use crate::objects::text_in;
+use crate::tables::{Column, end_of};
 use crate::tallies::tally_of;
 use crate::ways::{Bounds, Columns, WAYS, is_shown};
 use ol_memory::NoMemory;
 use ol_net::Net;
+use ol_objects::Layout;
 use ol_subjects::{Answer, End, NetRead, Subject, TermRead, read_subject, read_term};
 use ol_term::{Term, Translation};
 use std::alloc::Global;
@@ -47,15 +49,16 @@ fn tabled(
     term: Option<&Term>,
     bounds: Bounds,
     columns: Columns,
+    layout: Layout,
 ) -> Result<Answer, NoMemory>
     requires few { length net.now.nodes ≤ most_nodes }
     requires bound { IfSome (tree_in term) (λ t. is_below 0 t ≡ true) }
     requires counted { IfSome (tree_in term) (λ t. term_size t < 2 ^ 64) }
     ensures { IfOk result (λ a. IsTabled net.now (tree_in term.entry)
-        bounds columns a.text.items a.end) }
+        bounds columns layout a.text.items a.end) }
 {
     let shown = columns_of(alloc, net, term, bounds, columns)?;
-    let text = table(alloc, &shown)?;
+    let text = text_in(alloc, layout, &shown)?;
     let end = end_of(&shown);
     Ok(Answer { text, end })
 }
@@ -67,10 +70,11 @@ fn of_term_file(
     translation: Translation,
     bounds: Bounds,
     columns: Columns,
+    layout: Layout,
 ) -> Result<Answer, NoMemory>
     requires short { length bytes.now ≤ most_term_bytes }
     ensures { IfOk result (λ a.
-        IsCounted bytes.now bounds columns a.text.items (Subject.Term translation) a.end) }
+        IsCounted bytes.now bounds columns layout a.text.items (Subject.Term translation) a.end) }
 {
     match read_term(alloc, bytes, translation)? {
         TermRead::Refused(text) => {
@@ -78,7 +82,7 @@ fn of_term_file(
             Ok(Answer { text, end })
         }
         TermRead::Term { net, file } => {
-            let answer = tabled(alloc, &net, Some(&file.term), bounds, columns)?;
+            let answer = tabled(alloc, &net, Some(&file.term), bounds, columns, layout)?;
             Ok(answer)
         }
     }
@@ -90,10 +94,11 @@ fn of_net_file(
     bytes: &[u8],
     bounds: Bounds,
     columns: Columns,
+    layout: Layout,
 ) -> Result<Answer, NoMemory>
     requires short { length bytes.now ≤ most_net_bytes }
     ensures { IfOk result (λ a.
-        IsCounted bytes.now bounds columns a.text.items Subject.Net a.end) }
+        IsCounted bytes.now bounds columns layout a.text.items Subject.Net a.end) }
 {
     match read_subject(alloc, bytes, Subject::Net)? {
         NetRead::Refused(text) => {
@@ -101,7 +106,7 @@ fn of_net_file(
             Ok(Answer { text, end })
         }
         NetRead::Net(net) => {
-            let answer = tabled(alloc, &net, None, bounds, columns)?;
+            let answer = tabled(alloc, &net, None, bounds, columns, layout)?;
             Ok(answer)
         }
     }
@@ -121,6 +126,10 @@ fn of_net_file(
 /// The ways that aren't runs of the net have beta steps alone. If no run is shown, the row of beta
 /// steps is the only one.
 ///
+/// As `Layout::Object` it is a JSON object on one line: `columns` is an object with a member for each
+/// column, by its title. That is an object of numbers, by the names of the rows that the way has, or
+/// `null` where the table has hyphens alone.
+///
 /// A hyphen stands where there is nothing to count: of a net alone only runs are counted. It also
 /// stands in a column whose way goes on beyond its bound. For an order that is beyond `steps`, or
 /// to a term of more than 100,000 constructors or of more than 1,000 of them one within another.
@@ -139,17 +148,18 @@ pub fn counted(
     subject: Subject,
     bounds: Bounds,
     columns: Columns,
+    layout: Layout,
 ) -> Result<Answer, NoMemory>
     requires short { length bytes.now ≤ most_bytes subject }
-    ensures { IfOk result (λ a. IsCounted bytes.now bounds columns a.text.items subject a.end) }
+    ensures { IfOk result (λ a. IsCounted bytes.now bounds columns layout a.text.items subject a.end) }
 {
     match subject {
         Subject::Net => {
-            let answer = of_net_file(alloc, bytes, bounds, columns)?;
+            let answer = of_net_file(alloc, bytes, bounds, columns, layout)?;
             Ok(answer)
         }
         Subject::Term(translation) => {
-            let answer = of_term_file(alloc, bytes, translation, bounds, columns)?;
+            let answer = of_term_file(alloc, bytes, translation, bounds, columns, layout)?;
             Ok(answer)
         }
     }

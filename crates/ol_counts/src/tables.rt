@@ -45,8 +45,8 @@ pub enum Row {
     Stuck,
 }
 
-// The rows that only runs of a net have.
-const NET_ROWS: [Row; 9] = [
+/// The rows that only runs of a net have.
+pub const NET_ROWS: [Row; 9] = [
     Row::Fan,
     Row::Croissant,
     Row::Bracket,
@@ -78,8 +78,8 @@ fn row_name(row: Row) -> &'static str
     }
 }
 
-// The number of a row of a run.
-fn in_row(row: Row, counts: Counts, stuck: u32) -> u64
+/// The number of a row of a run.
+pub fn in_row(row: Row, counts: Counts, stuck: u32) -> u64
     ensures { result ≡ in_row row counts stuck }
 {
     match row {

@@ -13,6 +13,6 @@ pub returns-in_ok-answer-in-Net : goal.returns-in_ok-answer-in-Net
 returns-in_ok-answer-in-Net c =
     let r = subst (IsSubjectRead subject.Net c.args.bytes.now) c.in-Net.is c.in_ok-text.ensures in
     let a = c.in_ok-answer-in-Net.ensures in
-    subst (λ (e : End). IsCounted c.args.bytes.now c.args.bounds c.args.columns c.in_ok-answer-in-Net.answer.text.items
+    subst (λ (e : End). IsCounted c.args.bytes.now c.args.bounds c.args.columns c.args.layout c.in_ok-answer-in-Net.answer.text.items
     subject.Net e) (sym a.end_is)
     (of_net (read_of c.args.bytes.now c.in-Net.net r.0) a.are a.text_is)

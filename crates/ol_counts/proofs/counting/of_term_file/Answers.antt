@@ -13,6 +13,6 @@ pub returns-in_ok-answer-in-Term : goal.returns-in_ok-answer-in-Term
 returns-in_ok-answer-in-Term c =
     let r = subst (IsTermRead c.args.translation c.args.bytes.now) c.in-Term.is c.in_ok-text.ensures in
     let a = c.in_ok-answer-in-Term.ensures in
-    subst (λ (e : End). IsCounted c.args.bytes.now c.args.bounds c.args.columns c.in_ok-answer-in-Term.answer.text.items
+    subst (λ (e : End). IsCounted c.args.bytes.now c.args.bounds c.args.columns c.args.layout c.in_ok-answer-in-Term.answer.text.items
     (subject.Term c.args.translation) e) (sym a.end_is)
     (of_term r.term r.ready a.are a.text_is)
