@@ -28,6 +28,7 @@ LONG = [
     Long("afters", "`ol-bench after` on 1,000 terms", None),
     Long("explains", "`ol-bench explain` on 1,000 terms", None),
     Long("sames", "`ol-bench same` on 1,000 terms", None),
+    Long("objects", "`--json` of `ol-bench` on 1,000 terms, read by Python", None),
     Long("rounds", "`ol-bench journal --order rounds` on 1,000 terms", None),
     Long("faults/many", "a runtime with eight faults on 300 terms", None),
     Long("bugs", "fourteen bugs in a plain runtime, with the commands that tell each", None),
