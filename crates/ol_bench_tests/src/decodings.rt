@@ -27,6 +27,37 @@ fn assert_row(rt: &impl Abort, alloc: Global, row: (&str, End, &str)) -> Result<
     Ok(())
 }
 
+// Asserts how what is shown of a term ends, of which 2,000 places are asked.
+fn assert_tail(rt: &impl Abort, alloc: Global, row: (&str, End, &str)) -> Result<(), Fail> {
+    let (text, end, tail) = row;
+    if text.len() > 1_000 {
+        return Err(Fail::from("too long"));
+    }
+    let fuel = Fuel::of(1_000_000);
+    let heads = Heads::of(2_000);
+    let answer = show(alloc, text.as_bytes(), Translation::Two, fuel, heads)
+        .ok()
+        .ok_or("no memory")?;
+    assert!(rt; answer.text.as_slice().ends_with(tail.as_bytes()), "{tail}");
+    assert_eq!(rt; answer.end, end, "{tail}");
+    Ok(())
+}
+
+// Two to the tenth is 1,024. A chain of so many applications under one abstraction is 1,026 deep.
+#[test]
+fn numerals_are_decoded_however_deep(rt: HostRuntime) -> Result<(), Fail> {
+    let numeral = "(\\f x. f (f (f (f (f (f (f (f (f (f x)))))))))) (\\f x. f (f x))";
+    let chain = "\\f. (\\f x. f (f (f (f (f (f (f (f (f (f x)))))))))) (\\f x. f (f x)) f z";
+    let rows: [(&str, End, &str); 2] = [
+        (numeral, End::Yes, "\nChurch numeral 1024\n"),
+        (chain, End::No, "\ntoo deep to decode: depth 1026\n"),
+    ];
+    for row in rows {
+        assert_tail(&rt, rt.alloc(), row)?;
+    }
+    Ok(())
+}
+
 #[test]
 fn normal_forms_are_decoded(rt: HostRuntime) -> Result<(), Fail> {
     let three = "let two = \\f x. f (f x) in let next = \\n f x. f (n f x) in next two";
