@@ -1,3 +1,4 @@
+pub mod Linked
 pub mod Decoding
 pub mod Fitting
 pub mod Saying

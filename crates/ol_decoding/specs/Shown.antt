@@ -1,5 +1,5 @@
 -- The answer of `show`: a term's normal form, and what is told of it.
-use Rattle.std.specs.Prelude.{◌≡◌, ℕ, List, [], ◌++◌, codes}
+use Rattle.std.specs.Prelude.{◌≡◌, ℕ, List, [], ◌++◌, codes, None}
 use Rattle.std.specs.Fmt.{decimal}
 use Rattle.ol_term.specs.declared.translations.Translation.{Translation}
 use Rattle.ol_term.specs.Trees.{Tree}
@@ -16,6 +16,7 @@ use Rattle.ol_law_meaning.specs.Shows.{LeftmostReduces}
 use Rattle.ol_subjects.specs.declared.answers.End.{End}
 use Rattle.ol_subjects.specs.declared.answers.End.TheVariants.{Yes, No, Refused}
 use Rattle.ol_subjects.specs.Subjects.{IsTerm, IsNetOfTerm, RefusesTerm}
+use Rattle.ol_decoding.specs.Numerals.{IsNumeralOf}
 use Rattle.ol_decoding.specs.Told.{IsTold, SomeFits}
 
 -- leftmost reduction leads from a term to this one, which is normal
@@ -40,8 +41,8 @@ pub data TellsTree (names : List (List ℕ)) (ns : List ReadNode) (text : List �
   -- place k is the first that has no head or was cut
   holes : {printed : List ℕ} (k : ℕ) → IsTextOf names ns printed → IsFirstHole ns k →
       text ≡ printed ++ codes "\nholes are left\n" → TellsTree names ns text No
-  -- the term is more than 1,000 deep
-  deep : {printed : List ℕ} (d : ℕ) → IsTextOf names ns printed → IsTreeTooDeep ns d →
+  -- the term is more than 1,000 deep, and no Church numeral
+  deep : {printed : List ℕ} (d : ℕ) → IsTextOf names ns printed → IsTreeTooDeep ns d → IsNumeralOf ns None →
       text ≡ printed ++ codes "\n" ++ deep_line d → TellsTree names ns text No
   -- some value fits the term
   fits : {printed told : List ℕ} {u : Tree} → IsTextOf names ns printed → IsTermOf ns u → IsTold [] u told →

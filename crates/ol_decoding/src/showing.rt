@@ -2,11 +2,13 @@
 
 ghost use Rattle.std.specs.Prelude.{◌≡◌, ◌+◌, ◌≤◌, if◌then◌else◌, length, IfOk};
 ghost use Rattle.ol_limits.specs.Limits.{most_nodes, most_term_bytes};
-ghost use Rattle.ol_readback.specs.Texts.{AreNamed};
+ghost use Rattle.ol_readback.specs.Texts.{AreNamed, IsTextOf};
+ghost use Rattle.ol_beta.specs.TreeTerms.{IsTreeTooDeep};
 ghost use Rattle.ol_decoding.specs.Shown.{fuel_line, deep_line, TellsTree, IsShown};
-ghost use Rattle.ol_decoding.specs.Inside.{TellsNet};
+ghost use Rattle.ol_decoding.specs.Inside.{deep_text, TellsDeep, TellsNet};
 
-use crate::telling::tell;
+use crate::numerals::numeral;
+use crate::telling::{Told, put_count, tell};
 use ol_beta::{TreeFault, tree_term};
 use ol_demand::{Demanded, demand};
 use ol_limits::{Fuel, Heads};
@@ -45,6 +47,51 @@ fn end_of(fits: bool) -> End
     if fits { End::Yes } else { End::No }
 }
 
+// What is told of a term that is too deep to be built, if it is the Church numeral of this number,
+// or of none.
+fn deep_text(alloc: Global, depth: u64, number: Option<u32>) -> Result<Vec<u8>, NoMemory>
+    ensures { IfOk result (λ text. text.items ≡ deep_text depth number) }
+{
+    match number {
+        None => deep_line(alloc, depth),
+        Some(_) => {
+            let mut text = Vec::new(alloc);
+            put_count(alloc, &mut text, b"", b"Church numeral ", number)?;
+            Ok(text)
+        }
+    }
+}
+
+// What is told of a tree whose term is too deep to be built: a Church numeral is found without it.
+fn told_of_deep(alloc: Global, tree: &ReadTree, depth: u64) -> Result<Told, NoMemory>
+    ensures { IfOk result (λ r. TellsDeep tree.now depth r.text.items r.fits) }
+{
+    let number = numeral(tree);
+    let text = deep_text(alloc, depth, number)?;
+    let fits = number.is_some();
+    Ok(Told { text, fits })
+}
+
+// The answer for a tree whose term is too deep, behind its printed text.
+fn of_deep(
+    alloc: Global,
+    tree: &ReadTree,
+    names: &Names,
+    printed: Vec<u8>,
+    depth: u64,
+) -> Result<Answer, NoMemory>
+    requires printed { IsTextOf names.now tree.now printed.items }
+    requires deep { IsTreeTooDeep tree.now depth }
+    ensures { IfOk result (λ a. TellsTree names.now tree.now a.text.items a.end) }
+{
+    let said = told_of_deep(alloc, tree, depth)?;
+    let mut text = printed;
+    put(&mut text, b"\n")?;
+    put(&mut text, &said.text)?;
+    let end = end_of(said.fits);
+    Ok(Answer { text, end })
+}
+
 // The answer for a tree that was read.
 fn of_tree(alloc: Global, tree: &ReadTree, names: &Names) -> Result<Answer, NoMemory>
     requires named { AreNamed (length names.now) tree.now }
@@ -66,11 +113,8 @@ fn of_tree(alloc: Global, tree: &ReadTree, names: &Names) -> Result<Answer, NoMe
                 Ok(Answer { text, end })
             }
             TreeFault::Deep { depth } => {
-                let line = deep_line(alloc, depth)?;
-                put(&mut text, b"\n")?;
-                put(&mut text, &line)?;
-                let end = End::No;
-                Ok(Answer { text, end })
+                let answer = of_deep(alloc, tree, names, text, depth)?;
+                Ok(answer)
             }
             TreeFault::NoMemory => Err(NoMemory),
         },
@@ -110,9 +154,9 @@ fn of_net(
 ///
 /// - `Yes`: some value fits the normal form. A line for each that does, and what fits the parts of
 ///   a pair and the items of a list, each behind its number.
-/// - `No`: none does, and the line is `no encoding fits`; the normal form is more than 1,000 deep;
-///   the printed term has `?` or `...` in some place; or demand order goes on beyond the fuel, and
-///   nothing is printed but that.
+/// - `No`: none does, and the line is `no encoding fits`; the normal form is more than 1,000 deep
+///   and no Church numeral; the printed term has `?` or `...` in some place; or demand order goes
+///   on beyond the fuel, and nothing is printed but that.
 /// - `Refused`: `ol` refuses the file, by this line.
 ///
 /// Truth values are `\a b. a` and `\a b. b`, and the pair of a and b is `\f. f a b` (Barendregt,

@@ -33,7 +33,7 @@ fn put_truth(text: &mut Vec<u8>, number: &[u8], truth: Option<bool>) -> Result<(
 }
 
 // The line of some words and a number, where there is one.
-fn put_count(
+pub fn put_count(
     alloc: Global,
     text: &mut Vec<u8>,
     number: &[u8],

@@ -1,7 +1,7 @@
 use Rattle.std.proofs.Common.{◌++◌, sym, ap, ◌∙◌, subst}
 use Rattle.ol_term.specs.Trees.{tree_of}
 use Rattle.ol_beta.specs.TreeTerms.{IsTreeFault}
-use Rattle.ol_decoding.specs.Shown.{TellsTree, deep_line, holes, deep}
+use Rattle.ol_decoding.specs.Shown.{TellsTree, holes}
 use Rattle.ol_decoding.proofs.Answering.{tells}
 use Rattle.ol_decoding.proofs.showing.of_tree.Goals as goal
 
@@ -20,10 +20,8 @@ returns-in_ok-put-in-NotWhole c =
     holes c.in-NotWhole.place c.in_ok-text.ensures.text
     (subst (IsTreeFault c.args.tree.now) c.in-NotWhole.is c.in-Err.ensures.refusal) c.in_ok-put-in-NotWhole.ensures
 
-pub returns-in_ok-put-in-Deep-2 : goal.returns-in_ok-put-in-Deep-2
-returns-in_ok-put-in-Deep-2 c =
-    let line = c.deref-in-Deep.ensures.value ∙ c.in_ok-line-in-Deep.ensures in
-    deep c.in-Deep.depth c.in_ok-text.ensures.text
-    (subst (IsTreeFault c.args.tree.now) c.in-Deep.is c.in-Err.ensures.refusal)
-    (c.in_ok-put-in-Deep-2.ensures ∙ ap (λ x. c.put-in-Deep.new.text.items ++ x) line
-    ∙ ap (λ x. x ++ deep_line c.in-Deep.depth) c.in_ok-put-in-Deep.ensures)
+pub of_deep-requires : goal.of_deep-requires
+of_deep-requires c = record {
+  printed = c.in_ok-text.ensures.text;
+  deep = subst (IsTreeFault c.args.tree.now) c.in-Deep.is c.in-Err.ensures.refusal;
+}
