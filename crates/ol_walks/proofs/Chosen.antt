@@ -14,7 +14,7 @@ use Rattle.ol_context.proofs.Shapes.{map_more, extends_refl, extends_trans}
 use Rattle.ol_walks.specs.declared.trailing.Ending.{Ending}
 use Rattle.ol_walks.specs.declared.trailing.Ending.TheVariants.{Barred}
 use Rattle.ol_walks.specs.Lines.{IsWritten, question_line}
-use Rattle.ol_walks.specs.Trails.{IsQuestion, AreQuestions, AreLinesOf}
+use Rattle.ol_walks.specs.Trails.{IsFrameQuestion, AreQuestions, AreLinesOf}
 use Rattle.ol_context.specs.Shapes.{IsHeld}
 use Rattle.ol_context.proofs.ValueLists.{held_append}
 use Rattle.ol_walks.specs.Trails as trails
@@ -66,8 +66,8 @@ module _ (N : NamedNet ℕ) (port : ℕ) (ls : List ℕ) (lines : ℕ) (first : 
   pub is_answered : e ≢ Barred → AreQuestions N port (map (value first) ls) 0 lines new
   is_answered b = q.on new own.0 (trails.AreQuestions.answered own.1 b) own.2
 
-  barred : e ≡ Barred → IsQuestion N port (map (value first) ls) n left own.0 Barred last
-  barred b = subst (λ e. IsQuestion N port (map (value first) ls) n left own.0 e last) b own.1
+  barred : e ≡ Barred → IsFrameQuestion N port (map (value first) ls) n left own.0 Barred last
+  barred b = subst (λ e. IsFrameQuestion N port (map (value first) ls) n left own.0 e last) b own.1
 
   pub is_lost : e ≡ Barred → live N ≤ n → AreQuestions N port (map (value first) ls) 0 lines new
   is_lost b m = q.on new own.0 (trails.AreQuestions.lost (barred b) m) own.2
@@ -124,6 +124,6 @@ chosen N port ls first vs h x question n lines old new e last q z a =
     subst (λ (o : Option ℕ). AreLinesOf N port (map (value first) ls) o lines new) (sym q) (
       e,
       last,
-      subst (λ (y : List ℕ). IsQuestion N port (map (value first) ls) n lines y e last)
+      subst (λ (y : List ℕ). IsFrameQuestion N port (map (value first) ls) n lines y e last)
           (sym (b.2 ∙ ap (λ (y : List ℕ). y ++ b.0) z)) b.1,
     )

@@ -18,7 +18,7 @@ use Rattle.ol_readback.specs.declared.frames.Frame as listed
 use Rattle.ol_readback.proofs.FrameLists.{count_frames}
 use Rattle.ol_readback.proofs.Forests.{frame_last}
 use Rattle.ol_readback.proofs.One.{tree_is_one}
-use Rattle.ol_walks.specs.Reached.{Reaches, start, on, IsAskedAt}
+use Rattle.ol_walks.specs.Reached.{ReachesPlace, start, on, IsAskedAt}
 use Rattle.ol_walks.specs.Trails.{AreLinesOf}
 use Rattle.ol_walks.specs.Inside.{IsWatched, IsSeen}
 
@@ -29,7 +29,7 @@ step N heads edges F s ss ms ns f n z = subst (λ (ks : List ReadNode). IsTree N
     (sym (append_assoc ms (n ∷ []) ns)) (f (n ∷ ns) z)
 
 -- each reading that came so far goes on to a tree
-onward : (N : NamedNet ℕ) (heads edges : ℕ) (r : Reading) → Reaches N heads edges r → (ns : List ReadNode) →
+onward : (N : NamedNet ℕ) (heads edges : ℕ) (r : Reading) → ReachesPlace N heads edges r → (ns : List ReadNode) →
     ReadsBack N heads edges r.frames r.waiting ns → IsTree N heads edges (r.places ++ ns)
 onward N heads edges r start ns y = y
 onward N heads edges r (on {F} {s} {ss} {ns = ms} {a} x b h) ns y =
@@ -44,7 +44,7 @@ onward N heads edges r (on {F} {s} {ss} {ns = ms} {a} x b h) ns y =
     go f budget h y = step N heads edges F s ss ms ns f node.Cut (tree.spent b h y)
 
 -- as many places as frames
-as_many : (N : NamedNet ℕ) (heads edges : ℕ) (r : Reading) → Reaches N heads edges r → length r.places ≡ length r.frames
+as_many : (N : NamedNet ℕ) (heads edges : ℕ) (r : Reading) → ReachesPlace N heads edges r → length r.places ≡ length r.frames
 as_many N heads edges r start = refl
 as_many N heads edges r (on {F} {s} {ss} {ns = ms} {a} x b h) = go a (as_many N heads edges (so_far F (s ∷ ss) ms) x)
   where

@@ -17,7 +17,7 @@ use Rattle.ol_context.proofs.Shapes.{extends_refl, extends_trans}
 use Rattle.ol_context.proofs.Walked.{through_port}
 use Rattle.ol_walks.specs.declared.trailing.Ending.{Ending}
 use Rattle.ol_walks.specs.declared.trailing.Ending.TheVariants.{Gone, Barred, More}
-use Rattle.ol_walks.specs.Lines.{IsWritten, entered, crossing_line, barred_line, gone_line, more_line}
+use Rattle.ol_walks.specs.Lines.{IsWritten, entered_text, crossing_line, barred_line, gone_line, more_line}
 use Rattle.ol_walks.specs.Trails as trails
 use Rattle.ol_walks.specs.Inside.{AddsContext, AddsCrossing, AddsBarred, AddsTrail}
 
@@ -55,7 +55,7 @@ module _ (N : NamedNet ℕ) (net : IsNet N) where
         trails.IsTrail.through x s r i' k' w rest l n' (subst (λ k. Crosses k i' s c r d) same.0
             (subst (λ i. Crosses k i s c r d) same.1 y)) W T,
         t' ∙ ap (λ (a : List ℕ). a ++ rest) (t ∙ ap (λ (a : List ℕ). text
-            ++ (entered x s k' i' ++ (a ++ (codes " " ++ (w ++ codes "\n"))))) o)
+            ++ (entered_text x s k' i' ++ (a ++ (codes " " ++ (w ++ codes "\n"))))) o)
             ∙ append_assoc text (crossing_line x s k' i' r w) rest,
       )
 

@@ -12,9 +12,9 @@ use Rattle.ol_readback.specs.declared.answers.ReadNode.{ReadNode}
 use Rattle.ol_equal.specs.Walking.{args_of}
 use Rattle.ol_walks.specs.declared.telling.Wanted.{Wanted}
 use Rattle.ol_walks.specs.declared.trailing.Ending.{Ending}
-use Rattle.ol_walks.specs.Lines.{IsWritten, entered, barred_line}
-use Rattle.ol_walks.specs.Trails.{IsTrail, IsQuestion, AreLinesOf}
-use Rattle.ol_walks.specs.Reached.{Reaches, IsAskedAt}
+use Rattle.ol_walks.specs.Lines.{IsWritten, entered_text, barred_line}
+use Rattle.ol_walks.specs.Trails.{IsTrail, IsFrameQuestion, AreLinesOf}
+use Rattle.ol_walks.specs.Reached.{ReachesPlace, IsAskedAt}
 use Rattle.ol_walks.specs.Answers.{IsVarText, IsHeadLine, TellsPlace}
 use Rattle.ol_subjects.specs.declared.answers.End.{End}
 
@@ -26,7 +26,7 @@ AddsContext c old new = (text : List ℕ) × IsWritten c text × (new ≡ old ++
 abbrev pub AddsCrossing : NamedNet ℕ → NamedPort ℕ → List ℕ → Context → List ℕ → List ℕ → Type 0
 AddsCrossing N (free k) out d old new = ⊥
 AddsCrossing N (slot x s) out d old new = (k : Kind) × (i : ℕ) × (context : List ℕ) × HasNode N x k i
-    × IsWritten d context × (new ≡ old ++ (entered x s k i ++ (out ++ (codes " " ++ (context ++ codes "\n")))))
+    × IsWritten d context × (new ≡ old ++ (entered_text x s k i ++ (out ++ (codes " " ++ (context ++ codes "\n")))))
 
 -- the line of a crossing from this port that is not defined
 abbrev pub AddsBarred : NamedNet ℕ → NamedPort ℕ → List ℕ → List ℕ → Type 0
@@ -41,14 +41,14 @@ AddsTrail N p c left old new e last = (text : List ℕ) × IsTrail N p c left te
 -- the lines of a question are added
 abbrev pub AddsQuestion : NamedNet ℕ → ℕ → List Level → ℕ → ℕ → List ℕ → List ℕ → Ending → ℕ → Type 0
 AddsQuestion N port ls n left old new e last =
-    (text : List ℕ) × IsQuestion N port ls n left text e last × (new ≡ old ++ text)
+    (text : List ℕ) × IsFrameQuestion N port ls n left text e last × (new ≡ old ++ text)
 
 -- A reading of the first net has come so far, with the same bounds, and place k isn't asked yet.
 pub record IsWatched (g g' : Graph) (heads edges edges' k k' : ℕ) (r : Reading) : Type 0 where
   pub graph : g' ≡ g
   pub edges_stay : edges' ≡ edges
   pub place_stays : k' ≡ k
-  pub reached : Reaches (net_of g) heads edges r
+  pub reached : ReachesPlace (net_of g) heads edges r
   pub before : length r.frames ≤ k
 
 -- place k was asked, and these are its lines

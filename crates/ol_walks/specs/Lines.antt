@@ -31,18 +31,18 @@ pub record IsWritten (c : Context) (text : List ℕ) : Type 0 where
   pub text_is : text ≡ levels_text written
 
 -- the port that is entered, and kind and index of its node
-abbrev pub entered : ℕ → ℕ → Kind → ℕ → List ℕ
-entered x s k i = port_text (Of (record { 0 = x }) s)
+abbrev pub entered_text : ℕ → ℕ → Kind → ℕ → List ℕ
+entered_text x s k i = port_text (Of (record { 0 = x }) s)
     ++ (codes " " ++ (kind_text k ++ (codes " " ++ (index_text k i ++ codes " "))))
 
 -- a crossing, with the port by which the node is left and the text of the context after it
 abbrev pub crossing_line : ℕ → ℕ → Kind → ℕ → ℕ → List ℕ → List ℕ
-crossing_line x s k i t context = entered x s k i
+crossing_line x s k i t context = entered_text x s k i
     ++ (port_text (Of (record { 0 = x }) t) ++ (codes " " ++ (context ++ codes "\n")))
 
 -- a crossing that is not defined
 abbrev pub barred_line : ℕ → ℕ → Kind → ℕ → List ℕ
-barred_line x s k i = entered x s k i ++ codes "undefined\n"
+barred_line x s k i = entered_text x s k i ++ codes "undefined\n"
 
 -- the end of a walk at a free port
 abbrev pub gone_line : ℕ → List ℕ

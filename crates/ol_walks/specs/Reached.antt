@@ -8,18 +8,18 @@ use Rattle.ol_readback.specs.ReadTrees.{Subterm, framed}
 use Rattle.ol_readback.specs.declared.answers.ReadNode.{ReadNode}
 
 -- a reading of the net comes so far, if so many places are asked
-pub data Reaches (N : NamedNet ℕ) (heads edges : ℕ) : Reading → Type 0 where
-  start : Reaches N heads edges the_start
+pub data ReachesPlace (N : NamedNet ℕ) (heads edges : ℕ) : Reading → Type 0 where
+  start : ReachesPlace N heads edges the_start
   on : {F : List Frame} {s : Subterm} {ss : List Subterm} {ns : List ReadNode} {a : Answer} →
-      Reaches N heads edges (so_far F (s ∷ ss) ns) → length F < heads →
+      ReachesPlace N heads edges (so_far F (s ∷ ss) ns) → length F < heads →
       IsHeadWithin N (F ++ framed s 0 ∷ []) (length F) edges a →
-      Reaches N heads edges (found ns F s ss a)
+      ReachesPlace N heads edges (found ns F s ss a)
 
 -- place k is asked, and this is its subterm
 pub record IsAskedAt (N : NamedNet ℕ) (heads edges k : ℕ) (s : Subterm) : Type 0 where
   pub frames : List Frame
   pub later : List Subterm
   pub places : List ReadNode
-  pub reached : Reaches N heads edges (so_far frames (s ∷ later) places)
+  pub reached : ReachesPlace N heads edges (so_far frames (s ∷ later) places)
   pub is_there : length frames ≡ k
   pub within : k < heads

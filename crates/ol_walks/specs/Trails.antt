@@ -30,7 +30,7 @@ pub data IsTrail (N : NamedNet ℕ) : NamedPort ℕ → Context → ℕ → List
       IsTrail N p c (suc left) (crossing_line x s k i t context ++ rest) e last
 
 -- the lines of the question for n abstractions to a frame of this port and these levels
-pub record IsQuestion (N : NamedNet ℕ) (port : ℕ) (ls : List Level) (n left : ℕ) (text : List ℕ) (e : Ending)
+pub record IsFrameQuestion (N : NamedNet ℕ) (port : ℕ) (ls : List Level) (n left : ℕ) (text : List ℕ) (e : Ending)
     (last : ℕ) : Type 0 where
   pub context : List ℕ
   pub written : IsWritten (asked ls n) context
@@ -41,14 +41,14 @@ pub record IsQuestion (N : NamedNet ℕ) (port : ℕ) (ls : List Level) (n left 
 -- The lines of the questions for n abstractions, for one more, and so on, up to the first whose walk
 -- is defined, or to that for as many as there are nodes.
 pub data AreQuestions (N : NamedNet ℕ) (port : ℕ) (ls : List Level) : ℕ → ℕ → List ℕ → Type 0 where
-  answered : {n left last : ℕ} {text : List ℕ} {e : Ending} → IsQuestion N port ls n left text e last →
+  answered : {n left last : ℕ} {text : List ℕ} {e : Ending} → IsFrameQuestion N port ls n left text e last →
       e ≢ Barred → AreQuestions N port ls n left text
-  lost : {n left last : ℕ} {text : List ℕ} → IsQuestion N port ls n left text Barred last → live N ≤ n →
+  lost : {n left last : ℕ} {text : List ℕ} → IsFrameQuestion N port ls n left text Barred last → live N ≤ n →
       AreQuestions N port ls n left text
-  next : {n left last : ℕ} {text rest : List ℕ} → IsQuestion N port ls n left text Barred last → n < live N →
+  next : {n left last : ℕ} {text rest : List ℕ} → IsFrameQuestion N port ls n left text Barred last → n < live N →
       AreQuestions N port ls (suc n) last rest → AreQuestions N port ls n left (text ++ rest)
 
 -- the lines of the one question that is chosen, or of all
 abbrev pub AreLinesOf : NamedNet ℕ → ℕ → List Level → Option ℕ → ℕ → List ℕ → Type 0
 AreLinesOf N port ls None lines text = AreQuestions N port ls 0 lines text
-AreLinesOf N port ls (Some n) lines text = (e : Ending) × (last : ℕ) × IsQuestion N port ls n lines text e last
+AreLinesOf N port ls (Some n) lines text = (e : Ending) × (last : ℕ) × IsFrameQuestion N port ls n lines text e last

@@ -6,7 +6,7 @@ ghost use Rattle.ol_net.specs.Numbered.{net_of, numbered_port};
 ghost use Rattle.ol_net.specs.PartTexts.{port_text};
 ghost use Rattle.ol_context.specs.Shapes.{AreHeld, Extends, context_of};
 ghost use Rattle.ol_context.specs.Crossed.{IsNodePort};
-ghost use Rattle.ol_walks.specs.Lines.{entered, gone_line, more_line};
+ghost use Rattle.ol_walks.specs.Lines.{entered_text, gone_line, more_line};
 ghost use Rattle.ol_walks.specs.Inside.{AddsBarred, AddsCrossing, AddsTrail};
 
 use crate::writing::put_context;
@@ -36,7 +36,7 @@ fn put_entered(
     of: IndexOf,
 ) -> Result<(), NoMemory>
     ensures { OnOk result
-        (text.new.items ≡ text.old.items ++ entered node.0 slot of.kind of.index) }
+        (text.new.items ≡ text.old.items ++ entered_text node.0 slot of.kind of.index) }
 {
     put_shown(alloc, text, &Port::Of { node, slot })?;
     put(text, b" ")?;
