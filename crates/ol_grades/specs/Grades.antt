@@ -160,7 +160,7 @@ pub data IsGraded (inputs solution : List ℕ) (students : List Student) (bounds
       IsGraded inputs solution students bounds (codes "inputs: " ++ text) Refused
   no_inputs : AreInputs (lines_of inputs) [] →
       IsGraded inputs solution students bounds (file_line (codes "inputs") (codes "none")) Refused
-  no_solution : {kept : List (List ℕ)} {words : List ℕ} → AreInputs (lines_of inputs) kept →
+  no_solution : {kept : List (List ℕ)} {words : List ℕ} → AreInputs (lines_of inputs) kept → kept ≢ [] →
       IsNoSolution bounds kept solution words →
       IsGraded inputs solution students bounds (file_line (codes "solution") words) Refused
   graded : {kept : List (List ℕ)} {wanted : List Seen} {text : List ℕ} {all : Bool} → AreInputs (lines_of inputs) kept →

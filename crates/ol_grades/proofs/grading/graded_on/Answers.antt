@@ -31,10 +31,11 @@ returns-in_ok-answer-in-Fault c bytes are =
     let a = c.in_ok-answer-in-Fault in
     let h = subst (λ (r : Solved). IsSolved c.args.bounds lines c.args.solution.now r) c.in-Fault.is c.in_ok-words.ensures in
     let v : c.deref.result.now ≡ words = search rules in
+    let some : 0 < length c.args.inputs.now = grind (arith, nat_tests, c.if-is_empty.false, c.is_empty.ensures) in
     graded_so bytes c.args.solution.now c.args.students.now c.args.bounds a.answer.text.items
     (file_line (codes "solution") words) a.answer.end Refused
     (a.ensures.text ∙ ap (λ (words : List ℕ). file_line (codes "solution") words) v) a.ensures.end
-    (IsGraded.no_solution are h)
+    (IsGraded.no_solution are (some_seen c.args.inputs.now some) h)
 
 pub returns-in_ok-answer-in-Trees : goal.returns-in_ok-answer-in-Trees
 returns-in_ok-answer-in-Trees c bytes are =
