@@ -73,7 +73,9 @@ fn open_line(alloc: Global, bytes: &[u8], at: usize) -> Result<Vec<u8>, NoMemory
     Ok(text)
 }
 
-/// The line that tells where the innermost `let` stands that has no `in` before this place.
+/// The line that tells where the innermost `let` stands that has no `in` before this place. No line
+/// comes if there is no such `let`, or if no text goes on with a line feed at the place: the place
+/// is within λ, or behind a keyword that can't stand there, as byte 7 of `let let = a in b`.
 pub fn let_line(alloc: Global, bytes: &[u8], place: usize) -> Result<Vec<u8>, NoMemory>
     requires within { place ≤ length bytes.now }
     requires short { length bytes.now ≤ most_term_bytes }

@@ -254,7 +254,9 @@ fn stop_at(alloc: Global, bytes: &[u8], at: usize) -> Result<Vec<u8>, NoMemory>
 /// Where a text stops being a term: the line and the column of its dead place, which is the B of
 /// `syntax at byte B`, the line itself with a caret below the place, and what is wanted there. If a
 /// `let` has no `in` before the place, one line more tells the line and the column of the last such
-/// `let`; but not if the place is within a token. Any text in the grammar is a term, also one whose
+/// `let`. That line comes only if some text goes on with a line feed at the place. So it doesn't
+/// come if the place is within λ, or behind a keyword that can't stand there, as byte 7 of
+/// `let let = a in b`. Any text in the grammar is a term, also one whose
 /// term is too deep for `ol`. The file has at most 1,048,576 bytes.
 ///
 /// - `Yes`: the text is a term, and the answer is `a term`.
