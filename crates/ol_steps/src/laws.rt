@@ -20,7 +20,9 @@ pub fn redexes_are_marked()
 {}
 
 /// What is printed of each term of a walk, if the binders keep the names that they have in the
-/// file, is read again, as a term of the same tree: no binder takes what isn't its own.
+/// file, is read again, with the source's free names, as a term of the same tree: no binder takes
+/// what isn't its own. A text that is read alone has its own free names, and a term of a walk may
+/// have fewer than the source.
 pub fn names_are_read_again()
     ensures { ReadsAgain }
 {}
