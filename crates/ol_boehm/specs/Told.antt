@@ -17,7 +17,8 @@ use Rattle.ol_boehm.specs.Parts.{IsBoehmTree}
 abbrev pub ShowTerm : List ReadNode → Tree → Type 0
 ShowTerm ns t = (T : Part true) → preorder T ≡ ns → Shows false [] 0 T t
 
--- each part that is less deep was asked, and has a head
+-- No place lacks a head, and there are no more places than this, where those that are too deep count too. So each part
+-- that is less deep was asked, and has a head.
 abbrev pub AreAllTold : ℕ → List ReadNode → Type 0
 AreAllTold heads ns = (LacksHead ns → ⊥) × (length ns ≤ heads)
 

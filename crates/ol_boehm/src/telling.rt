@@ -40,7 +40,7 @@ fn lacks_head(tree: &ReadTree) -> bool
     false
 }
 
-// Whether each part that is less deep was asked, and has a head.
+// Whether no place lacks a head, and there are no more than `heads` of them.
 fn end_of(tree: &ReadTree, heads: u32) -> End
     ensures { TellsAll heads tree.now result }
 {
@@ -108,12 +108,15 @@ fn of_net(
 /// The net of the term's translation is read part by part, in preorder. A part that is less deep
 /// than `depth` is asked for its head by demand order: its abstractions, its variable, and how many
 /// arguments this has. At most `fuel` interactions are made for a part, and 8,000,000 for all of
-/// them. A part for which none is found so is `?`, and the parts beside it are asked from there:
-/// steps keep the paths of a net. A part that isn't asked is `...`: it is deeper, or `heads` parts
-/// were asked before.
+/// them. So a part has less than `fuel` if fewer are left of these. A part for which no head is
+/// found so is `?`, and the parts beside it are asked from there: steps keep the paths of a net. A
+/// part that isn't asked is `...`: it is of this depth or deeper, or `heads` places stand before
+/// it. Each head, `?` and `...` of the line is a place, so parts that are too deep count too.
 ///
-/// - `Yes`: each part that is less deep was asked, and has a head.
-/// - `No`: some part is `?`, or some part isn't asked as `heads` were before.
+/// - `Yes`: no part is `?`, and the line has at most `heads` places. So each part that is less deep
+///   was asked, and has a head.
+/// - `No`: some part is `?`, or the line has more than `heads` places, even if the places that are
+///   too many are all too deep.
 /// - `Refused`: `ol` refuses the file, by this line.
 ///
 /// Each head is that of a head normal form of its part, to which head reduction leads (Barendregt,
