@@ -112,7 +112,8 @@ pub enum OnOne {
         heads: Heads,
     },
     /// The Böhm tree of a term down to a depth, any number. `demand` finds the head of each part by
-    /// at most `fuel` interactions, and of at most `heads` parts.
+    /// at most `fuel` interactions, and by 8,000,000 for all parts. A part that is less deep is asked
+    /// if it is among the first `heads` places, where parts that are too deep are places too.
     Tree {
         translation: Translation,
         depth: u32,
