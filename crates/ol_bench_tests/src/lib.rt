@@ -72,6 +72,7 @@ mod stories;
 mod texts;
 #[cfg(test)]
 mod trees;
+#[cfg(test)]
 mod walks;
 #[cfg(test)]
 mod waves;
