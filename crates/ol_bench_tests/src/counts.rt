@@ -57,7 +57,7 @@ stuck                      0           0           -           -           -    
 ";
 
 const NET_OBJECT: &str =
-    "{\"columns\":{\"run\":{\"beta\":0,\"fan\":0,\"croissant\":0,\"bracket\":0,\"cross-fan\":0,\"cross-croissant\":0,\"cross-bracket\":0,\"erase\":1,\"interactions\":1,\"stuck\":0},\"demand\":{\"beta\":0,\"fan\":0,\"croissant\":0,\"bracket\":0,\"cross-fan\":0,\"cross-croissant\":0,\"cross-bracket\":0,\"erase\":0,\"interactions\":0,\"stuck\":0},\"leftmost\":null,\"applicative\":null,\"need\":null}}\n";
+    "{\"columns\":{\"run\":{\"beta\":0,\"fan\":0,\"croissant\":0,\"bracket\":0,\"cross-fan\":0,\"cross-croissant\":0,\"cross-bracket\":0,\"erase\":1,\"interactions\":1,\"stuck\":0},\"demand\":{\"beta\":0,\"fan\":0,\"croissant\":0,\"bracket\":0,\"cross-fan\":0,\"cross-croissant\":0,\"cross-bracket\":0,\"erase\":0,\"interactions\":0,\"stuck\":0},\"leftmost\":null,\"applicative\":null,\"need\":null,\"families\":null}}\n";
 
 // Asserts the end of a text, and what is written of it.
 fn assert_written(
@@ -117,7 +117,7 @@ fn columns_are_objects(rt: HostRuntime) -> Result<(), Fail> {
     let asked = (OF_TERM, Layout::Object);
     let text = "(\\x. \\y. y) ((\\x. x x) (\\x. x x)) z";
     let object =
-        "{\"columns\":{\"leftmost\":{\"beta\":2},\"applicative\":null,\"need\":{\"beta\":2}}}\n";
+        "{\"columns\":{\"leftmost\":{\"beta\":2},\"applicative\":null,\"need\":{\"beta\":2},\"families\":{\"beta\":2}}}\n";
     assert_written(&rt, rt.alloc(), subject, text, asked, End::No, object)?;
     let asked = (NONE, Layout::Object);
     assert_written(
