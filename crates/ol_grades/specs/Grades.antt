@@ -13,7 +13,7 @@ use Rattle.ol_equal.specs.Comparing.{TreeWithNames, IsComparison, IsFirstApart}
 use Rattle.ol_equal.specs.Texts.{compared_text}
 use Rattle.ol_equal.specs.declared.answers.Compared.{Compared}
 use Rattle.ol_equal.specs.declared.answers.Compared.TheVariants.{Equal}
-use Rattle.ol_heads.specs.Heads.{IsHeadText}
+use Rattle.ol_heads.specs.Heads.{all_names, IsHeadText}
 use Rattle.ol_derivations.specs.Lines.{lines_of, is_left_out}
 use Rattle.ol_derivations.specs.Derivations.{IsTermLine, IsNoTermLine, line_text}
 use Rattle.ol_subjects.specs.declared.answers.End.{End}
@@ -88,13 +88,14 @@ pub record Compares (bounds : Bounds) (student line : List ℕ) (wanted : Seen) 
 abbrev pub IsRight : Bounds → List ℕ → List ℕ → Seen → Type 0
 IsRight bounds student line wanted = Compares bounds student line wanted Equal
 
--- the texts of what two trees have at the first place where they aren't heads that agree
+-- The texts of what two trees have at the first place where they aren't heads that agree. Letters of binders are free in
+-- neither.
 pub record HaveThere (wanted got : Seen) (expected found : List ℕ) : Type 0 where
   pub place : ℕ
   pub path : List ℕ
   pub first : IsFirstApart (names_of wanted got) wanted.tree got.tree place path
-  pub of_wanted : IsHeadText wanted.names wanted.tree place expected
-  pub of_got : IsHeadText got.names got.tree place found
+  pub of_wanted : IsHeadText (all_names (names_of wanted got)) wanted.names wanted.tree place expected
+  pub of_got : IsHeadText (all_names (names_of wanted got)) got.names got.tree place found
 
 -- the words of both
 abbrev pub heads_words : (expected found : List ℕ) → List ℕ

@@ -21,7 +21,7 @@ use Rattle.ol_equal.specs.Paths.{IsPathTo}
 use Rattle.ol_equal.specs.Texts.{compared_text}
 use Rattle.ol_equal.specs.declared.answers.Compared.{Compared}
 use Rattle.ol_equal.specs.declared.answers.Compared.TheVariants.{Equal, Different, Cut}
-use Rattle.ol_heads.specs.Heads.{IsHeadText}
+use Rattle.ol_heads.specs.Heads.{all_names, IsHeadText}
 use Rattle.ol_subjects.specs.declared.answers.End.{End}
 use Rattle.ol_subjects.specs.declared.answers.End.TheVariants.{Yes, No}
 use Rattle.ol_grades.specs.Grades.{IsFunction, IsNoFunction, IsRight, IsWrong, AreInputs, HasNoInputs, IsNoSolution, AreGrades, HaveThere, names_of, on_input, heads_words}
@@ -79,8 +79,10 @@ IsPathOf (Cut told) path = told ≡ path
 pub record AddsHeads (wanted got : Seen) (path text new : List ℕ) : Type 0 where
   pub expected : List ℕ
   pub found : List ℕ
-  pub of_wanted : (k : ℕ) → IsPathTo wanted.tree k path → IsHeadText wanted.names wanted.tree k expected
-  pub of_got : (k : ℕ) → IsPathTo got.tree k path → IsHeadText got.names got.tree k found
+  pub of_wanted : (k : ℕ) → IsPathTo wanted.tree k path →
+      IsHeadText (all_names (names_of wanted got)) wanted.names wanted.tree k expected
+  pub of_got : (k : ℕ) → IsPathTo got.tree k path →
+      IsHeadText (all_names (names_of wanted got)) got.names got.tree k found
   pub told : new ≡ text ++ heads_words expected found
 
 -- what is said of two trees that aren't equal

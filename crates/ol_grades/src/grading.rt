@@ -14,7 +14,7 @@ use crate::inputs::{Inputs, inputs_of};
 use crate::reading::{Bounds, Found, lack_words, read_on};
 use ol_derivations::words_of;
 use ol_equal::{Compared, Path, compared_text, same_tree};
-use ol_heads::head_text;
+use ol_heads::{all_names, head_text};
 use ol_memory::NoMemory;
 use ol_subjects::{Answer, End, put, put_number};
 use std::alloc::Global;
@@ -132,8 +132,9 @@ fn put_heads(
     ensures { OnOk result
         (AddsHeads wanted.now got.now path.now text.old.items text.new.items) }
 {
-    let expected = head_text(alloc, &wanted.tree, &wanted.names, path)?;
-    let found = head_text(alloc, &got.tree, &got.names, path)?;
+    let all = all_names(alloc, &wanted.names, &got.names)?;
+    let expected = head_text(alloc, &wanted.tree, &wanted.names, &all, path)?;
+    let found = head_text(alloc, &got.tree, &got.names, &all, path)?;
     put(text, b": expected ")?;
     put(text, &expected)?;
     put(text, b", got ")?;
@@ -416,8 +417,9 @@ fn graded_on(
 /// - `can't be read`, `limit bytes 1048576`: there is no text of his, for this reason.
 ///
 /// A head is told by its binders, its variable and an underscore for each argument, as `\a b. a _`;
-/// `?` is none, and `...` wasn't read. Its letters are those of the text of its own tree
-/// (`head_text` of ol_heads).
+/// `?` is none, and `...` wasn't read. In both heads a letter is the same binder: none is a free
+/// name of one of the two trees. So two heads that differ have different texts (`head_text` and law
+/// `one_text_is_one_head` of ol_heads).
 ///
 /// Where two trees are equal, each place of both has a head, so the two terms have one normal form,
 /// up to names of binders, and are convertible. Where they are different, the terms aren't
