@@ -111,8 +111,8 @@ fn students_are_graded(rt: HostRuntime) -> Result<(), Fail> {
             "g",
             fixed,
             fixed,
-            End::No,
-            "x: cut at 1.1.1.1 on 1: expected ..., got ...\n",
+            End::Refused,
+            "solution: holes are left on 1\n",
         ),
         (
             "a",
