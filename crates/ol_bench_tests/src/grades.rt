@@ -56,7 +56,7 @@ fn students_are_graded(rt: HostRuntime) -> Result<(), Fail> {
     let two = "# two arguments\nx y\n\n f (\\z. z)\n";
     let apply = "\\f x. f x # applied";
     let fixed = "\\f. (\\x. f (x x)) (\\x. f (x x))";
-    let rows: [(&str, &str, &str, End, &str); 15] = [
+    let rows: [(&str, &str, &str, End, &str); 16] = [
         (two, apply, "\\g. g", End::Yes, "x: equal on 2 of 2\n"),
         (
             two,
@@ -111,8 +111,8 @@ fn students_are_graded(rt: HostRuntime) -> Result<(), Fail> {
             "g",
             fixed,
             fixed,
-            End::No,
-            "x: cut at 1.1.1.1 on 1: expected ..., got ...\n",
+            End::Refused,
+            "solution: holes are left on 1\n",
         ),
         (
             "a",
@@ -142,6 +142,13 @@ fn students_are_graded(rt: HostRuntime) -> Result<(), Fail> {
             apply,
             End::Refused,
             "inputs: line 3: syntax, column 2\n",
+        ),
+        (
+            "f",
+            "\\f x y. f y",
+            "\\f x y. f b",
+            End::No,
+            "x: different at 1 on 1: expected c, got b\n",
         ),
         (
             "(\\x. x) y",

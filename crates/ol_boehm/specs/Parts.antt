@@ -1,5 +1,5 @@
--- The Böhm tree of a term down to some depth, part by part: the head of each part by demand, with fuel of its own
--- (Barendregt, The Lambda Calculus, 1984, section 10.1).
+-- The Böhm tree of a term down to some depth, part by part: the head of each part by demand, within a fuel for each part
+-- and one for all of them (Barendregt, The Lambda Calculus, 1984, section 10.1).
 use Rattle.std.specs.Prelude.{◌≡◌, ℕ, suc, ◌-◌, ◌<◌, ◌≤◌, ◌⊎◌, List, [], ◌∷◌, ◌++◌, length, map}
 use Rattle.std.specs.Prelude.{Option, Some, None}
 use Rattle.ol_limits.specs.Limits.{most_fuel}
@@ -52,8 +52,9 @@ pub record IsLesser (a b c : ℕ) : Type 0 where
   pub one_of : (c ≡ a) ⊎ (c ≡ b)
 
 -- The parts that are left, in preorder, have these places in graph g, where these frames are those of the places before.
--- The first heads places are asked, if they are less deep than depth, each with this fuel; all of them together make
--- no more than so many steps. Every other place is Cut.
+-- Of the first heads places, those that are too deep among them, each one that is less deep than depth is asked, with
+-- this fuel or what is left for all of them, if that is less. Every other place is Cut. So a place is NoHead also if it
+-- was asked with less than its fuel.
 pub data HaveParts (depth heads fuel : ℕ) : Graph → (all : ℕ) → List Frame → List Subterm → List ReadNode → Type 0 where
   end : {g : Graph} {all : ℕ} {frames : List Frame} → HaveParts depth heads fuel g all frames [] []
   past : {g : Graph} {all : ℕ} {frames : List Frame} {ss : List Subterm} → heads ≤ length frames →

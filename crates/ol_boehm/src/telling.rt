@@ -108,10 +108,11 @@ fn of_net(
 /// The net of the term's translation is read part by part, in preorder. A part that is less deep
 /// than `depth` is asked for its head by demand order: its abstractions, its variable, and how many
 /// arguments this has. At most `fuel` interactions are made for a part, and 8,000,000 for all of
-/// them. So a part has less than `fuel` if fewer are left of these. A part for which no head is
-/// found so is `?`, and the parts beside it are asked from there: steps keep the paths of a net. A
-/// part that isn't asked is `...`: it is of this depth or deeper, or `heads` places stand before
-/// it. Each head, `?` and `...` of the line is a place, so parts that are too deep count too.
+/// them. So a part has less than `fuel` if fewer are left of these. If the places of the line
+/// times `fuel` are at most 8,000,000, no part has less. A part for which no head is found so is
+/// `?`, and the parts beside it are asked from there: steps keep the paths of a net. A part that
+/// isn't asked is `...`: it is of this depth or deeper, or `heads` places stand before it. Each
+/// head, `?` and `...` of the line is a place, so parts that are too deep count too.
 ///
 /// - `Yes`: no part is `?`, and the line has at most `heads` places. So each part that is less deep
 ///   was asked, and has a head.

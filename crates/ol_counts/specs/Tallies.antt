@@ -31,7 +31,8 @@ pub data IsRunTally (g : Graph) (fuel : ℕ) : Tally → Type 0 where
   goes_on : {journal : List Entry} {last : Graph} → RunsTo g fuel journal last →
       RanOut fuel journal last → IsRunTally g fuel NotEnded
 
--- The run on demand, within the fuel. Without a free port there is nothing to read from.
+-- The run on demand, within the fuel. What is counted is what was rewritten to read the first heads places; so it has
+-- ended even if further places were left unread. Without a free port there is nothing to read from.
 pub data IsDemandTally (g : Graph) (heads fuel : ℕ) : Tally → Type 0 where
   ended : {tree : List ReadNode} {journal : List Entry} {last : Graph} {stuck : ℕ} →
       IsAnswer g heads fuel last (Done tree journal) → HasStuck (net_of last) stuck →

@@ -1,3 +1,4 @@
 pub mod Spelled
 pub mod Walks
 pub mod Said
+pub mod Wholes

@@ -15,8 +15,8 @@ use Rattle.ol_grades.specs.declared.holding.Seen.{Seen}
 use Rattle.ol_grades.specs.declared.grading.Student.{Student}
 use Rattle.ol_grades.specs.declared.grading.Work.{Work}
 use Rattle.ol_grades.specs.declared.grading.Work.TheVariants as work
-use Rattle.ol_grades.specs.Reads.{HasTree, HasNoTree, lack_words}
-use Rattle.ol_grades.specs.Grades.{IsFunction, IsRight, IsWrong, IsGrade, IsGradeOf, IsNoSolution, IsGraded, names_of, on_input, heads_words}
+use Rattle.ol_grades.specs.Reads.{HasTree, HasNoTree, HasNoWholeTree, lack_words}
+use Rattle.ol_grades.specs.Grades.{IsFunction, IsRight, IsWrong, IsGrade, IsGradeOf, IsGraded, names_of, on_input, heads_words}
 use Rattle.ol_grades.specs.Inside.{AddsHeads, IsOn, IsPathOf, IsSaid, IsToldApart}
 
 pub said_on : (bounds : Bounds) (student line : List ℕ) (wanted seen : Seen) (k : ℕ) (told : Option (Vec ℕ Global)) →
@@ -111,11 +111,12 @@ equal_told bounds inputs wanted student n text e t f h =
     subst (λ text. IsGrade bounds inputs wanted student text true)
     (sym (t ∙ ap (λ n. codes "equal on " ++ decimal n ++ codes " of " ++ decimal n) (sym e))) (IsGrade.equal f h)
 
-pub no_tree_so : (bounds : Bounds) (inputs : List (List ℕ)) (solution : List ℕ) (lack : Lack) (words text : List ℕ)
-    (k : ℕ) → text ≡ on_input words k → words ≡ lack_words lack →
-    IsNoSolution bounds inputs solution (on_input (lack_words lack) k) → IsNoSolution bounds inputs solution text
-no_tree_so bounds inputs solution lack words text k e w h =
-    subst (IsNoSolution bounds inputs solution) (sym (e ∙ ap (λ words. on_input words k) w)) h
+-- a solution without a tree, and why
+pub lacks_so : (bounds : Bounds) (solution line : List ℕ) (lack : Lack) (words text : List ℕ) (k : ℕ) →
+    text ≡ on_input words k → words ≡ lack_words lack → HasNoTree bounds solution line lack →
+    (why : List ℕ) × (text ≡ on_input why k) × HasNoWholeTree bounds solution line why
+lacks_so bounds solution line lack words text k e w h =
+    (lack_words lack, e ∙ ap (λ words. on_input words k) w, HasNoWholeTree.no_tree h)
 
 pub graded_so : (inputs solution : List ℕ) (students : List Student) (bounds : Bounds) (text words : List ℕ)
     (e d : End) → text ≡ words → e ≡ d → IsGraded inputs solution students bounds words d →

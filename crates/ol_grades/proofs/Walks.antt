@@ -4,15 +4,15 @@ use Rattle.std.specs.Prelude.{◌&&◌, ◌≢◌, get_or}
 use Rattle.std.specs.Borrow.{Bor}
 use Rattle.std.specs.List.{AllZip}
 use Rattle.std.proofs.lemmas.List.{length-append, take-append-drop}
+use Rattle.std.proofs.Math.Bool.{and_assoc, and-true}
 use Rattle.ol_limits.specs.Limits.{most_term_bytes}
 use Rattle.ol_term.specs.Trees.{Tree}
 use Rattle.ol_derivations.specs.Lines.{is_left_out}
 use Rattle.ol_derivations.specs.Derivations.{IsTermLine, IsNoTermLine, line_text}
 use Rattle.ol_grades.specs.declared.reading.Bounds.{Bounds}
 use Rattle.ol_grades.specs.declared.holding.Seen.{Seen}
-use Rattle.ol_grades.specs.declared.reading.Lack.{Lack}
 use Rattle.ol_grades.specs.declared.grading.Student.{Student}
-use Rattle.ol_grades.specs.Reads.{HasTree, HasNoTree, lack_words}
+use Rattle.ol_grades.specs.Reads.{HasWholeTree, HasNoWholeTree}
 use Rattle.ol_grades.specs.Grades.{AreInputs, HasNoInputs, IsFunction, IsNoFunction, IsRight, IsWrong, IsGrade, IsGradeOf, AreGrades, IsNoSolution, on_input, file_line}
 use Rattle.ol_grades.specs.Inside.{AreFunctions, AreWanted, seen_lines}
 use Rattle.ol_readback.specs.Texts.{AreNamed}
@@ -151,11 +151,11 @@ abbrev Named : Seen → Type 0
 Named w = AreNamed (length w.names) w.tree
 
 pub are_wanted : (bounds : Bounds) (solution : List ℕ) (lines : List (List ℕ)) (trees : List Seen) →
-    AllZip (HasTree bounds solution) lines trees → AreWanted lines trees
+    AllZip (HasWholeTree bounds solution) lines trees → AreWanted lines trees
 are_wanted bounds solution [] [] h = tt
 are_wanted bounds solution [] (w ∷ trees) h = absurd h
 are_wanted bounds solution (line ∷ lines) [] h = absurd h
-are_wanted bounds solution (line ∷ lines) (w ∷ trees) h = (h.0.named, are_wanted bounds solution lines trees h.1)
+are_wanted bounds solution (line ∷ lines) (w ∷ trees) h = (h.0.0.named, are_wanted bounds solution lines trees h.1)
 
 named_at : (lines : List (List ℕ)) (trees : List Seen) (k : ℕ) (w : Seen) → AreWanted lines trees →
     drop k trees ≡ w ∷ drop (suc k) trees → Named w
@@ -213,18 +213,19 @@ all_kept lines kept k d on = subst (λ l. AreInputs lines l) (append-nil kept)
 module _ (bounds : Bounds) (lines : List (List ℕ)) (k : ℕ) (line : List ℕ)
     (d : drop k lines ≡ line ∷ drop (k + 1) lines) where
   pub tree_more : (solution : List ℕ) (trees : List Seen) (seen : Seen) →
-      AllZip (HasTree bounds solution) (take k lines) trees → HasTree bounds solution line seen →
-      AllZip (HasTree bounds solution) (take (k + 1) lines) (trees ++ (seen ∷ []))
+      AllZip (HasWholeTree bounds solution) (take k lines) trees → HasWholeTree bounds solution line seen →
+      AllZip (HasWholeTree bounds solution) (take (k + 1) lines) (trees ++ (seen ∷ []))
   tree_more solution trees seen h i =
-      subst (λ l. AllZip (HasTree bounds solution) l (trees ++ (seen ∷ []))) (sym (taken lines k line d))
-      (zip_push (HasTree bounds solution) (take k lines) trees line seen h i)
+      subst (λ l. AllZip (HasWholeTree bounds solution) l (trees ++ (seen ∷ []))) (sym (taken lines k line d))
+      (zip_push (HasWholeTree bounds solution) (take k lines) trees line seen h i)
 
-  pub no_tree_here : (solution : List ℕ) (trees : List Seen) (lack : Lack) → IsFunction solution →
-      AllZip (HasTree bounds solution) (take k lines) trees → HasNoTree bounds solution line lack →
-      IsNoSolution bounds lines solution (on_input (lack_words lack) (k + 1))
-  no_tree_here solution trees lack f h i =
-      subst (λ n. IsNoSolution bounds lines solution (on_input (lack_words lack) (n + 1))) (front_long lines k line d)
-      (IsNoSolution.no_tree (take k lines) (drop (k + 1) lines) trees f (parted lines k line d) h i)
+  pub no_tree_here : (solution : List ℕ) (trees : List Seen) (why text : List ℕ) → IsFunction solution →
+      AllZip (HasWholeTree bounds solution) (take k lines) trees → text ≡ on_input why (k + 1) →
+      HasNoWholeTree bounds solution line why → IsNoSolution bounds lines solution text
+  no_tree_here solution trees why text f h e i =
+      subst (IsNoSolution bounds lines solution) (sym e)
+      (subst (λ n. IsNoSolution bounds lines solution (on_input why (n + 1))) (front_long lines k line d)
+      (IsNoSolution.no_tree (take k lines) (drop (k + 1) lines) trees f (parted lines k line d) h i))
 
   module _ (student : List ℕ) (wanted : List Seen) (w : Seen) (e : drop k wanted ≡ w ∷ drop (k + 1) wanted) where
     pub right_more : AllZip (IsRight bounds student) (take k lines) (take k wanted) → IsRight bounds student line w →
@@ -241,9 +242,10 @@ module _ (bounds : Bounds) (lines : List (List ℕ)) (k : ℕ) (line : List ℕ)
         (subst (λ n. IsWrong bounds student line w (n + 1) words) (sym (front_long lines k line d)) i)
 
 pub all_trees : (bounds : Bounds) (lines : List (List ℕ)) (k : ℕ) (solution : List ℕ) (trees : List Seen) →
-    length lines ≤ k → AllZip (HasTree bounds solution) (take k lines) trees → AllZip (HasTree bounds solution) lines trees
+    length lines ≤ k → AllZip (HasWholeTree bounds solution) (take k lines) trees →
+    AllZip (HasWholeTree bounds solution) lines trees
 all_trees bounds lines k solution trees l h =
-    subst (λ l. AllZip (HasTree bounds solution) l trees) (all_taken lines k l) h
+    subst (λ l. AllZip (HasWholeTree bounds solution) l trees) (all_taken lines k l) h
 
 pub all_right : (bounds : Bounds) (lines : List (List ℕ)) (k : ℕ) (student : List ℕ) (wanted : List Seen) →
     length lines ≤ k → length wanted ≤ k → AllZip (IsRight bounds student) (take k lines) (take k wanted) →
@@ -253,14 +255,6 @@ all_right bounds lines k student wanted l m h =
     (subst (λ w. AllZip (IsRight bounds student) (take k lines) w) (all_taken wanted k m) h)
 
 -- ---- students
-
-and_assoc : (a b c : Bool) → (a && (b && c)) ≡ ((a && b) && c)
-and_assoc true b c = refl
-and_assoc false b c = refl
-
-and_true : (a : Bool) → (a && true) ≡ a
-and_true true = refl
-and_true false = refl
 
 module _ (bounds : Bounds) (inputs : List (List ℕ)) (wanted : List Seen) where
   -- whatever is said of the students from number k on, behind this text it is said of all
@@ -283,14 +277,14 @@ module _ (bounds : Bounds) (inputs : List (List ℕ)) (wanted : List Seen) where
       subst (λ l. AreGrades bounds inputs wanted l (told ++ rest) (now && all)) (sym d) (AreGrades.more is are) in
       subst (λ text. AreGrades bounds inputs wanted students text ((fine && now) && all))
       (sym (append_assoc text told rest))
-      (subst (λ all. AreGrades bounds inputs wanted students (text ++ (told ++ rest)) all) (and_assoc fine now all)
+      (subst (λ all. AreGrades bounds inputs wanted students (text ++ (told ++ rest)) all) (sym (and_assoc fine now all))
       (on (told ++ rest) (now && all) here))
 
   pub last_student : (students : List Student) (k : ℕ) (text : List ℕ) (fine : Bool) → drop k students ≡ [] →
       Behind students k text fine → AreGrades bounds inputs wanted students text fine
   last_student students k text fine d on =
       subst (λ text. AreGrades bounds inputs wanted students text fine) (append-nil text)
-      (subst (λ all. AreGrades bounds inputs wanted students (text ++ []) all) (and_true fine)
+      (subst (λ all. AreGrades bounds inputs wanted students (text ++ []) all) (and-true fine)
       (on [] true (subst (λ l. AreGrades bounds inputs wanted l [] true) (sym d) AreGrades.none)))
 
 -- ---- a function's text

@@ -13,7 +13,7 @@ use Rattle.ol_equal.specs.Comparing.{TreeWithNames, IsComparison, IsFirstApart}
 use Rattle.ol_equal.specs.Texts.{compared_text}
 use Rattle.ol_equal.specs.declared.answers.Compared.{Compared}
 use Rattle.ol_equal.specs.declared.answers.Compared.TheVariants.{Equal}
-use Rattle.ol_heads.specs.Heads.{IsHeadText}
+use Rattle.ol_heads.specs.Heads.{all_names, IsHeadText}
 use Rattle.ol_derivations.specs.Lines.{lines_of, is_left_out}
 use Rattle.ol_derivations.specs.Derivations.{IsTermLine, IsNoTermLine, line_text}
 use Rattle.ol_subjects.specs.declared.answers.End.{End}
@@ -24,7 +24,7 @@ use Rattle.ol_grades.specs.declared.reading.Lack.{Lack}
 use Rattle.ol_grades.specs.declared.grading.Student.{Student}
 use Rattle.ol_grades.specs.declared.grading.Work.{Work}
 use Rattle.ol_grades.specs.declared.grading.Work.TheVariants as work
-use Rattle.ol_grades.specs.Reads.{HasTree, HasNoTree, lack_words}
+use Rattle.ol_grades.specs.Reads.{HasTree, HasNoTree, HasWholeTree, HasNoWholeTree, lack_words}
 
 -- ---- the inputs
 
@@ -88,13 +88,14 @@ pub record Compares (bounds : Bounds) (student line : List ℕ) (wanted : Seen) 
 abbrev pub IsRight : Bounds → List ℕ → List ℕ → Seen → Type 0
 IsRight bounds student line wanted = Compares bounds student line wanted Equal
 
--- the texts of what two trees have at the first place where they aren't heads that agree
+-- The texts of what two trees have at the first place where they aren't heads that agree. Letters of binders are free in
+-- neither.
 pub record HaveThere (wanted got : Seen) (expected found : List ℕ) : Type 0 where
   pub place : ℕ
   pub path : List ℕ
   pub first : IsFirstApart (names_of wanted got) wanted.tree got.tree place path
-  pub of_wanted : IsHeadText wanted.names wanted.tree place expected
-  pub of_got : IsHeadText got.names got.tree place found
+  pub of_wanted : IsHeadText (all_names (names_of wanted got)) wanted.names wanted.tree place expected
+  pub of_got : IsHeadText (all_names (names_of wanted got)) got.names got.tree place found
 
 -- the words of both
 abbrev pub heads_words : (expected found : List ℕ) → List ℕ
@@ -144,13 +145,13 @@ pub data AreGrades (bounds : Bounds) (inputs : List (List ℕ)) (wanted : List S
 
 -- ---- the solution
 
--- why the solution is none: it is no function; or on some input, the first such, it has no tree
+-- why the solution is none: it is no function; or on some input, the first such, it has no whole tree
 pub data IsNoSolution (bounds : Bounds) (inputs : List (List ℕ)) (solution : List ℕ) : List ℕ → Type 0 where
   bad_text : {words : List ℕ} → IsNoFunction solution words → IsNoSolution bounds inputs solution words
-  no_tree : (before after : List (List ℕ)) (passed : List Seen) {line : List ℕ} {lack : Lack} → IsFunction solution →
-      inputs ≡ before ++ (line ∷ after) → AllZip (HasTree bounds solution) before passed →
-      HasNoTree bounds solution line lack →
-      IsNoSolution bounds inputs solution (on_input (lack_words lack) (length before + 1))
+  no_tree : (before after : List (List ℕ)) (passed : List Seen) {line words : List ℕ} → IsFunction solution →
+      inputs ≡ before ++ (line ∷ after) → AllZip (HasWholeTree bounds solution) before passed →
+      HasNoWholeTree bounds solution line words →
+      IsNoSolution bounds inputs solution (on_input words (length before + 1))
 
 -- ---- the answer
 
@@ -164,6 +165,6 @@ pub data IsGraded (inputs solution : List ℕ) (students : List Student) (bounds
       IsNoSolution bounds kept solution words →
       IsGraded inputs solution students bounds (file_line (codes "solution") words) Refused
   graded : {kept : List (List ℕ)} {wanted : List Seen} {text : List ℕ} {all : Bool} → AreInputs (lines_of inputs) kept →
-      kept ≢ [] → IsFunction solution → AllZip (HasTree bounds solution) kept wanted →
+      kept ≢ [] → IsFunction solution → AllZip (HasWholeTree bounds solution) kept wanted →
       AreGrades bounds kept wanted students text all →
       IsGraded inputs solution students bounds text (if all then Yes else No)

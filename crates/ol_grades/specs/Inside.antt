@@ -9,7 +9,7 @@ use Rattle.ol_limits.specs.Limits.{most_depth}
 use Rattle.ol_term.specs.Trees.{Tree, tree_of, depth, EachOccurs}
 use Rattle.ol_term.specs.declared.term_file.TermFile.{TermFile}
 use Rattle.ol_grades.specs.Applied.{IsApplied}
-use Rattle.ol_grades.specs.Reads.{HasTree, HasNoTree}
+use Rattle.ol_grades.specs.Reads.{HasTree, HasNoTree, HasWholeTree, HasNoWholeTree}
 use Rattle.ol_net.specs.Graph.{Graph}
 use Rattle.ol_rules.specs.declared.journal.Entry.{Entry}
 use Rattle.ol_demand.specs.declared.answers.Demanded.TheVariants.{Done}
@@ -21,7 +21,7 @@ use Rattle.ol_equal.specs.Paths.{IsPathTo}
 use Rattle.ol_equal.specs.Texts.{compared_text}
 use Rattle.ol_equal.specs.declared.answers.Compared.{Compared}
 use Rattle.ol_equal.specs.declared.answers.Compared.TheVariants.{Equal, Different, Cut}
-use Rattle.ol_heads.specs.Heads.{IsHeadText}
+use Rattle.ol_heads.specs.Heads.{all_names, IsHeadText}
 use Rattle.ol_subjects.specs.declared.answers.End.{End}
 use Rattle.ol_subjects.specs.declared.answers.End.TheVariants.{Yes, No}
 use Rattle.ol_grades.specs.Grades.{IsFunction, IsNoFunction, IsRight, IsWrong, AreInputs, HasNoInputs, IsNoSolution, AreGrades, HaveThere, names_of, on_input, heads_words}
@@ -35,6 +35,8 @@ use Rattle.ol_grades.specs.declared.inputs.Inputs.{Inputs}
 use Rattle.ol_grades.specs.declared.inputs.Inputs.TheVariants as inputs
 use Rattle.ol_grades.specs.declared.grading.Solved.{Solved}
 use Rattle.ol_grades.specs.declared.grading.Solved.TheVariants as solved
+use Rattle.ol_grades.specs.declared.grading.Wanted.{Wanted}
+use Rattle.ol_grades.specs.declared.grading.Wanted.TheVariants as wanting
 
 -- the lines that are seen through slices
 abbrev pub seen_lines : List (Bor (List ℕ)) → List (List ℕ)
@@ -79,8 +81,10 @@ IsPathOf (Cut told) path = told ≡ path
 pub record AddsHeads (wanted got : Seen) (path text new : List ℕ) : Type 0 where
   pub expected : List ℕ
   pub found : List ℕ
-  pub of_wanted : (k : ℕ) → IsPathTo wanted.tree k path → IsHeadText wanted.names wanted.tree k expected
-  pub of_got : (k : ℕ) → IsPathTo got.tree k path → IsHeadText got.names got.tree k found
+  pub of_wanted : (k : ℕ) → IsPathTo wanted.tree k path →
+      IsHeadText (all_names (names_of wanted got)) wanted.names wanted.tree k expected
+  pub of_got : (k : ℕ) → IsPathTo got.tree k path →
+      IsHeadText (all_names (names_of wanted got)) got.names got.tree k found
   pub told : new ≡ text ++ heads_words expected found
 
 -- what is said of two trees that aren't equal
@@ -108,9 +112,15 @@ abbrev pub IsInputs : List (List ℕ) → Inputs → Type 0
 IsInputs lines (inputs.Lines kept) = AreInputs lines (seen_lines kept.items)
 IsInputs lines (inputs.Fault text) = HasNoInputs 1 lines text.items
 
+-- what a solution has on input k, which is this line
+abbrev pub IsWanted : Bounds → (solution line : List ℕ) → ℕ → Wanted → Type 0
+IsWanted bounds solution line k (wanting.Whole seen) = HasWholeTree bounds solution line seen
+IsWanted bounds solution line k (wanting.Fault words) =
+    (why : List ℕ) × (words.items ≡ on_input why k) × HasNoWholeTree bounds solution line why
+
 abbrev pub IsSolved : Bounds → List (List ℕ) → (solution : List ℕ) → Solved → Type 0
 IsSolved bounds inputs solution (solved.Trees trees) =
-    IsFunction solution × AllZip (HasTree bounds solution) inputs trees.items
+    IsFunction solution × AllZip (HasWholeTree bounds solution) inputs trees.items
 IsSolved bounds inputs solution (solved.Fault words) = IsNoSolution bounds inputs solution words.items
 
 -- there is a wanted tree for each input, and each free name in it is one of its names

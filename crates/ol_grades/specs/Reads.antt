@@ -8,6 +8,7 @@ use Rattle.ol_rules.specs.declared.journal.Entry.{Entry}
 use Rattle.ol_demand.specs.declared.answers.Demanded.TheVariants.{Done}
 use Rattle.ol_demand.specs.Answers.{start_of, IsAnswer}
 use Rattle.ol_demand.specs.Demands.{HasMoreSteps}
+use Rattle.ol_readback.specs.Terms.{HasAllHeads}
 use Rattle.ol_readback.specs.Texts.{AreNamed}
 use Rattle.ol_subjects.specs.Subjects.{IsNetOfTerm}
 use Rattle.ol_grades.specs.declared.reading.Bounds.{Bounds}
@@ -47,3 +48,13 @@ abbrev pub lack_words : Lack → List ℕ
 lack_words lack.Fuel = codes "beyond the fuel"
 lack_words lack.Depth = codes "limit depth 1000"
 lack_words lack.Nodes = codes "limit nodes 200000"
+
+-- a tree in which each place has a head
+abbrev pub HasWholeTree : Bounds → (function line : List ℕ) → Seen → Type 0
+HasWholeTree bounds function line seen = HasTree bounds function line seen × HasAllHeads seen.tree
+
+-- why there is none: there is no tree, or some place of it has no head or was cut
+pub data HasNoWholeTree (bounds : Bounds) (function line : List ℕ) : List ℕ → Type 0 where
+  no_tree : {lack : Lack} → HasNoTree bounds function line lack → HasNoWholeTree bounds function line (lack_words lack)
+  holes : {seen : Seen} → HasTree bounds function line seen → (HasAllHeads seen.tree → ⊥) →
+      HasNoWholeTree bounds function line (codes "holes are left")

@@ -6,15 +6,15 @@ ghost use Rattle.std.specs.List.{AllZip};
 ghost use Rattle.ol_readback.specs.Texts.{AreNamed};
 ghost use Rattle.ol_derivations.specs.Lines.{lines_of};
 ghost use Rattle.ol_grades.specs.Grades.{AreInputs, IsFunction, IsGrade, IsGradeOf, IsGraded, file_line, on_input};
-ghost use Rattle.ol_grades.specs.Inside.{AreAllGrades, AreFunctions, AreWanted, AddsHeads, IsOn, IsPathOf, IsSaid, IsSolved, seen_lines};
+ghost use Rattle.ol_grades.specs.Inside.{AreAllGrades, AreFunctions, AreWanted, AddsHeads, IsOn, IsPathOf, IsSaid, IsSolved, IsWanted, seen_lines};
 
 use crate::functions::fault_of;
 use crate::holding::Seen;
 use crate::inputs::{Inputs, inputs_of};
-use crate::reading::{Bounds, Found, lack_words, read_on};
+use crate::reading::{Bounds, Found, is_whole, lack_words, read_on};
 use ol_derivations::words_of;
 use ol_equal::{Compared, Path, compared_text, same_tree};
-use ol_heads::head_text;
+use ol_heads::{all_names, head_text};
 use ol_memory::NoMemory;
 use ol_subjects::{Answer, End, put, put_number};
 use std::alloc::Global;
@@ -35,6 +35,15 @@ pub enum Work {
 pub struct Student {
     pub name: Vec<u8>,
     pub work: Work,
+}
+
+/// What a solution has on an input.
+#[derive(Drop)]
+pub enum Wanted {
+    /// A tree in which each place has a head.
+    Whole(Seen),
+    /// The words that say on which input it has none, and why.
+    Fault(Vec<u8>),
 }
 
 /// What comes of a solution on the inputs.
@@ -64,7 +73,34 @@ fn words_on(alloc: Global, words: &[u8], k: usize) -> Result<Vec<u8>, NoMemory>
     Ok(text)
 }
 
-// The trees of a solution, or on which input it has none.
+// What a solution has on input k, which is this line.
+fn wanted_on(
+    alloc: Global,
+    solution: &[u8],
+    line: &[u8],
+    k: usize,
+    bounds: Bounds,
+) -> Result<Wanted, NoMemory>
+    requires function { IsFunction solution.now }
+    requires line { IsFunction line.now }
+    ensures { IfOk result (IsWanted bounds solution.now line.now k) }
+{
+    match read_on(alloc, solution, line, bounds)? {
+        Found::Tree(seen) => {
+            if is_whole(&seen.tree) {
+                return Ok(Wanted::Whole(seen));
+            }
+            let holes = words_on(alloc, b"holes are left", k)?;
+            Ok(Wanted::Fault(holes))
+        }
+        Found::Without(lack) => {
+            let words = words_on(alloc, lack_words(lack).as_bytes(), k)?;
+            Ok(Wanted::Fault(words))
+        }
+    }
+}
+
+// The whole trees of a solution, or on which input it has none.
 fn trees_of(
     alloc: Global,
     solution: &[u8],
@@ -77,12 +113,9 @@ fn trees_of(
 {
     let mut trees: Vec<Seen> = Vec::new(alloc);
     for k in 0..inputs.len() {
-        match read_on(alloc, solution, inputs[k], bounds)? {
-            Found::Tree(seen) => trees.push(seen)?,
-            Found::Without(lack) => {
-                let words = words_on(alloc, lack_words(lack).as_bytes(), k + 1)?;
-                return Ok(Solved::Fault(words));
-            }
+        match wanted_on(alloc, solution, inputs[k], k + 1, bounds)? {
+            Wanted::Whole(seen) => trees.push(seen)?,
+            Wanted::Fault(words) => return Ok(Solved::Fault(words)),
         }
     }
     Ok(Solved::Trees(trees))
@@ -132,8 +165,9 @@ fn put_heads(
     ensures { OnOk result
         (AddsHeads wanted.now got.now path.now text.old.items text.new.items) }
 {
-    let expected = head_text(alloc, &wanted.tree, &wanted.names, path)?;
-    let found = head_text(alloc, &got.tree, &got.names, path)?;
+    let all = all_names(alloc, &wanted.names, &got.names)?;
+    let expected = head_text(alloc, &wanted.tree, &wanted.names, &all, path)?;
+    let found = head_text(alloc, &got.tree, &got.names, &all, path)?;
     put(text, b": expected ")?;
     put(text, &expected)?;
     put(text, b", got ")?;
@@ -406,8 +440,8 @@ fn graded_on(
 /// - `different at PATH on K: expected HEAD, got HEAD`: both trees have a head at the place of this
 ///   path, and these don't agree: they differ in their abstractions, their variables or the numbers
 ///   of their arguments. The first head is the solution's.
-/// - `cut at PATH on K: expected HEAD, got HEAD`: one of the trees has no head there, or wasn't read
-///   so far.
+/// - `cut at PATH on K: expected HEAD, got HEAD`: his tree has no head there, `?`, or wasn't read so
+///   far, `...`.
 /// - `beyond the fuel on K`: he has no tree, since `demand` goes on.
 /// - `limit depth 1000 on K`, `limit nodes 200000 on K`: his term on this input is too deep, or its
 ///   net too large.
@@ -415,9 +449,9 @@ fn graded_on(
 ///   function. Lines and columns are counted from 1, columns in bytes.
 /// - `can't be read`, `limit bytes 1048576`: there is no text of his, for this reason.
 ///
-/// A head is told by its binders, its variable and an underscore for each argument, as `\a b. a _`;
-/// `?` is none, and `...` wasn't read. Its letters are those of the text of its own tree
-/// (`head_text` of ol_heads).
+/// A head is told by its binders, its variable and an underscore for each argument, as `\a b. a _`.
+/// In both heads a letter is the same binder: none is a free name of one of the two trees. So two
+/// heads that differ have different texts (`head_text` and law `one_text_is_one_head` of ol_heads).
 ///
 /// Where two trees are equal, each place of both has a head, so the two terms have one normal form,
 /// up to names of binders, and are convertible. Where they are different, the terms aren't
@@ -426,7 +460,8 @@ fn graded_on(
 /// - `Yes`: each student is equal on all inputs.
 /// - `No`: some student isn't.
 /// - `Refused`: there is no input, a line of `inputs` is none, or the solution's text is no
-///   function, or on some input it has no tree. The text says which.
+///   function, or on some input it has no tree in which each place has a head: nobody's tree could
+///   be equal to it. The text says which.
 ///
 /// `NoMemory`: no memory was found.
 pub fn grade(

@@ -1,8 +1,9 @@
 //! A function applied to a line, and what `demand` reads of it.
 
-ghost use Rattle.std.specs.Prelude.{◌≡◌, ℕ, List, ◌+◌, ◌≤◌, ◌++◌, length, codes, IfOk};
+ghost use Rattle.std.specs.Prelude.{◌≡◌, ◌↔◌, ℕ, true, List, ◌+◌, ◌≤◌, ◌++◌, length, codes, IfOk};
 ghost use Rattle.ol_limits.specs.Limits.{most_depth, most_nodes};
 ghost use Rattle.ol_term.specs.Trees.{tree_of, depth, EachOccurs};
+ghost use Rattle.ol_readback.specs.Terms.{HasAllHeads};
 ghost use Rattle.ol_grades.specs.Applied.{IsApplied};
 ghost use Rattle.ol_grades.specs.Reads.{lack_words};
 ghost use Rattle.ol_grades.specs.Grades.{IsFunction};
@@ -14,6 +15,7 @@ use ol_limits::{Fuel, Heads};
 use ol_memory::NoMemory;
 use ol_net::Net;
 use ol_parse::{ParseFault, parse};
+use ol_readback::{ReadNode, ReadTree};
 use ol_subjects::put;
 use ol_term::{Names, TermFile, Translation};
 use ol_translate::{TransFault, translate};
@@ -141,4 +143,21 @@ pub fn read_on(
             Ok(found)
         }
     }
+}
+
+/// Whether each place of a tree has a head.
+pub fn is_whole(tree: &ReadTree) -> bool
+    ensures { (result ≡ true) ↔ HasAllHeads tree.now }
+{
+    for place in 0..tree.len() {
+        let Some(node) = tree.get(place) else {
+            unreachable!()
+        };
+        match node {
+            ReadNode::Head { .. } => {}
+            ReadNode::NoHead => return false,
+            ReadNode::Cut => return false,
+        }
+    }
+    true
 }

@@ -9,12 +9,14 @@ use Rattle.ol_readback.specs.Whole.{Part, term, lost, cut, none, more, count, pr
 use Rattle.ol_readback.specs.declared.answers.HeadVar.{HeadVar}
 use Rattle.ol_readback.specs.declared.answers.ReadNode.{ReadNode}
 use Rattle.ol_readback.specs.declared.answers.ReadNode.TheVariants as node
+use Rattle.ol_readback.proofs.OneTree.{count_one}
 use Rattle.ol_readback.proofs.Scoped.{rounds_length}
 use Rattle.ol_equal.specs.Comparing.{place_at}
 use Rattle.ol_equal.specs.Walking.{args_of}
-use Rattle.ol_heads.specs.Inside.{back, gone, lams_of}
+use Rattle.ol_heads.specs.Heads.{lams_of}
+use Rattle.ol_heads.specs.Inside.{back, gone}
 
-gone-append : (ns ms : List ReadNode) (s : ℕ × ℕ) → gone (ns ++ ms) s ≡ gone ns (gone ms s)
+pub gone-append : (ns ms : List ReadNode) (s : ℕ × ℕ) → gone (ns ++ ms) s ≡ gone ns (gone ms s)
 gone-append [] ms s = refl
 gone-append (n ∷ ns) ms s = ap (back n) (gone-append ns ms s)
 
@@ -41,13 +43,8 @@ back_cut d r =
     let e : d - 0 + 1 ≡ suc d = omega arith in
     rw (t, e) refl
 
-one : (t : Part true) → count t ≡ 1
-one (term l v ts) = refl
-one lost = refl
-one cut = refl
-
 -- whole trees are counted, and nothing else
-over : {b : Bool} (t : Part b) (d r : ℕ) → gone (preorder t) (d, r) ≡ (count t + d, r)
+pub over : {b : Bool} (t : Part b) (d r : ℕ) → gone (preorder t) (d, r) ≡ (count t + d, r)
 over (term l v ts) d r = ap (back (node.Head l v (count ts))) (over ts d r) ∙ back_more l v (count ts) d r
     ∙ ap (λ (n : ℕ). (n, r)) (let e : suc d ≡ 1 + d = omega arith in e)
 over lost d r = back_none d r ∙ ap (λ (n : ℕ). (n, r)) (let e : suc d ≡ 1 + d = omega arith in e)
@@ -55,9 +52,9 @@ over cut d r = back_cut d r ∙ ap (λ (n : ℕ). (n, r)) (let e : suc d ≡ 1 +
 over none d r = ap (λ (n : ℕ). (n, r)) (let e : d ≡ 0 + d = omega arith in e)
 over (more u us) d r = gone-append (preorder u) (preorder us) (d, r) ∙ ap (gone (preorder u)) (over us d r)
     ∙ over u (count us + d) r
-    ∙ ap (λ (n : ℕ). (n, r)) (let e : count u + (count us + d) ≡ suc (count us) + d = omega (arith, one u) in e)
+    ∙ ap (λ (n : ℕ). (n, r)) (let e : count u + (count us + d) ≡ suc (count us) + d = omega (arith, count_one u) in e)
 
-take_over : (xs ys : List ReadNode) (n : ℕ) → take (length xs + n) (xs ++ ys) ≡ xs ++ take n ys
+pub take_over : (xs ys : List ReadNode) (n : ℕ) → take (length xs + n) (xs ++ ys) ≡ xs ++ take n ys
 take_over [] ys n = let e : 0 + n ≡ n = omega arith in rw e refl
 take_over (x ∷ xs) ys n = let e : suc (length xs) + n ≡ suc (length xs + n) = omega arith in
     rw e (ap (λ zs. x ∷ zs) (take_over xs ys n))
@@ -67,30 +64,30 @@ index_left [] ys n l = absurd (omega (arith, l))
 index_left (x ∷ xs) ys zero l = refl
 index_left (x ∷ xs) ys (suc n) l = index_left xs ys n (omega (arith, l))
 
-index_right : (xs ys : List ℕ) (n m : ℕ) → n ≡ length xs + m → slice_index_or (xs ++ ys) n 0 ≡ slice_index_or ys m 0
+pub index_right : (xs ys : List ℕ) (n m : ℕ) → n ≡ length xs + m → slice_index_or (xs ++ ys) n 0 ≡ slice_index_or ys m 0
 index_right [] ys n m e = ap (λ n. slice_index_or ys n 0) (let q : n ≡ m = omega (arith, e) in q)
 index_right (x ∷ xs) ys zero m e = absurd (omega (arith, e))
 index_right (x ∷ xs) ys (suc n) m e = index_right xs ys n m (omega (arith, e))
 
 -- place n of a part: j whole trees of the part stand before the one with the place, and o binders of the part stand round it
-record Stands (b : Bool) (t : Part b) (n : ℕ) : Type 0 where
-  before : ℕ
-  low : before < count t
-  round : ℕ
-  walks : (r : ℕ) → gone (take n (preorder t)) (0, r) ≡ (before, r + round)
-  is : (s : ℕ) → slice_index_or (rounds s t) n 0 ≡ s + round
+pub record Stands (b : Bool) (t : Part b) (n : ℕ) : Type 0 where
+  pub before : ℕ
+  pub low : before < count t
+  pub round : ℕ
+  pub walks : (r : ℕ) → gone (take n (preorder t)) (0, r) ≡ (before, r + round)
+  pub is : (s : ℕ) → slice_index_or (rounds s t) n 0 ≡ s + round
 
 first_place : (t : Part true) (n : ℕ) → n ≡ 0 → ((s : ℕ) → slice_index_or (rounds s t) 0 0 ≡ s) → Stands true t n
 first_place t n e is = record {
   before = 0;
-  low = omega (arith, one t);
+  low = omega (arith, count_one t);
   round = 0;
   walks = λ r. ap (λ n. gone (take n (preorder t)) (0, r)) e
       ∙ ap (λ (m : ℕ). (0, m)) (let q : r ≡ r + 0 = omega arith in q);
   is = λ s. ap (λ n. slice_index_or (rounds s t) n 0) e ∙ is s ∙ (let q : s ≡ s + 0 = omega arith in q);
 }
 
-stands : {b : Bool} (t : Part b) (n : ℕ) → n < length (preorder t) → Stands b t n
+pub stands : {b : Bool} (t : Part b) (n : ℕ) → n < length (preorder t) → Stands b t n
 stands (term l v ts) zero lt = first_place (term l v ts) 0 refl (λ s. refl)
 stands (term l v ts) (suc n) lt =
     let h = stands ts n (omega (arith, lt)) in
@@ -111,7 +108,7 @@ stands none n lt = absurd (omega (arith, lt))
 stands (more u us) n lt = elim (cases_lt n (length (preorder u))) [
   | inl here ↦
       let h = stands u n here in
-      let q : h.before ≡ 0 = omega (arith, h.low, one u) in
+      let q : h.before ≡ 0 = omega (arith, h.low, count_one u) in
       record {
         before = 0;
         low = omega arith;
@@ -133,7 +130,7 @@ stands (more u us) n lt = elim (cases_lt n (length (preorder u))) [
             ∙ gone-append (preorder u) (take m (preorder us)) (0, r) ∙ ap (gone (preorder u)) (h.walks r)
             ∙ over u h.before (r + h.round)
             ∙ ap (λ (k : ℕ). (k, r + h.round))
-            (let q : count u + h.before ≡ suc h.before = omega (arith, one u) in q);
+            (let q : count u + h.before ≡ suc h.before = omega (arith, count_one u) in q);
         is = λ s. index_right (rounds s u) (rounds s us) n m (omega (arith, e, rounds_length s u)) ∙ h.is s;
       }
 ]

@@ -1,12 +1,12 @@
 -- The text of a place, piece by piece.
 use Rattle.std.proofs.Common.{◌≡◌, ℕ, zero, suc, ◌+◌, ◌<◌, List, [], ◌∷◌, ◌++◌, append_assoc, append-nil, refl, sym, ap, ◌∙◌, arith, slice_index}
 use Rattle.ol_term.specs.BinderNames.{binder_name}
-use Rattle.ol_readback.specs.Texts.{AreNamed, IsNamedNode, abstractions, spaced, variable}
+use Rattle.ol_readback.specs.Texts.{AreNamed, IsNamedNode, abstractions, spaced}
 use Rattle.ol_readback.specs.declared.answers.HeadVar.{HeadVar}
 use Rattle.ol_readback.specs.declared.answers.ReadNode.{ReadNode}
 use Rattle.ol_readback.specs.declared.answers.ReadNode.TheVariants as node
 use Rattle.ol_equal.specs.Comparing.{place_at}
-use Rattle.ol_heads.specs.Heads.{head_text, underscores}
+use Rattle.ol_heads.specs.Heads.{head_text, told_variable, underscores}
 use Rattle.ol_heads.specs.Inside.{opened, sign}
 
 -- one underscore more
@@ -76,13 +76,13 @@ named_at count (n ∷ ns) zero h = h.0
 named_at count (n ∷ ns) (suc k) h = named_at count ns k h.1
 
 -- the text of a head, piece by piece
-pub placed : (names : List (List ℕ)) (rs : List ℕ) (k t l n : ℕ) (v : HeadVar) (at : ReadNode)
+pub placed : (all names : List (List ℕ)) (rs : List ℕ) (k t l n : ℕ) (v : HeadVar) (at : ReadNode)
     (start opened named new : List ℕ) → node.Head l v n ≡ at → t ≡ slice_index rs k →
-    opened ≡ start ++ abstractions names t l → named ≡ opened ++ variable names rs v →
-    new ≡ named ++ underscores n → new ≡ start ++ head_text names rs k at
-placed names rs k t l n v at start opened named new e f g h i =
-    let a = abstractions names (slice_index rs k) l in
-    i ∙ ap (λ s. s ++ underscores n) (h ∙ ap (λ s. s ++ variable names rs v)
-    (g ∙ ap (λ t. start ++ abstractions names t l) f) ∙ append_assoc start a (variable names rs v))
-    ∙ append_assoc start (a ++ variable names rs v) (underscores n)
-    ∙ ap (λ at. start ++ head_text names rs k at) e
+    opened ≡ start ++ abstractions all t l → named ≡ opened ++ told_variable all names rs v →
+    new ≡ named ++ underscores n → new ≡ start ++ head_text all names rs k at
+placed all names rs k t l n v at start opened named new e f g h i =
+    let a = abstractions all (slice_index rs k) l in
+    i ∙ ap (λ s. s ++ underscores n) (h ∙ ap (λ s. s ++ told_variable all names rs v)
+    (g ∙ ap (λ t. start ++ abstractions all t l) f) ∙ append_assoc start a (told_variable all names rs v))
+    ∙ append_assoc start (a ++ told_variable all names rs v) (underscores n)
+    ∙ ap (λ at. start ++ head_text all names rs k at) e

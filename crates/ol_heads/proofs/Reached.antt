@@ -3,15 +3,11 @@ use Rattle.std.proofs.Common.{◌≡◌, ℕ, zero, suc, ◌+◌, ◌-◌, ◌<�
 use Rattle.std.proofs.lemmas.List.{length-append}
 use Rattle.ol_readback.specs.Whole.{Part, term, lost, cut, none, more, count, preorder}
 use Rattle.ol_readback.specs.declared.answers.ReadNode.{ReadNode}
+use Rattle.ol_readback.proofs.OneTree.{count_one}
 use Rattle.ol_equal.specs.Comparing.{place_at}
 use Rattle.ol_equal.specs.Walking.{args_of}
 use Rattle.ol_equal.specs.Paths.{PathLeads, root, inside, first, later, IsPathTo}
 use Rattle.ol_heads.specs.Inside.{taken, reached}
-
-one : (t : Part true) → count t ≡ 1
-one (term l v ts) = refl
-one lost = refl
-one cut = refl
 
 pub none_taken : (ns : List ReadNode) → taken ns 0 ≡ 0
 none_taken [] = refl
@@ -30,7 +26,7 @@ taken_over cut c (suc n) rest e = let q : n + 0 ≡ c = omega (arith, e) in let 
 taken_over none c n rest e = let q : n ≡ c = omega (arith, e) in let h = ap (taken rest) q in omega (arith, h)
 taken_over (more u us) c n rest e =
     let a = ap (λ l. taken l n) (append_assoc (preorder u) (preorder us) rest) in
-    let f = taken_over u (count us + c) n (preorder us ++ rest) (omega (arith, e, one u)) in
+    let f = taken_over u (count us + c) n (preorder us ++ rest) (omega (arith, e, count_one u)) in
     let g = taken_over us c (count us + c) rest refl in
     let l = length-append (preorder u) (preorder us) in
     omega (arith, a, f, g, l)
@@ -71,7 +67,7 @@ reaches (later t ts j js n r) = λ ns rest q d low.
     let f = drop_past (preorder t) (preorder ts ++ rest) ns q (q + m) refl e in
     let k = leads_first r in
     let a = ap (λ l. taken l (suc j - 1)) e
-    ∙ taken_over t (j - 1) (suc j - 1) (preorder ts ++ rest) (omega (arith, k, one t))
+    ∙ taken_over t (j - 1) (suc j - 1) (preorder ts ++ rest) (omega (arith, k, count_one t))
     ∙ ap (λ l. m + taken l (j - 1)) (sym f) in
     let ih = reaches r ns rest (q + m) f k in
     let b : q + taken (drop q ns) (suc j - 1) ≡ q + m + taken (drop (q + m) ns) (j - 1) = omega (arith, a) in

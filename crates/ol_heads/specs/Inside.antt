@@ -3,8 +3,8 @@ use Rattle.std.specs.Prelude.{ℕ, zero, suc, ◌+◌, ◌-◌, nat_lt, if◌the
 use Rattle.ol_term.specs.BinderNames.{binder_name}
 use Rattle.ol_readback.specs.Texts.{spaced}
 use Rattle.ol_readback.specs.declared.answers.ReadNode.{ReadNode}
-use Rattle.ol_readback.specs.declared.answers.ReadNode.TheVariants as node
 use Rattle.ol_equal.specs.Walking.{args_of}
+use Rattle.ol_heads.specs.Heads.{lams_of}
 
 -- how many places so many whole trees take at the front of a list
 abbrev pub taken : List ReadNode → ℕ → ℕ
@@ -16,11 +16,6 @@ taken (n ∷ ns) (suc c) = suc (taken ns (c + args_of n))
 abbrev pub reached : List ReadNode → List ℕ → ℕ → ℕ
 reached ns [] p = p
 reached ns (j ∷ js) p = reached ns js (p + 1 + taken (drop (p + 1) ns) (j - 1))
-
-abbrev pub lams_of : ReadNode → ℕ
-lams_of (node.Head l v k) = l
-lams_of node.NoHead = 0
-lams_of node.Cut = 0
 
 -- one place back: how many whole trees stand between here and the place, and how many binders of the places that hold it
 abbrev pub back : ReadNode → ℕ × ℕ → ℕ × ℕ

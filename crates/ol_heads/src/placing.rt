@@ -4,7 +4,8 @@ ghost use Rattle.std.specs.Prelude.{◌≡◌, ℕ, ◌+◌, ◌≤◌, length, 
 ghost use Rattle.ol_equal.specs.Comparing.{place_at};
 ghost use Rattle.ol_equal.specs.Paths.{IsPathTo};
 ghost use Rattle.ol_equal.specs.Walking.{args_of};
-ghost use Rattle.ol_heads.specs.Inside.{lams_of, taken, reached};
+ghost use Rattle.ol_heads.specs.Heads.{lams_of};
+ghost use Rattle.ol_heads.specs.Inside.{taken, reached};
 
 use ol_equal::Path;
 use ol_readback::{ReadNode, ReadTree};

@@ -1,11 +1,11 @@
 //! The text of a head.
 
 ghost use Rattle.std.specs.Prelude.{◌≡◌, ℕ, true, ◌++◌, length, IfOk, OnOk};
-ghost use Rattle.ol_readback.specs.Texts.{AreNamed, IsNamedVar, abstractions, variable, rounds};
+ghost use Rattle.ol_readback.specs.Texts.{AreNamed, IsNamedVar, abstractions, rounds};
 ghost use Rattle.ol_readback.specs.Whole.{Part, preorder};
 ghost use Rattle.ol_equal.specs.Comparing.{place_at};
 ghost use Rattle.ol_equal.specs.Paths.{IsPathTo};
-ghost use Rattle.ol_heads.specs.Heads.{IsHeadText, underscores, head_text};
+ghost use Rattle.ol_heads.specs.Heads.{IsHeadText, told_variable, underscores, head_text};
 ghost use Rattle.ol_heads.specs.Inside.{sign};
 
 use crate::placing::{node_at, place_of};
@@ -53,10 +53,10 @@ fn put_variable(
     names: &Names,
     var: HeadVar,
 ) -> Result<(), NoMemory>
-    requires binders { binders.old ≡ names.now }
     requires free { IsNamedVar (length names.now) var }
     ensures { OnOk result ((part : Part true) → preorder part ≡ tree.now
-        → text.new.items ≡ text.old.items ++ variable names.now (rounds 0 part) var) }
+        → text.new.items
+        ≡ text.old.items ++ told_variable binders.old names.now (rounds 0 part) var) }
 {
     match var {
         HeadVar::Free(port) => {
@@ -88,18 +88,19 @@ fn put_place(
     text: &mut Vec<u8>,
     tree: &ReadTree,
     names: &Names,
+    all: &Names,
     k: u64,
 ) -> Result<(), NoMemory>
     requires free { AreNamed (length names.now) tree.now }
     ensures { OnOk result ((part : Part true) → preorder part ≡ tree.now
         → text.new.items ≡ text.old.items
-        ++ head_text names.now (rounds 0 part) k (place_at tree.now k)) }
+        ++ head_text all.now names.now (rounds 0 part) k (place_at tree.now k)) }
 {
     match node_at(tree, k) {
         ReadNode::NoHead => put(text, b"?"),
         ReadNode::Cut => put(text, b"..."),
         ReadNode::Head { lams, var, args } => {
-            let mut binders = BinderNames::new(alloc, names);
+            let mut binders = BinderNames::new(alloc, all);
             let round = round_of(tree, k)?;
             put_abstractions(&mut binders, text, round, lams)?;
             put_variable(&mut binders, text, tree, names, var)?;
@@ -112,9 +113,10 @@ fn put_place(
 /// and a space and an underscore for each argument. It is `?` where the place has no head, and `...`
 /// where the tree was cut.
 ///
-/// Binders have the names that they have in the text of the whole tree (`tree_text` of
-/// ol_readback), also those of places round this one: a to z, a1 to z1 and so on without `names`, by
-/// how many binders stand round each. The free name of port q is name q - 1.
+/// A binder has a letter that is none of `all`: a to z, a1 to z1 and so on without these, by how
+/// many binders stand round it. The free name of port q is name q - 1 of `names`. If `all` has the
+/// free names of two trees (`all_names`), two heads at one place of them have one text only if they
+/// are one head (law `one_text_is_one_head`).
 ///
 /// `NoMemory`: no memory was found. The path leads to a place of the tree, and each free name in the
 /// tree is one of `names`.
@@ -122,15 +124,16 @@ pub fn head_text(
     alloc: Global,
     tree: &ReadTree,
     names: &Names,
+    all: &Names,
     path: &Path,
 ) -> Result<Vec<u8>, NoMemory>
     requires free { AreNamed (length names.now) tree.now }
     ensures { IfOk result (λ text. (k : ℕ) → IsPathTo tree.now k path.now
-        → IsHeadText names.now tree.now k text.items) }
+        → IsHeadText all.now names.now tree.now k text.items) }
 {
     tree.is_whole();
     let place = place_of(tree, path);
     let mut text = Vec::new(alloc);
-    put_place(alloc, &mut text, tree, names, place)?;
+    put_place(alloc, &mut text, tree, names, all, place)?;
     Ok(text)
 }

@@ -11,10 +11,11 @@ returns c k h =
     let rs = rounds 0 w.tree in
     let p = c.place_of-place.result in
     let names = c.args.names.now in
+    let all = c.args.all.now in
     record {
       tree = w.tree;
       listed = w.is_list;
       is = c.in_ok-put_place.ensures w.tree w.is_list
-          ∙ ap (λ s. s ++ head_text names rs p (place_at ns p)) c.new-text.ensures.items
-          ∙ ap (λ k. head_text names rs k (place_at ns k)) (c.place_of-place.ensures k h);
+          ∙ ap (λ s. s ++ head_text all names rs p (place_at ns p)) c.new-text.ensures.items
+          ∙ ap (λ k. head_text all names rs k (place_at ns k)) (c.place_of-place.ensures k h);
     }

@@ -3,7 +3,10 @@ use Rattle.ol_readback.specs.Texts.{IsNamedNode}
 use Rattle.ol_heads.proofs.Printed.{named_at}
 use Rattle.ol_heads.proofs.printing.put_place.Goals as goal
 
-pub put_variable-requires-clause-free : goal.put_variable-requires-clause-free
-put_variable-requires-clause-free c =
+pub put_variable-requires : goal.put_variable-requires
+put_variable-requires c =
     let n = length c.args.names.now in
-    subst (IsNamedNode n) (sym c.node_at.ensures ∙ c.in-Head.is) (named_at n c.args.tree.now c.args.k c.requires.free)
+    record {
+      free = subst (IsNamedNode n) (sym c.node_at.ensures ∙ c.in-Head.is)
+          (named_at n c.args.tree.now c.args.k c.requires.free);
+    }
