@@ -78,7 +78,7 @@ pub fn worker<R: Wait, G: Gate>(
 const WAITS_A_ROUND: u32 = 64;
 
 // How often in a row a worker without a cell pauses.
-const PAUSES: u32 = 64;
+const PAUSES: u32 = 256;
 
 // How far a worker is in its call: how many turns it made, how often no cell waited, where its
 // round goes on, and how long it pauses.
