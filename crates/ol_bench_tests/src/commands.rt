@@ -3,10 +3,9 @@ ghost use Rattle.std.specs.Prelude.{◌≤◌};
 ghost use Rattle.ol_bench.specs.Commands.{IsOneWithin};
 ghost use Rattle.ol_limits.specs.Limits.{most_fuel};
 
-use crate::fakes::{leftmost, named};
-use ol_bench::{Asked, OnOne, Status, bench};
+use crate::fakes::{file, leftmost, named, ran};
+use ol_bench::{Asked, OnOne, Status};
 use ol_counts::{Bounds, Columns};
-use ol_io::{MemFile, MemSink, MemSource};
 use ol_limits::{Fuel, Heads};
 use ol_objects::Layout;
 use ol_orders::Order;
@@ -22,74 +21,6 @@ const NET: &[u8] = b"ol net 1\nfree 2\nnode eraser -\nnode eraser -\nlink f0 f1\
 
 // A net without free ports.
 const CLOSED: &[u8] = b"ol net 1\nfree 0\nnode eraser -\nnode eraser -\nlink 0.0 1.0\n";
-
-const ONCE_COUNTS: &str = "                         run      demand    leftmost
-beta                       2           2           2
-fan                        1           1           -
-croissant                  2           2           -
-bracket                    0           0           -
-cross-fan                  2           2           -
-cross-croissant            4           4           -
-cross-bracket              0           0           -
-erase                      0           0           -
-interactions              11          11           -
-stuck                      0           0           -
-";
-
-const NET_COUNTS: &str = "                         run      demand    leftmost
-beta                       0           0           -
-fan                        0           0           -
-croissant                  0           0           -
-bracket                    0           0           -
-cross-fan                  0           0           -
-cross-croissant            0           0           -
-cross-bracket              0           0           -
-erase                      1           0           -
-interactions               1           0           -
-stuck                      0           0           -
-";
-
-// The run goes on, where the two other ways take one beta step.
-const RUN_GOES_ON: &str = "                         run      demand    leftmost
-beta                       -           1           1
-fan                        -           0           -
-croissant                  -           0           -
-bracket                    -           0           -
-cross-fan                  -           0           -
-cross-croissant            -           0           -
-cross-bracket              -           0           -
-erase                      -           0           -
-interactions               -           1           -
-stuck                      -           0           -
-";
-
-// Leftmost reduction takes three steps, and may take two.
-const LEFTMOST_GOES_ON: &str = "                         run      demand    leftmost
-beta                       3           3           -
-fan                        0           0           -
-croissant                  0           0           -
-bracket                    0           0           -
-cross-fan                  0           0           -
-cross-croissant            0           0           -
-cross-bracket              0           0           -
-erase                      0           0           -
-interactions               3           3           -
-stuck                      0           0           -
-";
-
-// There is no free port to read from.
-const CLOSED_COUNTS: &str = "                         run      demand    leftmost
-beta                       0           -           -
-fan                        0           -           -
-croissant                  0           -           -
-bracket                    0           -           -
-cross-fan                  0           -           -
-cross-croissant            0           -           -
-cross-bracket              0           -           -
-erase                      1           -           -
-interactions               1           -           -
-stuck                      0           -           -
-";
 
 fn counts(subject: Subject, fuel: u32) -> OnOne
     requires { fuel ≤ most_fuel }
@@ -139,7 +70,6 @@ fn command(command: &str, number: u32) -> OnOne
     match command {
         "where" => OnOne::Where { byte: number },
         "steps" => leftmost(number),
-        "counts" => counts(term, number),
         "counts --net" => counts(Subject::Net, number),
         "least" => journal(term, Order::Least, number),
         "least --translation 1" => journal(first, Order::Least, number),
@@ -164,25 +94,13 @@ pub fn assert_row(
         command: command(words, number),
     };
     let mut files = Vec::new(alloc);
-    files.push(MemFile {
-        name: String::from_str(alloc, "-")?,
-        bytes: Vec::from_slice(alloc, bytes)?,
-    })?;
-    let mut src = MemSource::new(files, 65_536, Vec::new(alloc));
-    let mut out = MemSink::new(alloc, 1_048_576, 65_536, Vec::new(alloc))
-        .ok()
-        .ok_or("no memory")?;
-    let mut errors = MemSink::new(alloc, 1_048_576, 65_536, Vec::new(alloc))
-        .ok()
-        .ok_or("no memory")?;
-    let ended = bench(alloc, &asked, &mut src, &mut out, &mut errors);
-    assert_eq!(rt; ended, status, "{words} {number}");
-    let (written, empty) = match status {
-        Status::Refused => (errors.bytes(), out.bytes()),
-        _ => (out.bytes(), errors.bytes()),
+    files.push(file(alloc, "-", bytes)?)?;
+    let ran = ran(alloc, &asked, files)?;
+    let right = match status {
+        Status::Refused => ran.is(status, b"", wanted.as_bytes()),
+        _ => ran.is(status, wanted.as_bytes(), b""),
     };
-    assert!(rt; written == wanted.as_bytes(), "{words} {number}");
-    assert!(rt; empty.is_empty(), "{words} {number}");
+    assert!(rt; right, "{words} {number}");
     Ok(())
 }
 
@@ -223,23 +141,11 @@ fn steps_are_told(rt: HostRuntime) -> Result<(), Fail> {
         "(\\a. a a) (\\a. a)\n  at .\n(\\a. a) (\\a. a)\n  at .\na redex is left after 1 steps\n";
     assert!(rt; two.as_bytes().starts_with(first.as_bytes()));
     let inner = "f (g ((\\a. a) x))\n  at 22\nf (g x)\nnormal after 1 steps\n";
-    let rows: [(&str, u32, &[u8], Status, &str); 4] = [
+    let rows: [(&str, u32, &[u8], Status, &str); 5] = [
         ("steps", 2, ONCE, Status::Yes, two),
         ("steps", 1, ONCE, Status::No, left),
         ("steps", 9, b"f (g ((\\z. z) x))", Status::Yes, inner),
         ("steps", 9, b"(x", Status::Refused, "syntax at byte 2\n"),
-    ];
-    for row in rows {
-        assert_row(&rt, rt.alloc(), row)?;
-    }
-    Ok(())
-}
-
-#[test]
-fn ways_are_counted(rt: HostRuntime) -> Result<(), Fail> {
-    let rows: [(&str, u32, &[u8], Status, &str); 3] = [
-        ("counts", 11, ONCE, Status::Yes, ONCE_COUNTS),
-        ("counts --net", 9, NET, Status::Yes, NET_COUNTS),
         (
             "counts --net",
             9,
@@ -247,21 +153,6 @@ fn ways_are_counted(rt: HostRuntime) -> Result<(), Fail> {
             Status::Refused,
             "bad net at line 1\n",
         ),
-    ];
-    for row in rows {
-        assert_row(&rt, rt.alloc(), row)?;
-    }
-    Ok(())
-}
-
-#[test]
-fn ways_that_go_on_have_hyphens(rt: HostRuntime) -> Result<(), Fail> {
-    let unused = b"(\\x. y) ((\\x. x x) (\\x. x x))".as_slice();
-    let three = b"(\\x. x) ((\\y. y) ((\\z. z) w))".as_slice();
-    let rows: [(&str, u32, &[u8], Status, &str); 3] = [
-        ("counts", 9, unused, Status::No, RUN_GOES_ON),
-        ("counts", 9, three, Status::No, LEFTMOST_GOES_ON),
-        ("counts --net", 9, CLOSED, Status::No, CLOSED_COUNTS),
     ];
     for row in rows {
         assert_row(&rt, rt.alloc(), row)?;

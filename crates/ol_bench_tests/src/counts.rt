@@ -3,6 +3,7 @@
 ghost use Rattle.std.specs.Prelude.{◌≤◌};
 ghost use Rattle.ol_subjects.specs.Subjects.{most_bytes};
 
+use crate::fakes::shown;
 use ol_counts::{Bounds, Columns, counted};
 use ol_limits::{Fuel, Heads};
 use ol_objects::Layout;
@@ -40,10 +41,59 @@ const NONE: Columns = Columns {
     families: false,
 };
 
-const NET: &str = "ol net 1\nfree 2\nnode eraser -\nnode eraser -\nlink f0 f1\nlink 0.0 1.0\n";
+// The ways that are there by themselves.
+const USUAL: Columns = Columns {
+    run: true,
+    demand: true,
+    leftmost: true,
+    applicative: false,
+    need: false,
+    families: false,
+};
 
-const NET_TABLE: &str =
-    "                         run      demand    leftmost applicative        need    families
+// A text, the ways that are shown of it, and how; the most steps; the end, and what is written.
+type Row<'a> = (&'a [u8], (Columns, Layout, u32), End, &'a [u8]);
+
+// Asserts the end of a text, and what is written of it.
+fn assert_written(
+    rt: &impl Abort,
+    alloc: Global,
+    subject: Subject,
+    row: Row<'_>,
+) -> Result<(), Fail>
+    requires { 1000 ≤ most_bytes subject }
+{
+    let (text, (columns, layout, steps), end, written) = row;
+    if text.len() > 1_000 {
+        return Err(Fail::from("too long"));
+    }
+    let bounds = Bounds {
+        fuel: Fuel::of(100),
+        heads: Heads::of(10),
+        steps,
+        moves: 1_000,
+    };
+    let answer = counted(alloc, text, subject, bounds, columns, layout)?;
+    let right = answer.text.as_slice() == written && answer.end == end;
+    let shown = shown(text);
+    assert!(rt; right, "{shown}");
+    Ok(())
+}
+
+#[test]
+fn nets_are_counted(rt: HostRuntime) -> Result<(), Fail> {
+    let net =
+        b"ol net 1\nfree 2\nnode eraser -\nnode eraser -\nlink f0 f1\nlink 0.0 1.0\n".as_slice();
+    // There is no free port to read from.
+    let closed = b"ol net 1\nfree 0\nnode eraser -\nnode eraser -\nlink 0.0 1.0\n".as_slice();
+    let object =
+        b"{\"columns\":{\"run\":{\"beta\":0,\"fan\":0,\"croissant\":0,\"bracket\":0,\"cross-fan\":0,\"cross-croissant\":0,\"cross-bracket\":0,\"erase\":1,\"interactions\":1,\"stuck\":0},\"demand\":{\"beta\":0,\"fan\":0,\"croissant\":0,\"bracket\":0,\"cross-fan\":0,\"cross-croissant\":0,\"cross-bracket\":0,\"erase\":0,\"interactions\":0,\"stuck\":0},\"leftmost\":null,\"applicative\":null,\"need\":null,\"families\":null}}\n".as_slice();
+    let rows: [Row<'_>; 3] = [
+        (
+            net,
+            (ALL, Layout::Lines, 20),
+            End::Yes,
+            b"                         run      demand    leftmost applicative        need    families
 beta                       0           0           -           -           -           -
 fan                        0           0           -           -           -           -
 croissant                  0           0           -           -           -           -
@@ -54,121 +104,79 @@ cross-bracket              0           0           -           -           -    
 erase                      1           0           -           -           -           -
 interactions               1           0           -           -           -           -
 stuck                      0           0           -           -           -           -
-";
-
-const NET_OBJECT: &str =
-    "{\"columns\":{\"run\":{\"beta\":0,\"fan\":0,\"croissant\":0,\"bracket\":0,\"cross-fan\":0,\"cross-croissant\":0,\"cross-bracket\":0,\"erase\":1,\"interactions\":1,\"stuck\":0},\"demand\":{\"beta\":0,\"fan\":0,\"croissant\":0,\"bracket\":0,\"cross-fan\":0,\"cross-croissant\":0,\"cross-bracket\":0,\"erase\":0,\"interactions\":0,\"stuck\":0},\"leftmost\":null,\"applicative\":null,\"need\":null,\"families\":null}}\n";
-
-// Asserts the end of a text, and what is written of it.
-fn assert_written(
-    rt: &impl Abort,
-    alloc: Global,
-    subject: Subject,
-    text: &str,
-    asked: (Columns, Layout),
-    end: End,
-    written: &str,
-) -> Result<(), Fail>
-    requires { 1000 ≤ most_bytes subject }
-{
-    if text.len() > 1_000 {
-        return Err(Fail::from("too long"));
+",
+        ),
+        (net, (ALL, Layout::Object, 20), End::Yes, object),
+        (
+            closed,
+            (USUAL, Layout::Lines, 20),
+            End::No,
+            b"                         run      demand    leftmost
+beta                       0           -           -
+fan                        0           -           -
+croissant                  0           -           -
+bracket                    0           -           -
+cross-fan                  0           -           -
+cross-croissant            0           -           -
+cross-bracket              0           -           -
+erase                      1           -           -
+interactions               1           -           -
+stuck                      0           -           -
+",
+        ),
+    ];
+    for row in rows {
+        assert_written(&rt, rt.alloc(), Subject::Net, row)?;
     }
-    let (columns, layout) = asked;
-    let bounds = Bounds {
-        fuel: Fuel::of(100),
-        heads: Heads::of(10),
-        steps: 20,
-        moves: 1_000,
-    };
-    let answer = counted(alloc, text.as_bytes(), subject, bounds, columns, layout)?;
-    assert!(rt; answer.end == end, "{text}");
-    assert!(rt; answer.text.as_slice() == written.as_bytes(), "{text}");
     Ok(())
 }
 
 #[test]
-fn a_net_is_counted_by_its_runs(rt: HostRuntime) -> Result<(), Fail> {
-    let asked = (ALL, Layout::Lines);
-    assert_written(
-        &rt,
-        rt.alloc(),
-        Subject::Net,
-        NET,
-        asked,
-        End::Yes,
-        NET_TABLE,
-    )
-}
-
-#[test]
-fn columns_are_objects(rt: HostRuntime) -> Result<(), Fail> {
-    let asked = (ALL, Layout::Object);
-    assert_written(
-        &rt,
-        rt.alloc(),
-        Subject::Net,
-        NET,
-        asked,
-        End::Yes,
-        NET_OBJECT,
-    )?;
-    let subject = Subject::Term(Translation::Two);
-    let asked = (OF_TERM, Layout::Object);
-    let text = "(\\x. \\y. y) ((\\x. x x) (\\x. x x)) z";
-    let object =
-        "{\"columns\":{\"leftmost\":{\"beta\":2},\"applicative\":null,\"need\":{\"beta\":2},\"families\":{\"beta\":2}}}\n";
-    assert_written(&rt, rt.alloc(), subject, text, asked, End::No, object)?;
-    let asked = (NONE, Layout::Object);
-    assert_written(
-        &rt,
-        rt.alloc(),
-        subject,
-        "x",
-        asked,
-        End::Yes,
-        "{\"columns\":{}}\n",
-    )
-}
-
-#[test]
 fn terms_are_counted(rt: HostRuntime) -> Result<(), Fail> {
-    let rows = [
+    let without = Columns {
+        applicative: false,
+        ..OF_TERM
+    };
+    let demand = Columns {
+        demand: true,
+        ..NONE
+    };
+    let lines = Layout::Lines;
+    let endless = b"(\\x. \\y. y) ((\\x. x x) (\\x. x x)) z".as_slice();
+    let object =
+        b"{\"columns\":{\"leftmost\":{\"beta\":2},\"applicative\":null,\"need\":{\"beta\":2},\"families\":{\"beta\":2}}}\n".as_slice();
+    // Leftmost reduction takes three steps, and may take two.
+    let three = b"(\\x. x) ((\\y. y) ((\\z. z) w))".as_slice();
+    let rows: [Row<'_>; 8] = [
         (
-            "(\\x. x x) ((\\y. y) z)",
-            OF_TERM,
+            b"(\\x. x x) ((\\y. y) z)",
+            (OF_TERM, lines, 20),
             End::Yes,
-            "                    leftmost applicative        need    families
+            b"                    leftmost applicative        need    families
 beta                       3           2           2           2
 ",
         ),
         (
-            "(\\x. \\y. y) ((\\x. x x) (\\x. x x)) z",
-            OF_TERM,
+            endless,
+            (OF_TERM, lines, 20),
             End::No,
-            "                    leftmost applicative        need    families
+            b"                    leftmost applicative        need    families
 beta                       2           -           2           2
 ",
         ),
         (
-            "(\\x. \\y. y) ((\\x. x x) (\\x. x x)) z",
-            Columns {
-                applicative: false,
-                ..OF_TERM
-            },
+            endless,
+            (without, lines, 20),
             End::Yes,
-            "                    leftmost        need    families
+            b"                    leftmost        need    families
 beta                       2           2           2
 ",
         ),
         (
-            "x",
-            Columns {
-                demand: true,
-                ..NONE
-            },
+            b"x",
+            (demand, lines, 20),
             End::Yes,
-            "                      demand
+            b"                      demand
 beta                       0
 fan                        0
 croissant                  0
@@ -181,12 +189,39 @@ interactions               0
 stuck                      0
 ",
         ),
-        ("(x", OF_TERM, End::Refused, "syntax at byte 2\n"),
+        (
+            b"(x",
+            (OF_TERM, lines, 20),
+            End::Refused,
+            b"syntax at byte 2\n",
+        ),
+        (
+            three,
+            (USUAL, lines, 2),
+            End::No,
+            b"                         run      demand    leftmost
+beta                       3           3           -
+fan                        0           0           -
+croissant                  0           0           -
+bracket                    0           0           -
+cross-fan                  0           0           -
+cross-croissant            0           0           -
+cross-bracket              0           0           -
+erase                      0           0           -
+interactions               3           3           -
+stuck                      0           0           -
+",
+        ),
+        (endless, (OF_TERM, Layout::Object, 20), End::No, object),
+        (
+            b"x",
+            (NONE, Layout::Object, 20),
+            End::Yes,
+            b"{\"columns\":{}}\n",
+        ),
     ];
-    let subject = Subject::Term(Translation::Two);
-    for (text, columns, end, table) in rows {
-        let asked = (columns, Layout::Lines);
-        assert_written(&rt, rt.alloc(), subject, text, asked, end, table)?;
+    for row in rows {
+        assert_written(&rt, rt.alloc(), Subject::Term(Translation::Two), row)?;
     }
     Ok(())
 }

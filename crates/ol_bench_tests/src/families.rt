@@ -8,11 +8,11 @@ use std::process::Abort;
 use std::test::Fail;
 
 // The families of a term within 20 steps, or a hyphen.
-fn families_of(alloc: Global, input: &str) -> Result<String, Fail> {
+fn families_of(alloc: Global, input: &[u8]) -> Result<String, Fail> {
     if input.len() > 1_000 {
         return Err(Fail::from("too long"));
     }
-    let TermRead::Term { file, .. } = read_term(alloc, input.as_bytes(), Translation::Two)? else {
+    let TermRead::Term { file, .. } = read_term(alloc, input, Translation::Two)? else {
         return Err(Fail::from("refused"));
     };
     if size(&file.term) > 100_000 || depth(&file.term) > 1_000 {
@@ -26,15 +26,15 @@ fn families_of(alloc: Global, input: &str) -> Result<String, Fail> {
 
 #[test]
 fn terms_have_their_families(rt: HostRuntime) -> Result<(), Fail> {
-    let rows = [
-        ("x", "0"),
-        ("(\\x. a) ((\\y. y) ((\\z. z) b))", "1"),
-        ("(\\x. x x) ((\\y. y) z)", "2"),
-        ("(\\f. \\g. f) (\\x. (\\y. y y) x) ((\\z. z) w)", "3"),
-        ("(\\f. f a (f b)) (\\x. (\\y. y) x)", "4"),
-        ("(\\x. x (x y)) ((\\z. z) (\\w. w))", "4"),
-        ("(\\f x. f (f x)) (\\f x. f (f x)) (\\x. (\\y. y) x)", "9"),
-        ("(\\x. x x) (\\x. x x)", "-"),
+    let rows: [(&[u8], &str); 8] = [
+        (b"x", "0"),
+        (b"(\\x. a) ((\\y. y) ((\\z. z) b))", "1"),
+        (b"(\\x. x x) ((\\y. y) z)", "2"),
+        (b"(\\f. \\g. f) (\\x. (\\y. y y) x) ((\\z. z) w)", "3"),
+        (b"(\\f. f a (f b)) (\\x. (\\y. y) x)", "4"),
+        (b"(\\x. x (x y)) ((\\z. z) (\\w. w))", "4"),
+        (b"(\\f x. f (f x)) (\\f x. f (f x)) (\\x. (\\y. y) x)", "9"),
+        (b"(\\x. x x) (\\x. x x)", "-"),
     ];
     for (input, wanted) in rows {
         let text = families_of(rt.alloc(), input)?;

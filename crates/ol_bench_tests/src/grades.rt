@@ -2,10 +2,10 @@
 ghost use Rattle.std.specs.Prelude.{IfOk};
 ghost use Rattle.ol_bench.specs.Commands.{IsWithinBounds};
 
-use crate::fakes::{file, named};
-use ol_bench::{Asked, Status, bench};
+use crate::fakes::{file, named, ran, shown};
+use ol_bench::{Asked, Status};
 use ol_grades::{Bounds, Student, Work, grade};
-use ol_io::{MemFile, MemSink, MemSource};
+use ol_io::MemFile;
 use ol_limits::{Fuel, Heads};
 use ol_subjects::End;
 use ol_term::Translation;
@@ -22,10 +22,10 @@ fn bounds() -> Bounds {
 }
 
 // One student, with this text.
-fn student(alloc: Global, name: &str, text: &str) -> Result<Student, Fail> {
+fn student(alloc: Global, name: &[u8], text: &[u8]) -> Result<Student, Fail> {
     Ok(Student {
-        name: Vec::from_slice(alloc, name.as_bytes())?,
-        work: Work::Text(Vec::from_slice(alloc, text.as_bytes())?),
+        name: Vec::from_slice(alloc, name)?,
+        work: Work::Text(Vec::from_slice(alloc, text)?),
     })
 }
 
@@ -33,129 +33,124 @@ fn student(alloc: Global, name: &str, text: &str) -> Result<Student, Fail> {
 fn assert_row(
     rt: &impl Abort,
     alloc: Global,
-    row: (&str, &str, &str, End, &str),
+    row: (&[u8], &[u8], &[u8], End, &[u8]),
 ) -> Result<(), Fail> {
     let (inputs, solution, text, end, wanted) = row;
-    let students = [student(alloc, "x", text)?];
-    let answer = grade(
-        alloc,
-        inputs.as_bytes(),
-        solution.as_bytes(),
-        &students,
-        bounds(),
-    )
-    .ok()
-    .ok_or("no memory")?;
-    assert!(rt; answer.text.as_slice() == wanted.as_bytes(), "{text}");
-    assert_eq!(rt; answer.end, end, "{text}");
+    let students = [student(alloc, b"x", text)?];
+    let answer = grade(alloc, inputs, solution, &students, bounds())
+        .ok()
+        .ok_or("no memory")?;
+    let right = answer.text.as_slice() == wanted && answer.end == end;
+    let shown = shown(text);
+    assert!(rt; right, "{shown}");
     Ok(())
 }
 
 #[test]
 fn students_are_graded(rt: HostRuntime) -> Result<(), Fail> {
-    let two = "# two arguments\nx y\n\n f (\\z. z)\n";
-    let apply = "\\f x. f x # applied";
-    let fixed = "\\f. (\\x. f (x x)) (\\x. f (x x))";
-    let rows: [(&str, &str, &str, End, &str); 16] = [
-        (two, apply, "\\g. g", End::Yes, "x: equal on 2 of 2\n"),
+    let two = b"# two arguments\nx y\n\n f (\\z. z)\n";
+    let apply = b"\\f x. f x # applied";
+    let fixed = b"\\f. (\\x. f (x x)) (\\x. f (x x))";
+    let rows: [(&[u8], &[u8], &[u8], End, &[u8]); 16] = [
+        (two, apply, b"\\g. g", End::Yes, b"x: equal on 2 of 2\n"),
         (
             two,
             apply,
-            "\\f x. x",
+            b"\\f x. x",
             End::No,
-            "x: different at root on 1: expected x _, got y\n",
+            b"x: different at root on 1: expected x _, got y\n",
         ),
         (
             two,
             apply,
-            "\\f x. f (f x)",
+            b"\\f x. f (f x)",
             End::No,
-            "x: different at 1 on 1: expected y, got x _\n",
+            b"x: different at 1 on 1: expected y, got x _\n",
         ),
         (
-            "x y\n\\z. z",
-            "\\f. f",
-            "\\f. f # this ends\n",
+            b"x y\n\\z. z",
+            b"\\f. f",
+            b"\\f. f # this ends\n",
             End::Yes,
-            "x: equal on 2 of 2\n",
+            b"x: equal on 2 of 2\n",
         ),
         (
-            "x\ny",
-            "\\v. v",
-            "\\v. x",
+            b"x\ny",
+            b"\\v. v",
+            b"\\v. x",
             End::No,
-            "x: different at root on 2: expected y, got x\n",
+            b"x: different at root on 2: expected y, got x\n",
         ),
         (
-            "x \\v. v",
-            "f",
-            "\\x. f x",
+            b"x \\v. v",
+            b"f",
+            b"\\x. f x",
             End::Yes,
-            "x: equal on 1 of 1\n",
+            b"x: equal on 1 of 1\n",
         ),
         (
             two,
             apply,
-            "\\f x.\n f x)",
+            b"\\f x.\n f x)",
             End::No,
-            "x: syntax, line 2, column 5\n",
+            b"x: syntax, line 2, column 5\n",
         ),
         (
             two,
             apply,
-            "(\\x. x x) (\\x. x x)",
+            b"(\\x. x x) (\\x. x x)",
             End::No,
-            "x: beyond the fuel on 1\n",
+            b"x: beyond the fuel on 1\n",
         ),
         (
-            "g",
+            b"g",
             fixed,
             fixed,
             End::Refused,
-            "solution: holes are left on 1\n",
+            b"solution: holes are left on 1\n",
         ),
         (
-            "a",
-            "\\y f x. f y (\\u. u f)",
-            "\\y f x. f y (\\u v. x u)",
+            b"a",
+            b"\\y f x. f y (\\u. u f)",
+            b"\\y f x. f y (\\u v. x u)",
             End::No,
-            "x: different at 2 on 1: expected \\d. d _, got \\d e. c _\n",
+            b"x: different at 2 on 1: expected \\d. d _, got \\d e. c _\n",
         ),
         (
-            "g",
-            "(\\x. x x) (\\x. x x)",
-            "x",
+            b"g",
+            b"(\\x. x x) (\\x. x x)",
+            b"x",
             End::Refused,
-            "solution: beyond the fuel on 1\n",
+            b"solution: beyond the fuel on 1\n",
         ),
         (
-            "g",
-            "\\x. (x",
-            "x",
+            b"g",
+            b"\\x. (x",
+            b"x",
             End::Refused,
-            "solution: syntax, line 1, column 7\n",
+            b"solution: syntax, line 1, column 7\n",
         ),
-        ("# none\n", apply, apply, End::Refused, "inputs: none\n"),
+        (b"# none\n", apply, apply, End::Refused, b"inputs: none\n"),
         (
-            "g\n\nx)",
+            b"g\n\nx)",
             apply,
             apply,
             End::Refused,
-            "inputs: line 3: syntax, column 2\n",
+            b"inputs: line 3: syntax, column 2\n",
         ),
         (
-            "f",
-            "\\f x y. f y",
-            "\\f x y. f b",
+            b"f",
+            b"\\f x y. f y",
+            b"\\f x y. f b",
             End::No,
-            "x: different at 1 on 1: expected c, got b\n",
+            b"x: different at 1 on 1: expected c, got b\n",
         ),
         (
-            "(\\x. x) y",
-            "\\f. f (\\x. x)",
-            "\\f. f f",
+            b"(\\x. x) y",
+            b"\\f. f (\\x. x)",
+            b"\\f. f f",
             End::Yes,
-            "x: equal on 1 of 1\n",
+            b"x: equal on 1 of 1\n",
         ),
     ];
     for row in rows {
@@ -183,44 +178,33 @@ fn asked(alloc: Global, solution: &str) -> Result<Asked, AllocError>
 fn files(alloc: Global) -> Result<Vec<MemFile>, Fail> {
     let long = " ".repeat(alloc, 1_048_577)?;
     let mut files = Vec::new(alloc);
-    files.push(file(alloc, "inputs", "x")?)?;
-    files.push(file(alloc, "anna", "\\v. v")?)?;
-    files.push(file(alloc, "long", &long)?)?;
+    files.push(file(alloc, "inputs", b"x")?)?;
+    files.push(file(alloc, "anna", b"\\v. v")?)?;
+    files.push(file(alloc, "long", long.as_bytes())?)?;
     Ok(files)
-}
-
-fn sink(alloc: Global) -> Result<MemSink, Fail> {
-    let sink = MemSink::new(alloc, 1_048_576, 100, Vec::new(alloc))
-        .ok()
-        .ok_or("no memory")?;
-    Ok(sink)
 }
 
 // Asserts the status where the file of this name has the solution, and what each sink has taken.
 fn assert_grade(
     rt: &impl Abort,
     alloc: Global,
-    row: (&str, Status, &str, &str),
+    row: (&str, Status, &[u8], &[u8]),
 ) -> Result<(), Fail> {
     let (solution, status, wanted, told) = row;
-    let mut src = MemSource::new(files(alloc)?, 65_536, Vec::new(alloc));
-    let mut out = sink(alloc)?;
-    let mut errors = sink(alloc)?;
     let asked = asked(alloc, solution)?;
-    let ended = bench(alloc, &asked, &mut src, &mut out, &mut errors);
-    assert_eq!(rt; ended, status, "{solution}");
-    assert!(rt; out.bytes() == wanted.as_bytes(), "{solution}");
-    assert!(rt; errors.bytes() == told.as_bytes(), "{solution}");
+    let ran = ran(alloc, &asked, files(alloc)?)?;
+    let right = ran.is(status, wanted, told);
+    assert!(rt; right, "{solution}");
     Ok(())
 }
 
 #[test]
 fn files_of_students_may_fail(rt: HostRuntime) -> Result<(), Fail> {
-    let all = "gone: can't be read\nlong: limit bytes 1048576\nanna: equal on 1 of 1\n";
-    let rows: [(&str, Status, &str, &str); 3] = [
-        ("anna", Status::No, all, ""),
-        ("gone", Status::Refused, "", "read fault\n"),
-        ("long", Status::Refused, "", "limit bytes 1048576\n"),
+    let all = b"gone: can't be read\nlong: limit bytes 1048576\nanna: equal on 1 of 1\n".as_slice();
+    let rows: [(&str, Status, &[u8], &[u8]); 3] = [
+        ("anna", Status::No, all, b""),
+        ("gone", Status::Refused, b"", b"read fault\n"),
+        ("long", Status::Refused, b"", b"limit bytes 1048576\n"),
     ];
     for row in rows {
         assert_grade(&rt, rt.alloc(), row)?;

@@ -43,8 +43,8 @@ fn assert_same(
     let (read, write, other, status, wanted, told) = row;
     let asked = asked(alloc)?;
     let mut files = Vec::new(alloc);
-    files.push(file(alloc, "-", WIRE)?)?;
-    files.push(file(alloc, "other", other)?)?;
+    files.push(file(alloc, "-", WIRE.as_bytes())?)?;
+    files.push(file(alloc, "other", other.as_bytes())?)?;
     let mut src = MemSource::new(files, 65_536, Vec::from_slice(alloc, &[read])?);
     let mut out = sink(alloc, write)?;
     let mut errors = sink(alloc, write)?;
