@@ -211,6 +211,11 @@ fn steps<'a>(alloc: Global) -> Result<Command<'a>, AllocError> {
             "names",
             "binders keep the names that they have in the file, primed where they would clash",
         ))?
+        .arg(flag(
+            alloc,
+            "fold",
+            "parts that are a let of the file are written by its name",
+        ))?
         .arg(number(
             alloc,
             "most",
@@ -519,6 +524,7 @@ fn on_one(name: &str, found: &ArgMatches) -> OnOne
                 order: reduction_of(found),
                 marked: found.get_flag("mark"),
                 named: found.get_flag("names"),
+                folded: found.get_flag("fold"),
             },
             most: number_of(found, "most", 0, MOST_STEPS, 100),
         },

@@ -84,6 +84,7 @@ pub fn leftmost(most: u32) -> OnOne
         order,
         marked: false,
         named: false,
+        folded: false,
     };
     OnOne::Steps { how, most }
 }

@@ -12,6 +12,7 @@
 //! - `explain`: rows of `explain` over the fakes
 //! - `fakes`: files in memory, and their names; leftmost reduction of a term
 //! - `families`: rows of how many families of redexes are contracted
+//! - `folds`: rows of `steps` whose parts are written by the names of lets
 //! - `frees`: where names stand free
 //! - `grades`: rows of `grade`
 //! - `limits`: rows of `steps` at the limits of terms
@@ -48,6 +49,8 @@ mod explain;
 mod fakes;
 #[cfg(test)]
 mod families;
+#[cfg(test)]
+mod folds;
 #[cfg(test)]
 mod frees;
 #[cfg(test)]

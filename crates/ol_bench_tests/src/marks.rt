@@ -53,6 +53,7 @@ fn redexes_are_marked(rt: HostRuntime) -> Result<(), Fail> {
             order,
             marked: true,
             named: false,
+            folded: false,
         };
         let answer = steps(rt.alloc(), source.as_bytes(), how, 9)
             .ok()

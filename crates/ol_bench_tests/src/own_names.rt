@@ -66,6 +66,7 @@ fn binders_keep_their_names(rt: HostRuntime) -> Result<(), Fail> {
             order: Order::Leftmost,
             marked,
             named: true,
+            folded: false,
         };
         let answer = steps(rt.alloc(), source.as_bytes(), how, 9)
             .ok()

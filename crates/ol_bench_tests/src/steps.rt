@@ -22,6 +22,7 @@ fn assert_steps(
         order,
         marked: false,
         named: false,
+        folded: false,
     };
     let answer = steps(alloc, source.as_bytes(), how, most)
         .ok()

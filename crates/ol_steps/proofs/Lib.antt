@@ -5,3 +5,4 @@ pub mod Walks
 pub mod Words
 pub mod WeakHeads
 pub mod Returns
+pub mod Showable

@@ -6,8 +6,8 @@ use Rattle.std.proofs.lemmas.Bool.{and_parts, and_right, ltb-true}
 use Rattle.ol_term.specs.Trees as tree
 use Rattle.ol_term.specs.Trees.{Tree, is_below, is_named_below}
 use Rattle.ol_term.specs.BinderNames.{is_among}
-use Rattle.ol_parse.specs.Grammar.{Named, var, lam, app, Token, name, let_key, in_key, lambda}
-use Rattle.ol_parse.specs.Texts.{letter, digit, class_of, in_word, token_of, is_word, AreInWord, IsToken, token_sign, token_letter, token_word, IsName, IsText}
+use Rattle.ol_parse.specs.Grammar.{Named, var, lam, app, Token, name, let_key, in_key}
+use Rattle.ol_parse.specs.Texts.{letter, class_of, in_word, token_of, is_word, AreInWord, IsToken, token_sign, token_letter, token_word, IsName, IsText}
 use Rattle.ol_parse.specs.Numbered.{names_of, number}
 use Rattle.ol_parse.specs.Parsed.{AreNames}
 use Rattle.ol_parse.proofs.Files.{whole_bound, whole_named}
@@ -17,15 +17,24 @@ use Rattle.ol_binders.specs.Binders as binders
 use Rattle.ol_binders.specs.Binders.{Binders, binders_of, Fits}
 use Rattle.ol_binders.specs.Naming.{bytes_in, used, primed_from, primed, named}
 use Rattle.ol_binders.specs.Laws.{AllNames}
-use Rattle.ol_steps.specs.Laws.{KeepsNames, ReadsAgain}
-use Rattle.std.proofs.Common.{Option, Some}
+use Rattle.ol_folds.specs.Lets.{is_closed, is_small, if_small, row_if, let_names, lets, names_of_lets, value_of, values_of_lets}
+use Rattle.ol_folds.specs.Folded.{folded_at, pruned}
+use Rattle.ol_folds.specs.Laws.{unfolded}
+use Rattle.ol_folds.proofs.Rows.{lets_differ, names_more}
+use Rattle.ol_folds.proofs.Smaller.{is_fold_of}
+use Rattle.ol_folds.proofs.Unfolding.{folded_fits, unfolded_is_term}
+use Rattle.ol_term.specs.NameLists.{NoNameTwice}
+use Rattle.std.proofs.Common.{length-append, not}
+use Rattle.std.proofs.lemmas.List.{length-map}
+use Rattle.ol_steps.specs.Laws.{ReadsAgain, ReadsFolded, FoldedReadsAgain}
+use Rattle.std.proofs.Common.{Option, None, Some}
 use Rattle.std.specs.Prelude.{◌==◌}
 use Rattle.ol_beta.specs.Beta as beta
 use Rattle.ol_beta.proofs.Bound.{step_below}
 use Rattle.ol_strategies.specs.Redexes.{next}
 use Rattle.ol_strategies.specs.declared.orders.Order.{Order}
 use Rattle.ol_binders.specs.Contraction.{put_in, applied, contracted}
-use Rattle.ol_steps.specs.Steps.{Walk, starts, goes, binders_after, next_binders, last_binders}
+use Rattle.ol_steps.specs.Steps.{Walk, starts, goes, glossary, binders_after, next_binders, last_binders}
 use Rattle.ol_steps.proofs.Named.{step_named}
 use Rattle.ol_steps.proofs.Walks.{binders_more}
 use Rattle.ol_binders.proofs.Fitting.{source_fits, contracted_fits}
@@ -231,3 +240,88 @@ reads_again order bytes source v terms i walk =
           (all_names names [] v w (names_good bytes source i) tt r.words r.fits r.bound r.placed);
       tree = none_is_caught names v w (names_differ source) r.fits r.bound r.placed;
     }
+
+-- ---- what is folded is read again
+
+both_names : (xs ys : List (List ℕ)) → AreNames xs → AreNames ys → AreNames (xs ++ ys)
+both_names [] ys h i = i
+both_names (x ∷ xs) ys h i = (h.0, both_names xs ys h.1 i)
+
+words_of_lets : (n : ℕ) (s : Binders) → HasNames s → AreNames (let_names n s)
+words_of_lets zero s h = tt
+words_of_lets (suc n) binders.leaf h = tt
+words_of_lets (suc n) (binders.lam x s) h = tt
+words_of_lets (suc n) (binders.app binders.leaf r) h = tt
+words_of_lets (suc n) (binders.app (binders.lam x s) r) h = (h.0.0, words_of_lets n s h.0.1)
+words_of_lets (suc n) (binders.app (binders.app p q) r) h = tt
+
+one_word : (b : Bool) (x : List ℕ) (v : Tree) → IsName x → AreNames (names_of_lets (row_if b x v))
+one_word true x v h = (h, tt)
+one_word false x v h = tt
+
+words_behind : (names later : List (List ℕ)) (o : Option Tree) →
+    ((u : Tree) → AreNames (names_of_lets (lets names later u))) → AreNames (names_of_lets (if_small (lets names later) o))
+words_behind names later None h = tt
+words_behind names later (Some u) h = go (is_small u)
+  where
+    go : (b : Bool) → AreNames (names_of_lets (if b then lets names later u else []))
+    go true = h u
+    go false = tt
+
+let_words : (names later : List (List ℕ)) (t : Tree) → AreNames later → AreNames (names_of_lets (lets names later t))
+let_words names [] t h = tt
+let_words names (x ∷ later) t h =
+    let more = names_of_lets (if_small (lets names later) (beta.contracted t [])) in
+    let b = is_closed (value_of t) && not (is_among (names ++ later) x) in
+    subst AreNames (sym (names_more names later x t))
+    (both_names more (names_of_lets (row_if b x (value_of t)))
+    (words_behind names later (beta.contracted t []) (λ u. let_words names later u h.1))
+    (one_word b x (value_of t) h.0))
+
+pruned_names : (t : Tree) (s : Binders) → HasNames s → HasNames (pruned t s)
+pruned_names (tree.var k) s h = tt
+pruned_names (tree.free k) s h = tt
+pruned_names (tree.lam t) binders.leaf h = tt
+pruned_names (tree.lam t) (binders.lam x s) h = (h.0, pruned_names t s h.1)
+pruned_names (tree.lam t) (binders.app r s) h = tt
+pruned_names (tree.app f a) binders.leaf h = tt
+pruned_names (tree.app f a) (binders.lam x s) h = tt
+pruned_names (tree.app f a) (binders.app r s) h = (pruned_names f r h.0, pruned_names a s h.1)
+
+-- as many names as there are values
+rows_even : (names later : List (List ℕ)) (t : Tree) →
+    length (names_of_lets (lets names later t)) ≡ length (values_of_lets (lets names later t))
+rows_even names later t = length-map (lets names later t) (λ row. row.0) ∙ sym (length-map (lets names later t) (λ row. row.1))
+
+folded_reads : (names : List (List ℕ)) (n : ℕ) (t : Tree) (s : Binders) (at : Option (List ℕ)) (v : Tree) (w : Binders) →
+    AreNames names → NoNameTwice names → HasNames s → IsReadable names v w →
+    (u : Named) × ReadsFolded (glossary names n t s) at v w u
+folded_reads names n t s at v w good once words r =
+    let g = glossary names n t s in
+    let later = let_names n s in
+    let x = folded_at g.first g.values at v in
+    let f = is_fold_of (length names) g.values at v in
+    let l : length names + length g.values ≡ length g.names = ap (λ (k : ℕ). length names + k) (sym (rows_even names later t))
+    ∙ sym (length-append names (names_of_lets (lets names later t))) in
+    let placed : is_named_below (length g.names) x ≡ true = ap (λ (k : ℕ). is_named_below k x) (sym l) ∙ f.named r.placed in
+    let bound : is_below 0 x ≡ true = f.below 0 r.bound in
+    let fits = folded_fits g.first g.values at v w r.fits in
+    let names_are = both_names names (names_of_lets (lets names later t)) good (let_words names later t (words_of_lets n s words)) in
+    let differ = lets_differ names later t once in (
+      named g.names [] x (pruned x w),
+      record {
+        is = refl;
+        text = named_is_read (named g.names [] x (pruned x w))
+            (all_names g.names [] x (pruned x w) names_are tt (pruned_names x w r.words) fits bound placed);
+        tree = ap (unfolded g.first g.values) (none_is_caught g.names x (pruned x w) differ fits bound placed)
+            ∙ unfolded_is_term g.first g.values at v r.placed;
+      },
+    )
+
+pub folded_reads_again : FoldedReadsAgain
+folded_reads_again order at n bytes source v terms i walk =
+    let names = names_of source in
+    let r = readable bytes source i in
+    folded_reads names n (number source) (binders_of source) at v (last_binders order (binders_of source) terms)
+    (names_good bytes source i) (names_differ source) r.words
+    (along order names (number source) (binders_of source) r walk)

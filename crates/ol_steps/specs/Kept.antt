@@ -2,7 +2,9 @@
 use Rattle.std.specs.Prelude.{◌≡◌, ℕ, List, map, slice_get, Option, None, Some}
 use Rattle.ol_term.specs.Trees.{Tree, tree_of}
 use Rattle.ol_steps.specs.declared.earlier.Earlier.{Earlier}
-use Rattle.ol_steps.specs.Steps.{IsNew}
+use Rattle.ol_folds.specs.Kept.{trees_of}
+use Rattle.ol_folds.specs.declared.lets.Lets.{Lets}
+use Rattle.ol_steps.specs.Steps.{Glossary, IsNew}
 
 abbrev pub terms_of : List Earlier → List Tree
 terms_of kept = map (λ e. tree_of e.term) kept
@@ -11,3 +13,6 @@ terms_of kept = map (λ e. tree_of e.term) kept
 abbrev pub IsFound : List Tree → Tree → Option ℕ → Type 0
 IsFound terms t None = IsNew terms t
 IsFound terms t (Some k) = slice_get terms k ≡ Some t
+
+abbrev pub glossary_of : List (List ℕ) → Lets → Glossary
+glossary_of names lets = record { names = names; first = lets.first; values = trees_of lets.values.items }

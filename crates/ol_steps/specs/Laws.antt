@@ -1,5 +1,5 @@
 -- What a term that comes back says of the first term, what carets stand under, and that what is printed is read again.
-use Rattle.std.specs.Prelude.{◌≡◌, ℕ, Bool, true, false, List, [], ◌++◌, codes, slice_get, Some, IsSome}
+use Rattle.std.specs.Prelude.{◌≡◌, ℕ, Bool, true, false, List, [], ◌++◌, codes, slice_get, Option, Some, IsSome}
 use Rattle.ol_term.specs.Trees.{Tree}
 use Rattle.ol_law_meaning.specs.Shows.{BetaReduces}
 use Rattle.ol_law_confluence.specs.Reductions.{HasNormalForm, HasHeadNormalForm}
@@ -16,7 +16,9 @@ use Rattle.ol_named.specs.Marks.{part}
 use Rattle.ol_named.specs.Laws.{IsMarked}
 use Rattle.ol_binders.specs.Binders.{Binders, binders_of, Fits}
 use Rattle.ol_binders.specs.Naming.{named}
-use Rattle.ol_steps.specs.Steps.{Walk, last_binders, shown_term, term_line}
+use Rattle.ol_folds.specs.Folded.{folded_at, pruned}
+use Rattle.ol_folds.specs.Laws.{unfolded}
+use Rattle.ol_steps.specs.Steps.{Walk, Glossary, glossary, last_binders, shown_term, term_line}
 
 -- beta reduction of a term comes to a weak head normal form
 pub record HasWeakHeadNormalForm (t : Tree) : Type 0 where
@@ -75,3 +77,17 @@ abbrev pub ReadsAgain : Type 0
 ReadsAgain = (order : Order) (bytes : List ℕ) (source : Named) (v : Tree) (terms : List Tree) → IsText bytes source →
     Walk order (number source) terms v →
     KeepsNames (names_of source) v (last_binders order (binders_of source) terms)
+
+-- What is printed of a tree that is folded with a glossary: it is read again, and where the values are put in the places
+-- of their names, as the tree.
+pub record ReadsFolded (g : Glossary) (at : Option (List ℕ)) (t : Tree) (s : Binders) (u : Named) : Type 0 where
+  pub is : u ≡ named g.names [] (folded_at g.first g.values at t) (pruned (folded_at g.first g.values at t) s)
+  pub text : IsText (named_text false u) u
+  pub tree : unfolded g.first g.values (numbered g.names [] u) ≡ t
+
+-- it is so with each term of a walk from the term of a text, whatever redex is shown, and however many lets are told apart
+abbrev pub FoldedReadsAgain : Type 0
+FoldedReadsAgain = (order : Order) (at : Option (List ℕ)) (n : ℕ) (bytes : List ℕ) (source : Named) (v : Tree)
+    (terms : List Tree) → IsText bytes source → Walk order (number source) terms v →
+    (u : Named) × ReadsFolded (glossary (names_of source) n (number source) (binders_of source)) at v
+    (last_binders order (binders_of source) terms) u

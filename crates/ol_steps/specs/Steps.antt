@@ -1,6 +1,6 @@
 -- Reduction in an order, term by term, as a text.
-use Rattle.std.specs.Prelude.{◌≡◌, ℕ, ◌+◌, ◌<◌, ◌≤◌, List, [], ◌∷◌, ◌++◌, length, slice_get, codes}
-use Rattle.std.specs.Prelude.{Bool, true, false, if◌then◌else◌, Option, None, Some}
+use Rattle.std.specs.Prelude.{◌≡◌, ℕ, ◌+◌, ◌-◌, ◌<◌, ◌≤◌, ◌==◌, List, [], ◌∷◌, ◌++◌, length, slice_get, codes}
+use Rattle.std.specs.Prelude.{Bool, true, false, ◌||◌, if◌then◌else◌, Option, None, Some}
 use Rattle.std.specs.Fmt.{decimal}
 use Rattle.ol_term.specs.declared.translations.Translation.TheVariants.{Two}
 use Rattle.ol_term.specs.Trees as tree
@@ -26,7 +26,11 @@ use Rattle.ol_named.specs.Marks.{mark_line}
 use Rattle.ol_binders.specs.Binders.{Binders, binders_of}
 use Rattle.ol_binders.specs.Contraction.{contracted}
 use Rattle.ol_binders.specs.Naming as own
+use Rattle.ol_folds.specs.Fronts.{BeginsWithLets}
+use Rattle.ol_folds.specs.Lets.{let_names, lets, names_of_lets, values_of_lets, is_let_at}
+use Rattle.ol_folds.specs.Folded.{folded_at, pruned}
 use Rattle.ol_steps.specs.declared.stepping.Shown.{Shown}
+use Rattle.ol_steps.specs.declared.showing.Unfolding.{Unfolding}
 
 -- ---- the terms
 
@@ -65,9 +69,24 @@ abbrev pub redex_lines : Shown → List (List ℕ) → Tree → Binders → Opti
 redex_lines how names t s None = []
 redex_lines how names t s (Some at) = carets_if how.marked (shown_term how.named names t s) at ++ address_line at
 
--- a term, and where its redex is that comes next in the order
-abbrev pub step_lines : Shown → List (List ℕ) → Tree → Binders → List ℕ
-step_lines how names t s = term_line how.named names t s ++ redex_lines how names t s (next how.order t)
+-- The names that are printed. From one number on they stand for values.
+pub record Glossary : Type 0 where
+  pub names : List (List ℕ)
+  pub first : ℕ
+  pub values : List Tree
+
+-- a term as it is shown: its parts that are values are names, but for the redex that comes next and what it stands in
+abbrev pub shown_tree : Shown → Glossary → Tree → Tree
+shown_tree how g t = folded_at g.first g.values (next how.order t) t
+
+-- the line of a term as it is shown
+abbrev pub shown_line : Shown → Glossary → Tree → Binders → List ℕ
+shown_line how g t s = term_line how.named g.names (shown_tree how g t) (pruned (shown_tree how g t) s)
+
+-- a term as it is shown, and where its redex is that comes next in the order
+abbrev pub step_lines : Shown → Glossary → Tree → Binders → List ℕ
+step_lines how g t s = shown_line how g t s
+    ++ redex_lines how g.names (shown_tree how g t) (pruned (shown_tree how g t) s) (next how.order t)
 
 -- the names of a term's binders after a step: each abstraction keeps its name
 abbrev pub binders_after : Option (List ℕ) → Tree → Binders → Binders
@@ -77,21 +96,56 @@ binders_after (Some at) t s = contracted t s at
 abbrev pub next_binders : Order → Tree → Binders → Binders
 next_binders order t s = binders_after (next order t) t s
 
--- the lines of these terms, one after another, of which the first has these names of binders
-abbrev pub walk_lines : Shown → List (List ℕ) → Binders → List Tree → List ℕ
-walk_lines how names s [] = []
-walk_lines how names s (t ∷ terms) =
-    step_lines how names t s ++ walk_lines how names (next_binders how.order t s) terms
-
 -- the names of binders behind these terms
 abbrev pub last_binders : Order → Binders → List Tree → Binders
 last_binders order s [] = s
 last_binders order s (t ∷ terms) = last_binders order (next_binders order t s) terms
 
--- the lines of these terms, and the line of the one that they lead to
-abbrev pub lines_to : Shown → List (List ℕ) → Binders → List Tree → Tree → List ℕ
-lines_to how names s terms v =
-    walk_lines how names s terms ++ term_line how.named names v (last_binders how.order s terms)
+-- a step only unfolds a let, where so many at the front are left
+abbrev pub unfolds : ℕ → Option (List ℕ) → Bool
+unfolds left None = false
+unfolds left (Some at) = is_let_at left at
+
+-- before the first step
+abbrev pub begun : ℕ → Unfolding
+begun lets = record { left = lets; hidden = 0; made = 0 }
+
+-- after a step from a term
+abbrev pub unfolding_after : Order → Unfolding → Tree → Unfolding
+unfolding_after order u t = if unfolds u.left (next order t)
+    then record { left = u.left - 1; hidden = u.hidden + 1; made = u.made + 1 }
+    else record { left = u.left; hidden = 0; made = u.made + 1 }
+
+-- after steps from these terms
+abbrev pub last_unfolding : Order → Unfolding → List Tree → Unfolding
+last_unfolding order u [] = u
+last_unfolding order u (t ∷ terms) = last_unfolding order (unfolding_after order u t) terms
+
+-- the line for lets that were unfolded since a term was shown, and the step whose term is shown next
+abbrev pub unfold_line : Unfolding → List ℕ
+unfold_line u = if u.hidden == 0 then []
+    else decimal u.hidden ++ codes " lets unfolded: step " ++ decimal u.made ++ codes "\n"
+
+-- the lines of a step that is made: none yet, if it only unfolds a let
+abbrev pub lines_of_step : Shown → Glossary → Unfolding → Tree → Binders → List ℕ
+lines_of_step how g u t s =
+    if unfolds u.left (next how.order t) then [] else unfold_line u ++ step_lines how g t s
+
+-- the lines of the steps from these terms, one after another, of which the first has these names of binders
+abbrev pub walk_lines : Shown → Glossary → Unfolding → Binders → List Tree → List ℕ
+walk_lines how g u s [] = []
+walk_lines how g u s (t ∷ terms) = lines_of_step how g u t s
+    ++ walk_lines how g (unfolding_after how.order u t) (next_binders how.order t s) terms
+
+-- the lines of the steps from these terms, where so many lets are at the front, and the lines of the term that they lead
+-- to; its redex is told or not
+abbrev pub lines_to : Shown → Glossary → ℕ → Binders → List Tree → Tree → List ℕ
+lines_to how g lets s terms v = walk_lines how g (begun lets) s terms
+    ++ (unfold_line (last_unfolding how.order (begun lets) terms) ++ shown_line how g v (last_binders how.order s terms))
+
+abbrev pub lines_with_redex : Shown → Glossary → ℕ → Binders → List Tree → Tree → List ℕ
+lines_with_redex how g lets s terms v = walk_lines how g (begun lets) s terms
+    ++ (unfold_line (last_unfolding how.order (begun lets) terms) ++ step_lines how g v (last_binders how.order s terms))
 
 -- the last line: some words, and how many steps were made
 abbrev pub last_line : List ℕ → ℕ → List ℕ
@@ -133,38 +187,52 @@ return_line order made earlier =
 -- ---- the answer
 
 -- The text of an order's walk from a term, by at most so many steps, and how it ends. The term of step k is the k-th
--- of the walk, from 0. The binders of the first term have the names s.
-pub data Tells (how : Shown) (names : List (List ℕ)) (most : ℕ) (t : Tree) (s : Binders) (text : List ℕ)
+-- of the walk, from 0. So many lets are at the front of the first term, and its binders have the names s.
+pub data Tells (how : Shown) (g : Glossary) (lets most : ℕ) (t : Tree) (s : Binders) (text : List ℕ)
     : End → Type 0 where
   -- the last term is what the order ends in
   ends : {terms : List Tree} {v : Tree} (word : Reached) → Walk how.order t terms v → length terms ≤ most →
       IsEnd how.order v word →
-      text ≡ lines_to how names s terms v ++ last_line (reached_words word) (length terms) →
-      Tells how names most t s text (reached_end word)
+      text ≡ lines_to how g lets s terms v ++ last_line (reached_words word) (length terms) →
+      Tells how g lets most t s text (reached_end word)
   -- the last term is that of an earlier step
   returns : {terms : List Tree} {v : Tree} (k : ℕ) → Walk how.order t terms v → length terms ≤ most →
       slice_get terms k ≡ Some v →
-      text ≡ lines_to how names s terms v ++ return_line how.order (length terms) k →
-      Tells how names most t s text No
+      text ≡ lines_to how g lets s terms v ++ return_line how.order (length terms) k →
+      Tells how g lets most t s text No
   -- all steps were made, and a redex is left
   left : {terms : List Tree} {v : Tree} {at : List ℕ} → Walk how.order t terms v → length terms ≡ most →
       IsNew terms v → next how.order v ≡ Some at →
-      text ≡ walk_lines how names s (terms ++ v ∷ []) ++ last_line (codes "a redex is left") most →
-      Tells how names most t s text No
+      text ≡ lines_with_redex how g lets s terms v ++ last_line (codes "a redex is left") most →
+      Tells how g lets most t s text No
   -- the next step makes a term out of bounds
   past : {terms : List Tree} {v : Tree} {at : List ℕ} {size depth : ℕ} → Walk how.order t terms v →
       length terms < most → IsNew terms v → next how.order v ≡ Some at → IsPastAfter v at size depth →
-      text ≡ walk_lines how names s (terms ++ v ∷ []) ++ past_line (length terms + 1) size depth →
-      Tells how names most t s text No
+      text ≡ lines_with_redex how g lets s terms v ++ past_line (length terms + 1) size depth →
+      Tells how g lets most t s text No
 
 -- the binders of a file's term have these names, if they are wanted
 abbrev pub IsSource : Bool → List ℕ → Binders → Type 0
 IsSource named bytes s = named ≡ true → (t : Named) × IsText bytes t × (s ≡ binders_of t)
+
+-- how many lets at the front of a file are told apart: all, if it is wanted
+abbrev pub HasLets : Bool → List ℕ → ℕ → Type 0
+HasLets true bytes n = BeginsWithLets bytes n
+HasLets false bytes n = n ≡ 0
+
+-- the free names of a term, and behind them those of the lets at its front, where its binders have these names
+abbrev pub glossary : List (List ℕ) → ℕ → Tree → Binders → Glossary
+glossary names n t s = record {
+  names = names ++ names_of_lets (lets names (let_names n s) t);
+  first = length names;
+  values = values_of_lets (lets names (let_names n s) t);
+}
 
 -- The answer to a file, by at most so many steps.
 pub data IsStepsOf (bytes : List ℕ) (how : Shown) (most : ℕ) (text : List ℕ) : End → Type 0 where
   refused : RefusesTerm Two bytes text → IsStepsOf bytes how most text Refused
   too_large : {t : Tree} {names : List (List ℕ)} → IsTerm Two bytes t names → IsPast t →
       text ≡ past_line 0 (tree.term_size t) (tree.depth t) → IsStepsOf bytes how most text No
-  steps : {t : Tree} {names : List (List ℕ)} {s : Binders} {e : End} → IsTerm Two bytes t names → IsWithin t →
-      IsSource how.named bytes s → Tells how names most t s text e → IsStepsOf bytes how most text e
+  steps : {t : Tree} {names : List (List ℕ)} {s : Binders} {n : ℕ} {e : End} → IsTerm Two bytes t names → IsWithin t →
+      IsSource (how.named || how.folded) bytes s → HasLets how.folded bytes n →
+      Tells how (glossary names n t s) n most t s text e → IsStepsOf bytes how most text e

@@ -1,7 +1,7 @@
 //! Laws of terms that come back, of carets and of names: no code, only what follows from the
 //! definitions.
 
-ghost use Rattle.ol_steps.specs.Laws.{ReadsAgain, RedexIsMarked, ReturnIsEndless, ReturnHasNone};
+ghost use Rattle.ol_steps.specs.Laws.{FoldedReadsAgain, ReadsAgain, RedexIsMarked, ReturnIsEndless, ReturnHasNone};
 
 /// Where a term of an order's walk is that of an earlier step, the order has no end: each term that
 /// it leads to from the first has a next redex. So the first term has no normal form, if the order
@@ -25,4 +25,12 @@ pub fn redexes_are_marked()
 /// have fewer than the source.
 pub fn names_are_read_again()
     ensures { ReadsAgain }
+{}
+
+/// What is printed of a term of a walk whose parts are written by the names of lets, if the binders
+/// keep the names that they have in the file, is read again, with the free names of the source and
+/// those of the lets. If the lets' values are put in the places of their names, it is the term of
+/// the walk. So no binder takes the name of a let.
+pub fn folds_are_read_again()
+    ensures { FoldedReadsAgain }
 {}

@@ -3,6 +3,7 @@
 //! - `stepping`: the terms of a file's reduction, up to where it ends or a term comes back
 //! - `earlier`: the terms of earlier steps
 //! - `finding`: whether a term is that of an earlier step
+//! - `showing`: terms as they are shown, and lets that are unfolded
 //! - `lines`: the lines of an answer
 //! - `laws`: what a term that comes back says, what carets stand under, what is read again
 #![tactic(auto)]
@@ -11,7 +12,10 @@ mod earlier;
 mod finding;
 mod laws;
 mod lines;
+mod showing;
 mod stepping;
 
-pub use laws::{names_are_read_again, redexes_are_marked, returns_are_endless};
+pub use laws::{
+    folds_are_read_again, names_are_read_again, redexes_are_marked, returns_are_endless,
+};
 pub use stepping::{Shown, is_within, steps};

@@ -1,6 +1,6 @@
 //! The terms of a file's reduction, one after another.
 
-ghost use Rattle.std.specs.Prelude.{◌≡◌, ℕ, List, ◌<◌, ◌≤◌, ◌^◌, ◌↔◌, length, true, IfOk, IsTrue};
+ghost use Rattle.std.specs.Prelude.{◌≡◌, ℕ, List, ◌+◌, ◌<◌, ◌≤◌, ◌^◌, ◌↔◌, ◌||◌, length, true, IfOk, IsTrue};
 ghost use Rattle.ol_term.specs.declared.translations.Translation.TheVariants.{Two};
 ghost use Rattle.ol_term.specs.Trees.{tree_of, is_below, is_named_below, term_size, depth};
 ghost use Rattle.ol_beta.specs.Beta.{IsWithin};
@@ -11,15 +11,16 @@ ghost use Rattle.ol_parse.specs.Texts.{IsText};
 ghost use Rattle.ol_binders.specs.Binders.{binders_of};
 ghost use Rattle.ol_binders.specs.Contraction.{contracted};
 ghost use Rattle.ol_binders.specs.Trees.{binders_in};
-ghost use Rattle.ol_steps.specs.Steps.{past_line, Tells, IsSource, IsStepsOf};
+ghost use Rattle.ol_steps.specs.Kept.{glossary_of};
+ghost use Rattle.ol_steps.specs.Steps.{glossary, past_line, HasLets, Tells, IsSource, IsStepsOf};
 
 use crate::earlier::Earlier;
 use crate::finding::step_of;
-use crate::lines::{
-    moves_of, past_line, put_last, put_redex, put_term, reached_end, reached_words, return_line,
-};
+use crate::lines::{moves_of, past_line, put_last, reached_end, reached_words, return_line};
+use crate::showing::{Unfolding, put_made, put_shown, put_step};
 use ol_beta::{Address, BetaFault, beta};
 use ol_binders::{BinderTree, contract};
+use ol_folds::{Lets, front_lets, lets_of};
 use ol_limits::{MOST_DEPTH, MOST_SIZE};
 use ol_memory::NoMemory;
 use ol_sources::binders;
@@ -38,6 +39,9 @@ pub struct Shown {
     pub marked: bool,
     /// Whether binders keep the names that they have in the source.
     pub named: bool,
+    /// Whether parts that are the value of a let at the front are written by its name, and steps
+    /// that only unfold such a let are one line.
+    pub folded: bool,
 }
 
 /// Whether a term is one that steps are made from: it has at most 100,000 constructors, at most
@@ -71,49 +75,71 @@ fn walk(
     term: Term,
     own: BinderTree,
     names: &Names,
+    lets: &Lets,
+    count: u32,
     how: Shown,
     most: u32,
 ) -> Result<Answer, NoMemory>
     requires bound { is_below 0 (tree_of term) ≡ true }
-    requires named { is_named_below (length names.now) (tree_of term) ≡ true }
+    requires named { is_named_below lets.now.first (tree_of term) ≡ true }
     requires within { IsWithin (tree_of term) }
-    ensures { IfOk result (λ a. Tells how names.now most (tree_of term) (binders_in own)
-        a.text.items a.end) }
+    requires names { length names.now ≡ lets.now.first + length lets.now.values.items }
+    ensures { IfOk result (λ a. Tells how (glossary_of names.now lets.now) count most
+        (tree_of term) (binders_in own) a.text.items a.end) }
 {
     let mut text = Vec::new(alloc);
     let mut kept: Vec<Earlier> = Vec::new(alloc);
     let mut here = term;
     let mut binders = own;
+    let mut seen = Unfolding {
+        left: count,
+        hidden: 0,
+        made: 0,
+    };
     loop {
         let made = kept.len();
-        put_term(alloc, &mut text, &here, &binders, names, how.named)?;
+        let next = redex(alloc, how.order, &here)?;
         if let Some(earlier) = step_of(&kept, &here) {
+            put_shown(
+                alloc, &mut text, &here, &binders, names, lets, how, &next, seen,
+            )?;
             let line = return_line(alloc, how.order, made, earlier)?;
             put(&mut text, &line)?;
             let end = End::No;
             return Ok(Answer { text, end });
         }
-        let Some(at) = redex(alloc, how.order, &here)? else {
+        let Some(at) = &next else {
+            put_shown(
+                alloc, &mut text, &here, &binders, names, lets, how, &next, seen,
+            )?;
             let word = reached(how.order, &here);
             put_last(alloc, &mut text, reached_words(word).as_bytes(), made)?;
             let end = reached_end(word);
             return Ok(Answer { text, end });
         };
-        put_redex(alloc, &mut text, &here, &binders, names, how, &at)?;
         if made == most as usize {
+            put_step(
+                alloc, &mut text, &here, &binders, names, lets, how, &next, seen,
+            )?;
             put_last(alloc, &mut text, b"a redex is left", made)?;
             let end = End::No;
             return Ok(Answer { text, end });
         }
-        match beta(alloc, &here, &at) {
-            Ok(next) => {
-                let after = contracted(alloc, &here, &binders, &at)?;
-                binders = after;
-                let before = mem::replace(&mut here, next);
+        match beta(alloc, &here, at) {
+            Ok(after) => {
+                seen = put_made(
+                    alloc, &mut text, &here, &binders, names, lets, how, &next, seen,
+                )?;
+                let left = contracted(alloc, &here, &binders, at)?;
+                binders = left;
+                let before = mem::replace(&mut here, after);
                 kept.push(Earlier::of(before))?;
             }
             Err(fault) => match fault {
                 BetaFault::Past { size, depth } => {
+                    put_step(
+                        alloc, &mut text, &here, &binders, names, lets, how, &next, seen,
+                    )?;
                     let line = past_line(alloc, made + 1, size, depth)?;
                     put(&mut text, &line)?;
                     let end = End::No;
@@ -150,27 +176,63 @@ fn own_binders(alloc: Global, bytes: &[u8], wanted: bool) -> Result<BinderTree, 
     Ok(BinderTree::Leaf)
 }
 
+// How many lets at the front of a file are told apart: all, if it is wanted.
+fn lets_told(bytes: &[u8], all: bool) -> u32
+    requires short { length bytes.now ≤ most_term_bytes }
+    ensures { HasLets all bytes.now result }
+{
+    if all { front_lets(bytes) } else { 0 }
+}
+
+// The answer for the term of a file, which is within bounds.
+fn of_small(
+    alloc: Global,
+    file: TermFile,
+    own: BinderTree,
+    count: u32,
+    how: Shown,
+    most: u32,
+) -> Result<Answer, NoMemory>
+    requires within { IsWithin (tree_of file.term) }
+    ensures { IfOk result (λ a. Tells how
+        (glossary file.names count (tree_of file.term) (binders_in own)) count most
+        (tree_of file.term) (binders_in own) a.text.items a.end) }
+{
+    let mut names = file.names;
+    let lets = lets_of(alloc, &mut names, count, &own, &file.term)?;
+    let answer = walk(alloc, file.term, own, &names, &lets, count, how, most)?;
+    Ok(answer)
+}
+
 // The answer for the term of a file.
 fn of_file(
     alloc: Global,
     file: TermFile,
     own: BinderTree,
+    count: u32,
     how: Shown,
     most: u32,
 ) -> Result<Answer, NoMemory>
     requires few { term_size (tree_of file.term) < 2 ^ 64 }
     ensures { IfOk result (λ a. (bytes : List ℕ) →
         IsTerm Two bytes (tree_of file.term) file.names
-        → IsSource how.named bytes (binders_in own)
+        → IsSource (how.named || how.folded) bytes (binders_in own)
+        → HasLets how.folded bytes count
         → IsStepsOf bytes how most a.text.items a.end) }
 {
     if is_within(&file.term) {
-        let answer = walk(alloc, file.term, own, &file.names, how, most)?;
+        let answer = of_small(alloc, file, own, count, how, most)?;
         Ok(answer)
     } else {
         let answer = too_large(alloc, &file.term)?;
         Ok(answer)
     }
+}
+
+fn needs_binders(how: Shown) -> bool
+    ensures { result ≡ (how.named || how.folded) }
+{
+    how.named || how.folded
 }
 
 // The answer for a text of the term of a file.
@@ -182,12 +244,14 @@ fn of_text(
     most: u32,
 ) -> Result<Answer, NoMemory>
     requires few { term_size (tree_of file.term) < 2 ^ 64 }
+    requires short { length bytes.now ≤ most_term_bytes }
     ensures { IfOk result (λ a.
         IsTerm Two bytes.now (tree_of file.term) file.names
         → IsStepsOf bytes.now how most a.text.items a.end) }
 {
-    let own = own_binders(alloc, bytes, how.named)?;
-    let answer = of_file(alloc, file, own, how, most)?;
+    let own = own_binders(alloc, bytes, needs_binders(how))?;
+    let count = lets_told(bytes, how.folded);
+    let answer = of_file(alloc, file, own, count, how, most)?;
     Ok(answer)
 }
 
@@ -197,6 +261,13 @@ fn of_text(
 /// their names, each has the one that it has in the file, with as few primes as keep it from every
 /// free name and every binder round it that is used in its body. The file has a term that `ol`
 /// takes by translation 2, in at most 1,048,576 bytes. Step 0 is the term itself.
+///
+/// If terms are to be folded, each part that is the value of a let at the front of the file is
+/// written by its name, but for the redex that comes next and what this stands in. Where it is that
+/// of several, the last one's name is taken. A let counts if its value is closed, where those of
+/// the lets before it are put in, and its name is no free name and no later let's. Steps one after
+/// another that only unfold a let are one line, which says how many they are, and the step whose
+/// term comes next. Steps are counted as ever.
 ///
 /// - `Yes`: the last term is what the order ends in, and the last line has the order's word for it:
 ///   a normal form, for leftmost and applicative order; a head normal form; a weak head normal form;

@@ -1,0 +1,181 @@
+//! Terms as they are shown: parts that are values of lets are written by their names, and steps
+//! that only unfold a let are one line.
+
+ghost use Rattle.std.specs.Prelude.{◌≡◌, ◌++◌, ◌+◌, ◌<◌, ◌≤◌, ◌^◌, length, true, IfOk, OnOk};
+ghost use Rattle.ol_term.specs.Trees.{tree_of, is_below, is_named_below};
+ghost use Rattle.ol_beta.specs.Beta.{IsWithin};
+ghost use Rattle.ol_strategies.specs.Redexes.{next};
+ghost use Rattle.ol_binders.specs.Trees.{binders_in};
+ghost use Rattle.ol_folds.specs.Kept.{trees_of};
+ghost use Rattle.ol_folds.specs.Folded.{folded_at, pruned};
+ghost use Rattle.ol_steps.specs.Kept.{glossary_of};
+ghost use Rattle.ol_steps.specs.Steps.{lines_of_step, shown_line, step_lines, unfold_line, unfolding_after, unfolds};
+
+use crate::lines::{moves_of, put_redex, put_term};
+use crate::stepping::Shown;
+use ol_beta::Address;
+use ol_binders::BinderTree;
+use ol_folds::{Lets, fold, fold_round, is_let_at, prune};
+use ol_memory::NoMemory;
+use ol_subjects::{put, put_number};
+use ol_term::{Names, Term};
+use std::alloc::Global;
+
+/// How far lets at the front are unfolded.
+#[derive(Clone, Copy)]
+pub struct Unfolding {
+    /// How many are left.
+    pub left: u32,
+    /// How many were unfolded since a term was shown.
+    pub hidden: u32,
+    /// How many steps were made.
+    pub made: u32,
+}
+
+// The line for lets that were unfolded since a term was shown.
+fn put_unfolded(alloc: Global, text: &mut Vec<u8>, seen: Unfolding) -> Result<(), NoMemory>
+    ensures { OnOk result (text.new.items ≡ text.old.items ++ unfold_line seen) }
+{
+    if seen.hidden == 0 {
+        return Ok(());
+    }
+    put_number(alloc, text, seen.hidden as u64)?;
+    put(text, b" lets unfolded: step ")?;
+    put_number(alloc, text, seen.made as u64)?;
+    put(text, b"\n")
+}
+
+// A term whose parts are written by names, where a redex is at an address, or there is none.
+fn folded(
+    alloc: Global,
+    lets: &Lets,
+    term: &Term,
+    redex: &Option<Address>,
+) -> Result<Term, NoMemory>
+    requires bound { is_below 0 (tree_of term.now) ≡ true }
+    requires named { is_named_below lets.now.first (tree_of term.now) ≡ true }
+    requires within { IsWithin (tree_of term.now) }
+    ensures tree { IfOk result (λ t. tree_of t ≡ folded_at lets.now.first
+        (trees_of lets.now.values.items) redex.now (tree_of term.now)) }
+    ensures bound { IfOk result (λ t. is_below 0 (tree_of t) ≡ true) }
+    ensures named { IfOk result (λ t.
+        is_named_below (lets.now.first + length lets.now.values.items) (tree_of t) ≡ true) }
+    ensures within { IfOk result (λ t. IsWithin (tree_of t)) }
+{
+    match redex {
+        None => {
+            let whole = fold(alloc, lets, term)?;
+            Ok(whole)
+        }
+        Some(at) => {
+            let moves = moves_of(alloc, at)?;
+            let whole = fold_round(alloc, lets, term, &moves)?;
+            Ok(whole)
+        }
+    }
+}
+
+// The line of a term as it is shown, and of the lets that were unfolded before.
+pub fn put_shown(
+    alloc: Global,
+    text: &mut Vec<u8>,
+    term: &Term,
+    binders: &BinderTree,
+    names: &Names,
+    lets: &Lets,
+    how: Shown,
+    redex: &Option<Address>,
+    seen: Unfolding,
+) -> Result<(), NoMemory>
+    requires bound { is_below 0 (tree_of term.now) ≡ true }
+    requires named { is_named_below lets.now.first (tree_of term.now) ≡ true }
+    requires within { IsWithin (tree_of term.now) }
+    requires names { length names.now ≡ lets.now.first + length lets.now.values.items }
+    requires redex { redex.now ≡ next how.order (tree_of term.now) }
+    ensures { OnOk result (text.new.items ≡ text.old.items ++ (unfold_line seen ++ shown_line how
+        (glossary_of names.now lets.now) (tree_of term.now) (binders_in binders.now))) }
+{
+    put_unfolded(alloc, text, seen)?;
+    let whole = folded(alloc, lets, term, redex)?;
+    let left = prune(alloc, &whole, binders)?;
+    put_term(alloc, text, &whole, &left, names, how.named)?;
+    Ok(())
+}
+
+// The same, and the lines of the redex, where there is one.
+pub fn put_step(
+    alloc: Global,
+    text: &mut Vec<u8>,
+    term: &Term,
+    binders: &BinderTree,
+    names: &Names,
+    lets: &Lets,
+    how: Shown,
+    redex: &Option<Address>,
+    seen: Unfolding,
+) -> Result<(), NoMemory>
+    requires bound { is_below 0 (tree_of term.now) ≡ true }
+    requires named { is_named_below lets.now.first (tree_of term.now) ≡ true }
+    requires within { IsWithin (tree_of term.now) }
+    requires names { length names.now ≡ lets.now.first + length lets.now.values.items }
+    requires redex { redex.now ≡ next how.order (tree_of term.now) }
+    ensures { OnOk result (text.new.items ≡ text.old.items ++ (unfold_line seen ++ step_lines how
+        (glossary_of names.now lets.now) (tree_of term.now) (binders_in binders.now))) }
+{
+    put_unfolded(alloc, text, seen)?;
+    let whole = folded(alloc, lets, term, redex)?;
+    let left = prune(alloc, &whole, binders)?;
+    put_term(alloc, text, &whole, &left, names, how.named)?;
+    if let Some(at) = redex {
+        put_redex(alloc, text, &whole, &left, names, how, at)?;
+    }
+    Ok(())
+}
+
+// Whether a step only unfolds a let.
+fn unfolds(alloc: Global, left: u32, redex: &Option<Address>) -> Result<bool, NoMemory>
+    ensures { IfOk result (λ b. b ≡ unfolds left redex.now) }
+{
+    match redex {
+        None => Ok(false),
+        Some(at) => {
+            let moves = moves_of(alloc, at)?;
+            Ok(is_let_at(left, &moves))
+        }
+    }
+}
+
+// The lines of a step that is made, and how far lets are unfolded then.
+pub fn put_made(
+    alloc: Global,
+    text: &mut Vec<u8>,
+    term: &Term,
+    binders: &BinderTree,
+    names: &Names,
+    lets: &Lets,
+    how: Shown,
+    redex: &Option<Address>,
+    seen: Unfolding,
+) -> Result<Unfolding, NoMemory>
+    requires bound { is_below 0 (tree_of term.now) ≡ true }
+    requires named { is_named_below lets.now.first (tree_of term.now) ≡ true }
+    requires within { IsWithin (tree_of term.now) }
+    requires names { length names.now ≡ lets.now.first + length lets.now.values.items }
+    requires redex { redex.now ≡ next how.order (tree_of term.now) }
+    requires few { seen.made + 1 < 2 ^ 32 }
+    requires hidden { seen.hidden ≤ seen.made }
+    ensures text { OnOk result (text.new.items ≡ text.old.items ++ lines_of_step how
+        (glossary_of names.now lets.now) seen (tree_of term.now) (binders_in binders.now)) }
+    ensures seen { IfOk result (λ u. u ≡ unfolding_after how.order seen (tree_of term.now)) }
+{
+    let made = seen.made + 1;
+    let left = seen.left;
+    if unfolds(alloc, left, redex)? {
+        let hidden = seen.hidden + 1;
+        let left = left.saturating_sub(1);
+        return Ok(Unfolding { left, hidden, made });
+    }
+    put_step(alloc, text, term, binders, names, lets, how, redex, seen)?;
+    let hidden = 0;
+    Ok(Unfolding { left, hidden, made })
+}
