@@ -1,21 +1,12 @@
 //! Trace texts, read and replayed.
 
-ghost use Rattle.std.specs.Prelude.{◌≡◌, ◌≢◌, ℕ, ◌++◌, ◌≤◌, List, length, drop, true, false, IfOk, IfSome, IfNone, IsSomeAnd};
+ghost use Rattle.std.specs.Prelude.{◌≤◌, length, IfOk};
 ghost use Rattle.ol_net.specs.Nets.{IsNet};
 ghost use Rattle.ol_net.specs.Numbered.{net_of};
-ghost use Rattle.ol_view.specs.declared.forms.Form.{Form};
-ghost use Rattle.ol_view.specs.EachForm.{header};
-ghost use Rattle.ol_view.specs.Forms.{header_of};
-ghost use Rattle.ol_view.specs.LineReading.{TellsOf};
 ghost use Rattle.ol_view.specs.Checks.{start_net_of_graph, IsFound, OnlyIsFound, IsReadAgain};
 
 use crate::answers::Check;
-use crate::forms::Form;
-use crate::line_reading::{Line, line_at};
-use crate::tracing::HEADER;
-use crate::wave_tracing::WAVE_HEADER;
-use ol_diamond::{Rewritten, Weighing};
-use ol_limits::MOST_FUEL;
+use crate::feeding::Checker;
 use ol_memory::NoMemory;
 use ol_net::Net;
 use std::alloc::Global;
@@ -44,37 +35,6 @@ pub fn check(alloc: Global, net: &Net, text: &[u8]) -> Result<Check, NoMemory>
     Ok(found)
 }
 
-// The form that the first line tells.
-fn form_of(text: &[u8]) -> Option<Form>
-    ensures form { IfSome result (λ form.
-        text.now ≡ header_of form ++ drop (length header) text.now) }
-    ensures none { IfNone result
-        ((form : Form) (rest : List ℕ) → text.now ≢ header_of form ++ rest) }
-{
-    if text.starts_with(HEADER.as_bytes()) {
-        return Some(Form::One);
-    }
-    if text.starts_with(WAVE_HEADER.as_bytes()) {
-        return Some(Form::Two);
-    }
-    None
-}
-
-/// Whether the line tells of what was rewritten: of a pair that was active and, in the second form,
-/// its rule and its wave.
-pub fn is_so(line: Line, made: Option<Rewritten>) -> bool
-    ensures so { result ≡ true → IsSomeAnd made (λ of. TellsOf line.told of.rule of.wave) }
-    ensures not { result ≡ false → IfSome made (λ of. TellsOf line.told of.rule of.wave → ⊥) }
-{
-    let Some(made) = made else {
-        return false;
-    };
-    match line.told {
-        Some((rule, wave)) => rule == made.rule && wave == made.wave,
-        None => true,
-    }
-}
-
 // What is found of the text.
 fn find(alloc: Global, net: &Net, text: &[u8]) -> Result<Check, NoMemory>
     requires { length net.now.nodes ≤ 1000000 }
@@ -82,29 +42,9 @@ fn find(alloc: Global, net: &Net, text: &[u8]) -> Result<Check, NoMemory>
     ensures is_net { IsNet (net_of net.now) }
 {
     net.is_net();
-    let Some(form) = form_of(text) else {
-        return Ok(Check::BadText { line: 1 });
-    };
-    let mut replay = Weighing::new(alloc, net)?;
-    let mut at = HEADER.len();
-    let mut entries: u32 = 0;
-    while at < text.len() {
-        if entries == MOST_FUEL {
-            return Ok(Check::BadText { line: entries + 2 });
-        }
-        let Some(line) = line_at(form, text, at) else {
-            return Ok(Check::BadText { line: entries + 2 });
-        };
-        let made = replay.rewrite(line.first, line.second)?;
-        if !is_so(line, made) {
-            return Ok(Check::NotARun { line: entries + 2 });
-        }
-        at = line.next;
-        entries += 1;
-    }
-    if replay.is_complete() {
-        Ok(Check::Complete)
-    } else {
-        Ok(Check::Run { k: entries })
+    let mut checker = Checker::new(alloc, net)?;
+    match checker.feed(text)? {
+        Some(found) => Ok(found),
+        None => Ok(checker.finish()),
     }
 }

@@ -8,6 +8,7 @@
 //! - `forms`: the two forms of a trace text
 //! - `line_reading`: one line of a trace text, as it is read
 //! - `standing`: what stands at a place of a trace text
+//! - `feeding`: trace texts, read and replayed piece by piece
 //! - `checking`: trace texts, read and replayed
 //! - `answers`: what the calls of this crate answer
 //! - `pieces`: bytes at the end of a text
@@ -16,6 +17,7 @@
 
 mod answers;
 mod checking;
+mod feeding;
 mod forms;
 mod laws;
 mod leading;
@@ -27,7 +29,8 @@ mod tracing;
 mod wave_tracing;
 
 pub use answers::{After, Check};
-pub use checking::{check, is_so};
+pub use checking::check;
+pub use feeding::{Checker, is_so};
 pub use forms::Form;
 pub use laws::equal_nets_are_shown_alike;
 pub use leading::after;
