@@ -27,6 +27,8 @@ TOO_LONG_JOURNAL, TOO_LONG_NET = "limit journal 402653184", "limit net 33554432"
 ROWS = [
     ("a journal of 402,653,184 line feeds", ["explain", "term", "journal"], BAD_TEXT, "bad text at line 1"),
     ("one more", ["explain", "term", "longer journal"], REFUSED, TOO_LONG_JOURNAL),
+    ("one more, for check", ["check", "term", "longer journal"], BAD_TEXT, "bad text at line 1"),
+    ("bytes without end, for check", ["check", "term", "/dev/zero"], BAD_TEXT, "bad text at line 1"),
     ("one more, for after", ["after", "1", "term", "longer journal"], REFUSED, TOO_LONG_JOURNAL),
     ("a text of 402,653,184 bytes", ["where", "journal", "402653184"], YES, "line 402653185, column 1"),
     ("one more", ["where", "longer journal", "0"], REFUSED, TOO_LONG_JOURNAL),

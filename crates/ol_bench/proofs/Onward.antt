@@ -78,8 +78,8 @@ module _ (files : Files) (faults faults' : ℕ) (text : List ℕ) (e : End) (c :
         (IsErrOf {T = Vec ℕ Global} {E = ReadAll} (Err why) read.TooLong →
         IsLonger (told_of files other) (most_of c)) →
         IsCauseOnward command bytes other files faults faults' text e
-    onward_not_read command bytes other same longer =
-        not_read c (contents_of command).1 (told_of files other) faults faults' _ text e why counts longer line end same
+    onward_not_read command bytes other same longer = inl
+        (not_read c (contents_of command).1 (told_of files other) faults faults' _ text e why counts longer line end same)
 
     pub two_not_read : (command : OnTwo) (file other : Given) → c ≡ (contents_of command).0 →
         (IsErrOf {T = Vec ℕ Global} {E = ReadAll} (Err why) read.TooLong →
@@ -99,8 +99,8 @@ module _ (files : Files) (faults faults' : ℕ) (text : List ℕ) (e : End) (c :
       c ≡ (contents_of command).1 → IsAllWithin (most_of c) (told_of files other) more →
       faults' ≡ faults → IsAnswerToTwo command bytes more text e →
       IsCauseOnward command bytes other files faults faults' text e
-  onward_read command bytes more other same all stays answer = of_bytes more
-      (subst (λ c. IsAllWithin (most_of c) (told_of files other) more) same all) (stays, answer)
+  onward_read command bytes more other same all stays answer = inl (of_bytes more
+      (subst (λ c. IsAllWithin (most_of c) (told_of files other) more) same all) (stays, answer))
 
   pub two_read : (command : OnTwo) (file other : Given) (bytes : List ℕ) (mid : ℕ) →
       c ≡ (contents_of command).0 → IsAllWithin (most_of c) (told_of files file) bytes →

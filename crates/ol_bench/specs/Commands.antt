@@ -1,9 +1,10 @@
 -- The commands: what each asks of its files, and what is answered.
-use Rattle.std.specs.Prelude.{◌≡◌, ℕ, ◌+◌, ◌≤◌, List, [], ◌∷◌, ◌++◌, ◌⊎◌, length, Option}
+use Rattle.std.specs.Prelude.{◌≡◌, ℕ, ◌+◌, ◌≤◌, false, List, [], ◌∷◌, ◌++◌, ◌⊎◌, length, Option}
 use Rattle.std.specs.Prelude.{codes, string_bytes}
 use Rattle.std.specs.declared.vec.Vec.{Vec}
 use Rattle.std.specs.declared.alloc.Global.{Global}
 use Rattle.ol_io.specs.Outside.{Rose, IsLonger}
+use Rattle.ol_io.specs.Readings.{IsReadOf}
 use Rattle.ol_limits.specs.Limits.{most_fuel}
 use Rattle.ol_term.specs.declared.translations.Translation.TheVariants as translation
 use Rattle.ol_subjects.specs.declared.answers.End.{End}
@@ -212,12 +213,27 @@ IsCauseOfOne command file files faults faults' text e =
     ComesOf (content_of command) (told_of files file) faults faults'
     (λ bytes text e. (faults' ≡ faults) × IsAnswerToOne command bytes text e) text e
 
--- the answer of a command on two files, where the first one has these bytes
+-- A front of the journal was read, and this is the answer to each journal that begins so.
+abbrev pub IsJudgedByFront : Layout → (bytes : List ℕ) → (journal : Option (List ℕ)) → (text : List ℕ) →
+    of.Subject → End → Type 0
+IsJudgedByFront layout bytes journal text s e =
+    (front : List ℕ) × IsReadOf journal false front
+    × ((rest : List ℕ) → IsJudgedIn layout bytes (front ++ rest) text s e)
+
+-- It is answered by a front of the second file. Of all commands only `check` may be.
+abbrev pub IsAnsweredByFront : OnTwo → List ℕ → (other : Option (List ℕ)) → List ℕ → End → Type 0
+IsAnsweredByFront (two.After s lines weights) bytes other text e = ⊥
+IsAnsweredByFront (two.Check s layout) bytes other text e = IsJudgedByFront layout bytes other text s e
+IsAnsweredByFront (two.Explain s layout) bytes other text e = ⊥
+IsAnsweredByFront two.Same bytes other text e = ⊥
+
+-- The answer of a command on two files, where the first one has these bytes.
 abbrev pub IsCauseOnward : OnTwo → List ℕ → Given → Files → (faults faults' : ℕ) → List ℕ → End →
     Type 0
 IsCauseOnward command bytes other files faults faults' text e =
     ComesOf (contents_of command).1 (told_of files other) faults faults'
     (λ more text e. (faults' ≡ faults) × IsAnswerToTwo command bytes more text e) text e
+    ⊎ ((faults' ≡ faults) × IsAnsweredByFront command bytes (told_of files other) text e)
 
 -- the answer of a command on two files
 abbrev pub IsCauseOfTwo : OnTwo → (file other : Given) → Files → (faults faults' : ℕ) → List ℕ →

@@ -5,3 +5,4 @@ pub mod Writing
 pub mod Statuses
 -- What only contracts of private functions and proofs cite.
 pub mod Taking
+pub mod Piecewise

@@ -4,10 +4,12 @@
 //!
 //! - `asked`: the commands: their numbers, what stands in their files, and their answers
 //! - `taking`: the bytes that are given, of a file or of a text
+//! - `piecewise`: a journal that is judged while it is read
 //! - `top`: a command, from its files to what is written
 #![tactic(auto)]
 
 mod asked;
+mod piecewise;
 mod taking;
 mod top;
 

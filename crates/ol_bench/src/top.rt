@@ -10,6 +10,7 @@ ghost use Rattle.ol_bench.specs.Statuses.{status_number};
 ghost use Rattle.ol_bench.specs.Writing.{Told, WritesAnswer, change_of, is_shown, status_of};
 
 use crate::asked::{Asked, Content, Given, OnOne, OnTwo, TERM};
+use crate::piecewise::check_by_pieces;
 use crate::taking::{bytes_of, refusal};
 use ol_grades::{Bounds as Following, Student, Work, grade};
 use ol_io::{ReadAll, Sink, Source, Written, write_all};
@@ -93,8 +94,9 @@ fn of_one<S: Source>(
     }
 }
 
-// The answer of a command on two files, where the first one has these bytes.
-fn onward<S: Source>(
+// The answer of a command on two files, where the first one has these bytes. The second one is read
+// to its end.
+fn onward_whole<S: Source>(
     alloc: Global,
     src: &mut S,
     bytes: &[u8],
@@ -120,6 +122,34 @@ fn onward<S: Source>(
             let answer = command.answer(alloc, bytes, &more)?;
             Ok(answer)
         }
+    }
+}
+
+// The answer of a command on two files, where the first one has these bytes.
+fn onward<S: Source>(
+    alloc: Global,
+    src: &mut S,
+    bytes: &[u8],
+    other: &Given,
+    command: OnTwo,
+) -> Result<Answer, NoMemory>
+    requires known { (name : List ℕ) → IsNamed other.now name → S.knows src.old name ≡ true }
+    requires short { length bytes.now ≤ most_of (contents_of command).0 }
+    requires within { IsTwoWithin command }
+    ensures caused { (files : ℕ → List ℕ → Option (List ℕ))
+        → AreOfSince files (S.readings src.old) (S.readings src.new)
+        → IfOk result (λ a. IsCauseOnward command bytes.now other.now files
+        (S.faults src.old) (S.faults src.new) a.text.items a.end) }
+    ensures told { AreOfSince (λ _. S.contents src.old) (S.readings src.old) (S.readings src.new) }
+{
+    match command {
+        OnTwo::Check { subject, layout } => match other {
+            Given::Name(name) => {
+                check_by_pieces(alloc, src, bytes, name.as_str(), subject, layout)
+            }
+            Given::Text(_) => onward_whole(alloc, src, bytes, other, command),
+        },
+        _ => onward_whole(alloc, src, bytes, other, command),
     }
 }
 
@@ -407,7 +437,8 @@ fn told<W: Sink>(sink: &mut W, text: &[u8], status: Status) -> Status
 ///   where the source failed, but not at a student's file (`Grade`); `limit bytes 1048576`, `limit net 33554432` or
 ///   `limit journal 402653184` where a file has more bytes than that; or the one by which `ol`
 ///   refuses a file with a term or a net. Where both of two files have too many bytes, the limit
-///   of the first one is told.
+///   of the first one is told. A journal of which it was asked what it is found to be isn't refused
+///   if its first 402,653,184 bytes fix this. It is read no further than that.
 /// - `WriteFault`: the sink to which the text goes failed. It has taken the text's first bytes, not
 ///   all of them and maybe none, and the other sink nothing.
 /// - `NoMemory`: no memory was found, and neither sink has taken anything.

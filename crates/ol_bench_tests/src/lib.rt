@@ -17,7 +17,7 @@
 //! - `grades`: rows of `grade`
 //! - `limits`: rows of `steps` at the limits of terms
 //! - `marks`: rows of `steps` with carets
-//! - `outside`: `same` through `bench`, where a call of the source or of a sink fails
+//! - `outside`: `same` and `check` through `bench`, where a call of the source or of a sink fails
 //! - `own_names`: rows of `steps` whose binders keep their names
 //! - `reasons`: rows of `explain`: copies that are numbered otherwise, and links that lines made
 //! - `steps`: reduction in each order, and terms that come back

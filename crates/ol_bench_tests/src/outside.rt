@@ -1,26 +1,30 @@
-//! `same` through `bench`, where the source or a sink fails, or none does.
+//! `same` and `check` through `bench`, where the source or a sink fails, or none does.
 ghost use Rattle.std.specs.Prelude.{IfOk};
-ghost use Rattle.ol_bench.specs.Commands.{IsWithinBounds};
+ghost use Rattle.ol_bench.specs.Commands.{IsTwoWithin, IsWithinBounds};
 
 use crate::fakes::{file, named};
 use ol_bench::{Asked, OnTwo, Status, bench};
 use ol_io::{MemSink, MemSource};
+use ol_objects::Layout;
+use ol_subjects::Subject;
+use ol_term::Translation;
 use std::alloc::{AllocError, Global};
 use std::process::Abort;
 use std::test::Fail;
 
-const WIRE: &str = "ol net 1\nfree 2\nlink f0 f1\n";
+const WIRE: &[u8] = b"ol net 1\nfree 2\nlink f0 f1\n";
 
 // No call has this number.
 const NONE: u64 = 1_000;
 
-fn asked(alloc: Global) -> Result<Asked, AllocError>
+fn asked(alloc: Global, command: OnTwo) -> Result<Asked, AllocError>
+    requires within { IsTwoWithin command }
     ensures { IfOk result IsWithinBounds }
 {
     Ok(Asked::Two {
         file: named(alloc, "-")?,
         other: named(alloc, "other")?,
-        command: OnTwo::Same,
+        command,
     })
 }
 
@@ -33,42 +37,69 @@ fn sink(alloc: Global, failing: u64) -> Result<MemSink, Fail> {
     Ok(sink)
 }
 
-// Asserts the status of `same` to a wire and another file, and what each sink has taken: where the
-// calls of these numbers fail, of the source's ones and of each sink's ones.
-fn assert_same(
+// Asserts the status of a command on a text and another file, and what each sink has taken: where
+// the calls of these numbers fail, of the source's ones and of each sink's ones.
+fn assert_ran(
     rt: &impl Abort,
     alloc: Global,
-    row: (u64, u64, &str, Status, &str, &str),
-) -> Result<(), Fail> {
+    of: (OnTwo, &[u8]),
+    row: (u64, u64, &[u8], Status, &[u8], &[u8]),
+) -> Result<(), Fail>
+    requires within { IsTwoWithin of.0 }
+{
+    let (command, text) = of;
     let (read, write, other, status, wanted, told) = row;
-    let asked = asked(alloc)?;
+    let asked = asked(alloc, command)?;
     let mut files = Vec::new(alloc);
-    files.push(file(alloc, "-", WIRE.as_bytes())?)?;
-    files.push(file(alloc, "other", other.as_bytes())?)?;
+    files.push(file(alloc, "-", text)?)?;
+    files.push(file(alloc, "other", other)?)?;
     let mut src = MemSource::new(files, 65_536, Vec::from_slice(alloc, &[read])?);
     let mut out = sink(alloc, write)?;
     let mut errors = sink(alloc, write)?;
     let ended = bench(alloc, &asked, &mut src, &mut out, &mut errors);
     assert_eq!(rt; ended, status, "{read} {write}");
-    assert!(rt; out.bytes() == wanted.as_bytes(), "{read} {write}");
-    assert!(rt; errors.bytes() == told.as_bytes(), "{read} {write}");
+    assert!(rt; out.bytes() == wanted, "{read} {write}");
+    assert!(rt; errors.bytes() == told, "{read} {write}");
     Ok(())
 }
 
 // Calls 0 to 2 of the source read the first file, and calls 3 to 5 the second.
 #[test]
 fn calls_may_fail(rt: HostRuntime) -> Result<(), Fail> {
-    let bad = "bad net at line 1\n";
-    let rows: [(u64, u64, &str, Status, &str, &str); 6] = [
-        (NONE, NONE, WIRE, Status::Yes, "same\n", ""),
-        (NONE, NONE, "x", Status::Refused, "", bad),
-        (3, NONE, WIRE, Status::Refused, "", "read fault\n"),
-        (4, NONE, WIRE, Status::Refused, "", "read fault\n"),
-        (NONE, 1, WIRE, Status::WriteFault, "sam", ""),
-        (NONE, 2, "x", Status::WriteFault, "", "bad ne"),
+    let bad = b"bad net at line 1\n".as_slice();
+    let rows: [(u64, u64, &[u8], Status, &[u8], &[u8]); 6] = [
+        (NONE, NONE, WIRE, Status::Yes, b"same\n", b""),
+        (NONE, NONE, b"x", Status::Refused, b"", bad),
+        (3, NONE, WIRE, Status::Refused, b"", b"read fault\n"),
+        (4, NONE, WIRE, Status::Refused, b"", b"read fault\n"),
+        (NONE, 1, WIRE, Status::WriteFault, b"sam", b""),
+        (NONE, 2, b"x", Status::WriteFault, b"", b"bad ne"),
     ];
     for row in rows {
-        assert_same(&rt, rt.alloc(), row)?;
+        assert_ran(&rt, rt.alloc(), (OnTwo::Same, WIRE), row)?;
+    }
+    Ok(())
+}
+
+// Call 4 of the source reads the journal, and call 5 its end.
+#[test]
+fn a_journal_is_read_no_further(rt: HostRuntime) -> Result<(), Fail> {
+    let subject = Subject::Term(Translation::Two);
+    let layout = Layout::Lines;
+    let empty = b"ol trace 1\n".as_slice();
+    let bad = b"bad text at line 1\n".as_slice();
+    let rows: [(u64, u64, &[u8], Status, &[u8], &[u8]); 3] = [
+        (5, NONE, b"bad\nx", Status::BadText, bad, b""),
+        (5, NONE, empty, Status::Refused, b"", b"read fault\n"),
+        (NONE, NONE, empty, Status::Yes, b"complete\n", b""),
+    ];
+    for row in rows {
+        assert_ran(
+            &rt,
+            rt.alloc(),
+            (OnTwo::Check { subject, layout }, b"x".as_slice()),
+            row,
+        )?;
     }
     Ok(())
 }

@@ -9,6 +9,8 @@ use Rattle.ol_subjects.specs.declared.answers.End.{End}
 use Rattle.ol_subjects.specs.declared.answers.End.TheVariants as end
 use Rattle.ol_subjects.specs.declared.subjects.Subject.{Subject}
 use Rattle.ol_subjects.specs.Subjects.{IsSubject, Refuses}
+use Rattle.ol_objects.specs.declared.layouts.Layout.{Layout}
+use Rattle.ol_objects.specs.declared.layouts.Layout.TheVariants.{Lines, Object}
 use Rattle.ol_objects.specs.Strings.{array_of, lines_of}
 use Rattle.ol_explain.specs.Explained.{IsExplained}
 use Rattle.ol_explain.specs.Judged.{end_of, found_line}
@@ -27,6 +29,11 @@ why_member lines = codes ",\"why\":" ++ array_of (lines_of lines)
 -- an object of these members, and a line feed
 abbrev pub object_line : List ℕ → List ℕ
 object_line members = codes "{" ++ members ++ codes "}\n"
+
+-- what tells what a journal is found to be, in this layout
+abbrev pub found_in : Layout → Check → List ℕ
+found_in Lines c = found_line c
+found_in Object c = object_line (found_members c)
 
 -- The object for the line that `check` answers. A file that is refused is by its line, as ever.
 pub data IsJudgedObject (bytes journal text : List ℕ) (subject : Subject) : End → Type 0 where

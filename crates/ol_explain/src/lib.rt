@@ -31,6 +31,6 @@ mod weighing;
 
 pub use explaining::explained;
 pub use judging::judged;
-pub use objects::{explained_object, judged_object};
+pub use objects::{answer_in, explained_object, judged_object};
 pub use pausing::{after, after_with_weights};
 pub use tallying::{Finding, Tally, checked, tallied};

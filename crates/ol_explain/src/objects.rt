@@ -3,14 +3,14 @@
 ghost use Rattle.std.specs.Prelude.{◌≡◌, ◌≤◌, ◌++◌, length, drop, IfOk, OnOk};
 ghost use Rattle.std.specs.Fmt.{decimal};
 ghost use Rattle.ol_subjects.specs.Subjects.{most_bytes};
-ghost use Rattle.ol_explain.specs.Judged.{found_line};
-ghost use Rattle.ol_explain.specs.Objects.{IsExplainedObject, IsJudgedObject, found_members, object_line, why_member};
+ghost use Rattle.ol_explain.specs.Judged.{end_of, found_line};
+ghost use Rattle.ol_explain.specs.Objects.{IsExplainedObject, IsJudgedObject, found_members, found_in, object_line, why_member};
 
 use crate::explaining::of_net;
 use crate::judging::answer_of;
 use crate::others::put_other;
 use ol_memory::NoMemory;
-use ol_objects::put_lines;
+use ol_objects::{Layout, put_lines};
 use ol_subjects::{Answer, End, NetRead, Subject, put, put_number, read_subject};
 use ol_view::{Check, check};
 use std::alloc::Global;
@@ -55,6 +55,23 @@ fn found_object(alloc: Global, found: Check) -> Result<Vec<u8>, NoMemory>
     Ok(text)
 }
 
+/// What a journal is found to be, as the line of `judged` or the object of `judged_object`, and how
+/// they end. `NoMemory`: no memory was found.
+pub fn answer_in(alloc: Global, found: Check, layout: Layout) -> Result<Answer, NoMemory>
+    ensures text { IfOk result (λ a. a.text.items ≡ found_in layout found) }
+    ensures end { IfOk result (λ a. a.end ≡ end_of found) }
+{
+    let line = answer_of(alloc, found)?;
+    match layout {
+        Layout::Lines => Ok(line),
+        Layout::Object => {
+            let text = found_object(alloc, found)?;
+            let end = line.end;
+            Ok(Answer { text, end })
+        }
+    }
+}
+
 // The object for some lines, the first of which tells what is found.
 fn lines_object(alloc: Global, found: Check, lines: &[u8]) -> Result<Vec<u8>, NoMemory>
     requires first { length (found_line found) ≤ length lines.now }
@@ -94,12 +111,8 @@ pub fn judged_object(
         }
         NetRead::Net(net) => {
             let found = check(alloc, &net, journal)?;
-            let line = answer_of(alloc, found)?;
-            let object = found_object(alloc, found)?;
-            Ok(Answer {
-                text: object,
-                end: line.end,
-            })
+            let answer = answer_in(alloc, found, Layout::Object)?;
+            Ok(answer)
         }
     }
 }

@@ -7,10 +7,10 @@ pub returns-in-Refused : goal.returns-in-Refused
 returns-in-Refused c = IsJudgedObject.refused (subst
     (IsSubjectRead c.args.subject c.args.bytes.now) c.in-Refused.is c.in_ok-text.ensures)
 
-pub returns-in_ok-object-in-Net : goal.returns-in_ok-object-in-Net
-returns-in_ok-object-in-Net c =
+pub returns-in_ok-answer-in-Net : goal.returns-in_ok-answer-in-Net
+returns-in_ok-answer-in-Net c =
     let r = subst (IsSubjectRead c.args.subject c.args.bytes.now) c.in-Net.is c.in_ok-text.ensures in
-    let o = c.in_ok-object-in-Net in
-    subst (λ e. IsJudgedObject c.args.bytes.now c.args.journal.now o.object.items c.args.subject e)
-    (sym c.in_ok-line-in-Net.ensures.end)
-    (IsJudgedObject.found c.in_ok-found-in-Net.found r.0 c.in_ok-found-in-Net.ensures.exact o.ensures)
+    let a = c.in_ok-answer-in-Net in
+    subst (λ e. IsJudgedObject c.args.bytes.now c.args.journal.now a.answer.text.items c.args.subject e)
+    (sym a.ensures.end)
+    (IsJudgedObject.found c.in_ok-found-in-Net.found r.0 c.in_ok-found-in-Net.ensures.exact a.ensures.text)
