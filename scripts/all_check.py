@@ -18,7 +18,7 @@ import time
 path, jobs, names = os.path.realpath(sys.argv[1]), int(sys.argv[2]), sys.argv[3:]
 main = runpy.run_path(path, run_name='rt')['main']
 rt = main.__globals__
-crate, share_work = rt['rtlib'].Crate, rt['share_work']
+crate = rt['rtlib'].Crate
 ROOMY = 12  # GB of free memory, with which more than two processes may prove one crate
 OWN = threading.local()  # how many processes prove the crate that this thread is about
 
@@ -79,12 +79,22 @@ def only_named(made):
     return call
 
 
-def share_work_of_named(is_alone):
-    share_work(is_alone)
+def prove_named_alone():
     crate.build_rlib, crate.check = only_named(crate.build_rlib), only_named(crate.check)
 
 
-rt['share_work'] = share_work_of_named
+def share_work_of_named(share_work):
+    def call(is_alone):
+        share_work(is_alone)
+        prove_named_alone()
+    return call
+
+
+# Some kits change these two calls by `share_work` when the run begins; the others have no such call.
+if 'share_work' in rt:
+    rt['share_work'] = share_work_of_named(rt['share_work'])
+else:
+    prove_named_alone()
 rt['rtlib'].libraries_keep = lambda: getattr(OWN, 'processes', 1) == 1
 crate.front_end = lambda self: 0
 sys.exit(main(['all', 'check', '--jobs', '99']))
