@@ -1,33 +1,72 @@
-"""Runs a command that proves and builds all programs, and then tests/all with these programs.
+"""Runs a command that proves and builds all programs; then tests/edits and tests/all with what it made.
 
     tests/gate COMMAND WORD ..
 
-COMMAND is `rt ci`, as .ci/run gives it. It leaves each program that it proved as crates/CRATE/out/CRATE, those that an
-earlier run on this machine proved too, and it takes away what stood there before. So where its status is 0, these are proved programs of
-the sources that stand here, and tests/all is run with them and with no others; where it isn't, tests/all isn't run. The
-last line is 'N passed, M failed', over both, and the status is 0 where nothing failed.
+COMMAND is `rt ci`, as .ci/run gives it. It is run in a copy of the repository that has no must-fail edits: `rt ci` would try
+these one after another, and prove each crate that has some once more, which takes longer than all else. tests/edits tries
+them, over the libraries that COMMAND proved. If COMMAND's status is 0, what it left in each out/ is taken over, so that
+the programs here are proved ones of the sources that stand here. tests/all is run with them and with no others. If something fails, what
+comes behind it isn't run. The last line is 'N passed, M failed', over all three; the status is 0 if nothing failed.
 """
 import os
+import shutil
 import sys
+import tempfile
+import time
 
 import all as tests_all
+import edits
 import made_from
 import summing
 import which_ol
 
+LEFT_OUT = shutil.ignore_patterns(".git", "out", "must-fail")
+
+
+def taken_over(copy):
+    """Takes over what the command left in each out/."""
+    for crate in sorted(os.listdir(f"{copy}/crates")):
+        made, here = f"{copy}/crates/{crate}/out", f"{made_from.TOP}/crates/{crate}/out"
+        shutil.rmtree(here, ignore_errors=True)
+        if os.path.isdir(made):
+            shutil.move(made, here)
+
+
+def proved(words, sources):
+    """Runs the command in a copy: its sum, and its status."""
+    with tempfile.TemporaryDirectory(prefix="gate-") as room:
+        os.chmod(room, 0o755)
+        copy = f"{room}/ol"
+        shutil.copytree(made_from.TOP, copy, symlinks=True, ignore=LEFT_OUT)
+        try:
+            total, status = summing.ran(words, cwd=copy)
+        except OSError as fault:
+            print(f"{words[0]} doesn't run: {fault.strerror}")
+            total, status = summing.Sum(0, 1), 127
+        is_same = all(made_from.sources(name) == it for name, it in sources.items())
+        if not status and not total.failed and is_same:
+            taken_over(copy)
+        elif not is_same:
+            print("The sources have changed meanwhile.")
+            total, status = summing.added([total, summing.Sum(0, 1)]), 1
+    return total, status
+
 
 def proved_programs(sources):
-    """The path of each program that the command left; None, where one isn't there. Beside it is noted what it was made from."""
+    """The path of each program that the command left; None if one isn't there. Beside it is noted what it was made from."""
     found = {}
     for name in made_from.CRATES:
         path = made_from.program(name, "proved")
         if not os.access(path, os.X_OK):
             print(f"{os.path.relpath(path, made_from.TOP)} isn't there, so tests/all isn't run: it runs proved programs alone.")
             return None
-        if made_from.sources(name) == sources[name]:
-            made_from.note(name, "proved", sources[name])
+        made_from.note(name, "proved", sources[name])
         found[which_ol.VARIABLES[name]] = path
     return found
+
+
+def timed(what, begun):
+    print(f"{what} took {(time.monotonic() - begun) / 60:.0f} minutes", flush=True)
 
 
 def main(words):
@@ -35,18 +74,18 @@ def main(words):
         print(__doc__, file=sys.stderr)
         return 2
     os.chdir(made_from.TOP)
-    sources = {name: made_from.sources(name) for name in made_from.CRATES}
-    try:
-        total, status = summing.ran(words)
-    except OSError as fault:
-        print(f"{words[0]} doesn't run: {fault.strerror}")
-        total, status = summing.Sum(0, 1), 127
+    sources, begun = {name: made_from.sources(name) for name in made_from.CRATES}, time.monotonic()
+    total, status = proved(words, sources)
+    timed(" ".join(words), begun)
     if status or total.failed:
-        print("tests/all isn't run, since what comes before it failed.")
+        print("tests/edits and tests/all aren't run, since what comes before them failed.")
         summing.told(total)
         return status or 1
-    programs = proved_programs(sources)
+    programs, begun = proved_programs(sources), time.monotonic()
     if not programs:
         return summing.told(summing.added([total, summing.Sum(0, 1)]))
+    print("tests/edits", flush=True)
+    total = summing.added([total, edits.run([], with_dear=False)])
+    timed("tests/edits", begun)
     os.environ.update(programs)
     return summing.told(summing.added([total, tests_all.run(tests_all.USUAL)]))
