@@ -145,7 +145,7 @@ def verdicts_of(lines, crate, place):
     """What a check said of a function: the ends of the lines on it."""
     path = [crate.name, r"(?:\S+::)?" + place.type if place.type else place.module, place.name]
     if place.of_trait:
-        path = [crate.name, place.module, r"\S+", place.name]
+        path = [crate.name, place.module, place.type + r"\w*", place.name]
     found = re.compile("fn " + "::".join(it for it in path if it) + ": (.*)")
     return [match[1] for match in map(found.fullmatch, lines) if match]
 
