@@ -23,6 +23,29 @@ ROOMY = 12  # GB of free memory, with which more than two processes may prove on
 OWN = threading.local()  # how many processes prove the crate that this thread is about
 
 
+def once_each(made, name):
+    """The call `made` of a crate, which calls itself on those below: within one outermost call it is made once for each crate. As it is, some
+    kits call it once for each way down, of which there are some 10,000 here."""
+    def call(self):
+        known = getattr(OWN, name, None)
+        if known is not None and self in known:
+            return known[self]
+        is_outermost = known is None
+        if is_outermost:
+            known = {}
+            setattr(OWN, name, known)
+        try:
+            known[self] = made(self)
+            return known[self]
+        finally:
+            if is_outermost:
+                setattr(OWN, name, None)
+    return call
+
+
+crate.stamp, crate.below = once_each(crate.stamp, 'stamps'), once_each(crate.below, 'belows')
+
+
 def chains():
     """For each crate the lines of code of the longest chain of crates that begins with it and goes on with one that stands on it."""
     crates = [it for it in rt['rtlib'].crates_below(os.getcwd()) if it.name in names]

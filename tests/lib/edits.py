@@ -15,6 +15,7 @@ has the last word. The last line is 'N passed, M failed'.
 """
 import collections
 import concurrent.futures
+import functools
 import os
 import re
 import runpy
@@ -41,9 +42,12 @@ DEAR = "# Dear:"
 def kit():
     """The names of the kit's `rt`, whose way of trying one edit this is."""
     path = os.path.realpath(shutil.which("rt") or "rt")
-    made = runpy.run_path(path, run_name="rt")
-    made["rtlib"].Crate = made["Crate"]
-    return made["main"].__globals__
+    rt = runpy.run_path(path, run_name="rt")["main"].__globals__
+    rt["rtlib"].Crate = rt["Crate"]
+    # (some kits look for the crates below one again and again)
+    below = functools.lru_cache(maxsize=None)(rt["Crate"].below)
+    rt["Crate"].below = lambda crate: list(below(crate))
+    return rt
 
 
 def pairs_of(text):
