@@ -1,23 +1,21 @@
 //! Exits of walks over the nets of small terms, against the root's frame.
 
-ghost use Rattle.std.specs.Prelude.{◌≡◌, ℕ, ◌<◌, List, length, IfOk};
-ghost use Rattle.ol_context.specs.Contexts.{Level};
-ghost use Rattle.ol_context.specs.Shapes.{AreHeld};
-ghost use Rattle.ol_readback.specs.Frames.{frames_of, ParentsFirst, AreHeldFrames, AreAtPorts};
+ghost use Rattle.std.specs.Prelude.{◌≡◌, length, IfOk};
+ghost use Rattle.ol_readback.specs.Frames.{frames_of, ParentsFirst, AreHeldFrames};
 
 use crate::level_texts::begun;
-use ol_context::{Context, Values};
-use ol_readback::{Frame, Head, HeadVar, Levels, leave};
+use crate::rows::{Asked, Question, assert_rows};
+use ol_context::Values;
+use ol_memory::NoMemory;
+use ol_readback::{Frame, Head, Levels, leave};
 use std::alloc::{AllocError, Global};
-use std::process::Abort;
 use std::test::Fail;
 
 /// The frame of the root alone, whose head has two abstractions.
-pub fn root_alone(alloc: Global) -> Result<Vec<Frame>, AllocError>
+fn root_alone(alloc: Global, values: &Values) -> Result<Vec<Frame>, AllocError>
     ensures count { IfOk result (λ fs. length fs.items ≡ 1) }
-    ensures parents { IfOk result (λ fs. (vs : List Level) → ParentsFirst (frames_of vs fs.items)) }
-    ensures held { IfOk result (λ fs. (vs : List Level) → AreHeldFrames vs fs.items) }
-    ensures ports { IfOk result (λ fs. (n : ℕ) → 0 < n → AreAtPorts n fs.items) }
+    ensures parents { IfOk result (λ fs. ParentsFirst (frames_of values.now fs.items)) }
+    ensures held { IfOk result (λ fs. AreHeldFrames values.now fs.items) }
 {
     let root = Frame {
         port: 0,
@@ -29,33 +27,41 @@ pub fn root_alone(alloc: Global) -> Result<Vec<Frame>, AllocError>
     Ok(frames)
 }
 
-/// Asserts that an exit, asked for so many abstractions, says a variable with so many arguments, and
-/// one level for their frames, or no head.
-fn assert_left(
-    rt: &impl Abort,
-    alloc: Global,
-    values: &Values,
-    lams: u32,
-    port: u32,
-    context: &Context,
-    wanted: Option<(HeadVar, u32)>,
-) -> Result<(), Fail>
-    requires { AreHeld values.now context.now }
-{
-    let frames = root_alone(alloc)?;
-    match leave(alloc, values, &frames, 0, lams, port, context)? {
+/// The number of abstractions, the variable and the number of arguments.
+fn head_text(alloc: Global, head: &Head) -> Result<String, AllocError> {
+    match head {
         Head::Is {
-            lams: there,
+            lams,
             var,
             args,
-            at,
-        } => {
-            assert!(rt; there == lams && at.len() == 1);
-            assert!(rt; Some((var, args)) == wanted);
-        }
-        Head::NoHead | Head::Budget => assert!(rt; wanted.is_none(), "no head"),
+            ..
+        } => format!(in alloc; "{} {:?} {}", *lams, *var, *args),
+        Head::NoHead => String::from_str(alloc, "no head"),
+        Head::Budget => String::from_str(alloc, "budget"),
     }
-    Ok(())
+}
+
+/// What the exit by port `second` with these levels says of the walk for `first` abstractions.
+fn left_head(alloc: Global, asked: Asked<'_>) -> Result<Head, NoMemory> {
+    let mut values = Values::new(alloc);
+    let context = begun(alloc, &mut values, asked.signs)?;
+    let frames = root_alone(alloc, &values)?;
+    leave(
+        alloc,
+        &values,
+        &frames,
+        0,
+        asked.first,
+        asked.second,
+        &context,
+    )
+}
+
+/// The same as a text.
+pub fn left(alloc: Global, asked: Asked<'_>) -> Result<String, Fail> {
+    let head = left_head(alloc, asked)?;
+    let text = head_text(alloc, &head)?;
+    Ok(text)
 }
 
 /// `\x. f x`, asked for one abstraction, leaves by the port of f with levels `empty`, `o.empty`. No
@@ -67,19 +73,15 @@ fn assert_left(
 /// `o.*.<empty,empty>` is binder 2 of the root's frame, with no argument.
 #[test]
 fn leaves_by_a_name_and_as_a_binder(rt: HostRuntime) -> Result<(), Fail> {
-    let first = HeadVar::Bound { node: 0, binder: 1 };
-    let second = HeadVar::Bound { node: 0, binder: 2 };
-    for (lams, port, signs, wanted) in [
-        (1, 1, ["", "o", ""], Some((HeadVar::Free(1), 1))),
-        (2, 0, ["", "o", ""], None),
-        (2, 1, ["", "o", "*"], None),
-        (2, 0, ["*", "o", "*"], None),
-        (2, 0, ["*pp", "o", ""], Some((first, 1))),
-        (2, 0, ["o*e", "", ""], Some((second, 0))),
-    ] {
-        let mut values = Values::new(rt.alloc());
-        let context = begun(rt.alloc(), &mut values, signs)?;
-        assert_left(&rt, rt.alloc(), &values, lams, port, &context, wanted)?;
-    }
-    Ok(())
+    assert_rows(
+        &rt,
+        rt.alloc(),
+        Question::Exit,
+        b"1 1 ,o, - => 1 Free(1) 1
+2 0 ,o, - => no head
+2 1 ,o,* - => no head
+2 0 *,o,* - => no head
+2 0 *pp,o, - => 2 Bound { node: 0, binder: 1 } 1
+2 0 o*e,, - => 2 Bound { node: 0, binder: 2 } 0",
+    )
 }

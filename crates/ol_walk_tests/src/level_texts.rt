@@ -1,23 +1,16 @@
-//! Levels, single crossings and walks as plain texts, for the tests.
+//! Levels, and walks with them, as plain texts.
 
-ghost use Rattle.std.specs.Prelude.{◌≡◌, IfOk};
+ghost use Rattle.std.specs.Prelude.{IfOk};
 ghost use Rattle.ol_context.specs.Shapes.{IsHeld, AreHeld, Extends};
 
-use ol_context::{Context, Cross, Shape, Val, Values, Walk, cross, walk};
+use crate::rows::Asked;
+use crate::small_nets::{net_of, parsed};
+use ol_context::{Context, Shape, Val, Values, Walk, walk};
 use ol_memory::NoMemory;
-use ol_net::{Kind, Net, NodeId, Port};
+use ol_net::Net;
+use ol_term::Translation;
 use std::alloc::{AllocError, Global};
 use std::test::Fail;
-
-/// The port of a node by its slot.
-fn of(node: u32, slot: u8) -> Port
-    ensures { result ≡ Port.Of (record { 0 = node }) slot }
-{
-    Port::Of {
-        node: NodeId(node),
-        slot,
-    }
-}
 
 /// Appends a level value, as in `*.<empty,o.empty>`.
 fn spell(values: &Values, v: Val, text: &mut String) -> Result<(), AllocError>
@@ -51,7 +44,7 @@ fn spelled(alloc: Global, values: &Values, context: &Context) -> Result<String, 
     for k in 0..8 {
         let level = context.level(values, k);
         if !matches!(values.shape(level), Shape::Empty) {
-            text.push_str(format!(in alloc; " {k}:")?.as_str())?;
+            text = format!(in alloc; "{text} {k}:")?;
             spell(values, level, &mut text)?;
         }
     }
@@ -88,67 +81,54 @@ fn signed(values: &mut Values, signs: &str) -> Result<Val, NoMemory>
     Ok(v)
 }
 
-/// The context that begins with three levels of such signs.
-pub fn begun(alloc: Global, values: &mut Values, signs: [&str; 3]) -> Result<Context, Fail>
+/// The context that begins with up to three levels, whose signs have commas between them.
+pub fn begun(alloc: Global, values: &mut Values, signs: &str) -> Result<Context, NoMemory>
     ensures { IfOk result (λ c. AreHeld values.new c) }
 {
-    let [first, second, third] = signs;
+    let (first, rest) = signs.split_once(",").unwrap_or((signs, ""));
+    let (second, third) = rest.split_once(",").unwrap_or((rest, ""));
     let a = signed(values, first)?;
     let b = signed(values, second)?;
     let c = signed(values, third)?;
     Ok(Context::of(vec![in alloc; a, b, c]?))
 }
 
-/// What a walk from a free port answers that begins with these levels.
-pub fn walked(
+fn exit_text(
     alloc: Global,
-    net: &Net,
-    from: u32,
-    signs: [&str; 3],
-    edges: u64,
-) -> Result<String, Fail> {
-    if from >= net.free_ports() {
+    values: &Values,
+    port: u32,
+    context: &Context,
+    crossings: u64,
+) -> Result<String, AllocError>
+    requires { AreHeld values.now context.now }
+{
+    let levels = spelled(alloc, values, context)?;
+    format!(in alloc; "{crossings} to {port} with{levels}")
+}
+
+/// What a walk of at most `second` crossings from free port `first` of a net answers that begins
+/// with these levels.
+fn walked_on(alloc: Global, net: &Net, asked: Asked<'_>) -> Result<String, Fail> {
+    if asked.first >= net.free_ports() {
         return Err(Fail::from("no such port"));
     }
     let mut values = Values::new(alloc);
-    let context = begun(alloc, &mut values, signs)?;
-    match walk(net, &mut values, from, context, edges)? {
+    let context = begun(alloc, &mut values, asked.signs)?;
+    let text = match walk(net, &mut values, asked.first, context, asked.second as u64)? {
         Walk::Exit {
             port,
             context,
             crossings,
-        } => {
-            let levels = spelled(alloc, &values, &context)?;
-            Ok(format!(in alloc; "{crossings} to {port} with{levels}")?)
-        }
-        Walk::Undefined { crossings } => Ok(format!(in alloc; "undefined at {crossings}")?),
-        Walk::Budget => Ok(format!(in alloc; "budget")?),
-    }
+        } => exit_text(alloc, &values, port, &context, crossings),
+        Walk::Undefined { crossings } => format!(in alloc; "undefined at {crossings}"),
+        Walk::Budget => String::from_str(alloc, "budget"),
+    };
+    Ok(text?)
 }
 
-/// What a crossing answers that enters a node by a slot with these levels.
-pub fn crossed(
-    alloc: Global,
-    net: &Net,
-    node: u32,
-    slot: u8,
-    signs: [&str; 3],
-) -> Result<String, Fail> {
-    let Some((kind, _)) = net.kind_of(NodeId(node)) else {
-        return Err(Fail::from("no such node"));
-    };
-    if slot >= kind.slots() {
-        return Err(Fail::from("no such slot"));
-    }
-    let mut values = Values::new(alloc);
-    let mut context = begun(alloc, &mut values, signs)?;
-    let port = of(node, slot);
-    match cross(net, &mut values, port, &mut context)? {
-        Cross::Out(Port::Of { slot, .. }) => {
-            let levels = spelled(alloc, &values, &context)?;
-            Ok(format!(in alloc; "by {slot} with{levels}")?)
-        }
-        Cross::Out(Port::Free(_)) => Err(Fail::from("free port")),
-        Cross::Undefined => Ok(format!(in alloc; "undefined")?),
-    }
+/// The same over the net of a term by a translation.
+pub fn walked(alloc: Global, translation: Translation, asked: Asked<'_>) -> Result<String, Fail> {
+    let file = parsed(alloc, asked.text)?;
+    let net = net_of(alloc, &file, translation)?;
+    walked_on(alloc, &net, asked)
 }
