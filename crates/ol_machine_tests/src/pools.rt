@@ -1,5 +1,5 @@
 //! A search over parts that answer as they were told, and cells in a pool, which two threads share.
-ghost use Rattle.std.specs.Prelude.{◌≡◌, IfOk};
+ghost use Rattle.std.specs.Prelude.{◌≡◌, ◌<◌, IfOk};
 ghost use Rattle.ol_pool.specs.Looks.{HasCounts, Tells};
 ghost use Rattle.ol_pool.specs.Pools.{IsHandOf};
 
@@ -123,19 +123,24 @@ fn told(alloc: Global, last: Seen) -> Result<Fake, Fail> {
     })
 }
 
-#[test]
-fn a_part_that_says_again_is_looked_at_twice(rt: HostRuntime) -> Result<(), Fail> {
-    let mut looks = told(rt.alloc(), Seen::Cell(5))?;
-    assert_eq!(rt; take_from(&mut looks, 0), Some(5));
-    assert_eq!(rt; looks.looked.as_slice(), [0, 1, 1, 2].as_slice());
-    Ok(())
+// What a search gives, and which parts it looked at.
+fn searched(alloc: Global, last: Seen) -> Result<String, Fail> {
+    let mut looks = told(alloc, last)?;
+    let taken = take_from(&mut looks, 0);
+    let looked = looks.looked.as_slice();
+    Ok(format!(in alloc; "{taken:?} {looked:?}")?)
 }
 
+/// A part that says again is looked at twice, and none comes after all parts.
 #[test]
-fn none_comes_after_all_parts(rt: HostRuntime) -> Result<(), Fail> {
-    let mut looks = told(rt.alloc(), Seen::Empty)?;
-    assert_eq!(rt; take_from(&mut looks, 0), None);
-    assert_eq!(rt; looks.looked.as_slice(), [0, 1, 1, 2].as_slice());
+fn parts_are_searched(rt: HostRuntime) -> Result<(), Fail> {
+    for (last, wanted) in [
+        (Seen::Cell(5), b"Some(5) [0, 1, 1, 2]".as_slice()),
+        (Seen::Empty, b"None [0, 1, 1, 2]".as_slice()),
+    ] {
+        let text = searched(rt.alloc(), last)?;
+        assert!(rt; text.as_bytes() == wanted, "{text}");
+    }
     Ok(())
 }
 
@@ -151,30 +156,43 @@ fn pool_of_two(alloc: Global, cells: u32) -> Result<(Pool, Hand, Hand), Fail>
     Ok((pool, zero, one))
 }
 
-#[test]
-fn a_cell_goes_from_hand_to_hand(rt: HostRuntime) -> Result<(), Fail> {
-    let (pool, mut zero, mut one) = pool_of_two(rt.alloc(), 8)?;
-    assert_eq!(rt; (pool.cells(), pool.hands()), (8, 2));
-    assert_eq!(rt; (zero.number(), one.number()), (0, 1));
-    assert_eq!(rt; pool.take(&mut one), None);
-    assert!(rt; one.missed());
-    assert_eq!(rt; pool.put(&mut zero, 7), Ok(()));
-    assert_eq!(rt; pool.take(&mut one), Some(7));
-    assert!(rt; !one.missed());
-    assert_eq!(rt; pool.take(&mut zero), None);
-    assert!(rt; zero.missed());
-    Ok(())
+// What the hands take before and after one of them puts three cells.
+fn exchanged(pool: &Pool, zero: &mut Hand, one: &mut Hand) -> [Option<u32>; 5]
+    requires cells { 7 < pool.now.cells }
+    requires zero { IsHandOf zero.old pool.now }
+    requires one { IsHandOf one.old pool.now }
+{
+    let missed = pool.take(one);
+    let _ = pool.put(zero, 7);
+    let _ = pool.put(zero, 3);
+    let _ = pool.put(zero, 1);
+    let other = pool.take(one);
+    let own = pool.take(zero);
+    let last = pool.take(one);
+    let none = pool.take(zero);
+    [missed, other, own, last, none]
 }
 
+// The same as a text, and what the pool and the hands tell then.
+fn told_of_two(alloc: Global) -> Result<String, Fail> {
+    let (pool, mut zero, mut one) = pool_of_two(alloc, 8)?;
+    let taken = exchanged(&pool, &mut zero, &mut one);
+    let (cells, hands, hinted) = (pool.cells(), pool.hands(), pool.hinted());
+    let numbers = [zero.number(), one.number()];
+    let missed = [zero.missed(), one.missed()];
+    let refused = zero.refused();
+    Ok(format!(in alloc; "{taken:?} {cells} {hands} {hinted:?} {numbers:?} {missed:?} {refused}")?)
+}
+
+/// A hand takes what it put in order, and another hand takes of it too.
 #[test]
-fn a_hand_takes_what_it_put_in_order(rt: HostRuntime) -> Result<(), Fail> {
-    let (pool, mut zero, _one) = pool_of_two(rt.alloc(), 8)?;
-    assert_eq!(rt; pool.put(&mut zero, 3), Ok(()));
-    assert_eq!(rt; pool.put(&mut zero, 1), Ok(()));
-    assert_eq!(rt; pool.take(&mut zero), Some(3));
-    assert_eq!(rt; pool.take(&mut zero), Some(1));
-    assert_eq!(rt; pool.take(&mut zero), None);
-    assert_eq!(rt; zero.refused(), 0);
+fn cells_go_from_hand_to_hand(rt: HostRuntime) -> Result<(), Fail> {
+    let text = told_of_two(rt.alloc())?;
+    assert!(rt;
+        text.as_bytes()
+            == b"[None, Some(7), Some(3), Some(1), None] 8 2 None [0, 1] [true, false] 0".as_slice(),
+        "{text}"
+    );
     Ok(())
 }
 

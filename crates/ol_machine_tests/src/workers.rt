@@ -1,25 +1,33 @@
 //! A small net that is swept, worked on by one worker, and worked on by several.
-ghost use Rattle.std.specs.Prelude.{◌≡◌, ◌≤◌, IfOk, count_by, is_some, length};
+
+ghost use Rattle.std.specs.Prelude.{◌≡◌, ◌<◌, ◌≤◌, IfOk};
 ghost use Rattle.ol_pool.specs.Pools.{IsHandOf as IsOfPool};
 ghost use Rattle.ol_reduce.specs.Works.{IsSeated};
-ghost use Rattle.ol_wire.specs.Layout.{cells_of};
-ghost use Rattle.ol_wire.specs.Sizes.{IsSmallNet};
 ghost use Rattle.ol_wire.specs.Stand.{IsNewSeat};
 
-use crate::small_nets::{
-    identity_of_identity, identity_twice, is_small, of, stuck_pair, without_end,
-};
+use crate::closing::alone;
+use crate::small_nets::{Small, net_of};
 use ol_io::OpenGate;
-use ol_memory::NoMemory;
-use ol_net::{Net, Port};
 use ol_pool::{Hand, Pool};
-use ol_reduce::{Counted, End, Reduced, Sweep, Worker, reduce, reduce_counted, sweep, worker};
-use ol_rules::{Counts, counts};
+use ol_reduce::{Counted, Reduced, Worker, reduce, reduce_counted, sweep, worker};
+use ol_rules::counts;
 use ol_wire::{Seat, Shared};
 use std::alloc::Global;
+use std::sync::Wait;
 use std::test::Fail;
+use std::thread::Threads;
 
-// The hand puts the first cell, if there is one.
+/// How a sweep of one seat ends, and how many entries there are then.
+fn swept(alloc: Global, fuel: u32) -> Result<String, Fail>
+    requires { fuel ≤ 8000000 }
+{
+    let (table, mut seat) = alone(alloc, Small::Once, fuel)?;
+    let end = sweep(&table, &mut seat);
+    let events = table.close(seat).events();
+    Ok(format!(in alloc; "{end:?} {events}")?)
+}
+
+/// The hand puts the first cell, if there is one.
 fn put_first(pool: &Pool, hand: &mut Hand)
     requires { IsOfPool hand.old pool.now }
     ensures { IsOfPool hand.new pool.now }
@@ -29,7 +37,7 @@ fn put_first(pool: &Pool, hand: &mut Hand)
     }
 }
 
-// A worker with a new seat of the table and a hand of the pool.
+/// A worker with a new seat of the table and a hand of the pool.
 fn hired(table: &Shared, pool: &Pool, seat: Seat, hand: Hand) -> Worker
     requires seat { IsNewSeat table.now seat }
     requires hand { IsOfPool hand pool.now }
@@ -39,191 +47,142 @@ fn hired(table: &Shared, pool: &Pool, seat: Seat, hand: Hand) -> Worker
     Worker::new(number, seat, hand)
 }
 
-// A table with one seat, and a pool with one hand that has put the first cell.
-fn alone(alloc: Global, net: &Net, fuel: u32) -> Result<(Shared, Pool, Worker), NoMemory>
-    requires whole { count_by is_some net.now.nodes ≡ length net.now.nodes }
-    requires small { IsSmallNet net.now }
-    requires fuel { fuel ≤ 8000000 }
-    ensures worker { IfOk result (λ r. IsSeated r.0 r.2 × IsOfPool r.2.hand r.1) }
-    ensures alone { IfOk result (λ r. r.0.plan.seats ≡ 1) }
-    ensures cells { IfOk result (λ r. r.1.cells ≡ cells_of r.0.plan.parts) }
+/// How one worker ends whose hand has put the first cell, and how many entries there are then.
+fn worked(rt: &impl Wait, alloc: Global, fuel: u32) -> Result<String, Fail>
+    requires { fuel ≤ 8000000 }
 {
-    let (table, mut seats) = Shared::make(alloc, net, fuel, 1)?;
+    let (table, seat) = alone(alloc, Small::Once, fuel)?;
     let (pool, mut hands) = Pool::new(alloc, 1, table.cells())?;
-    let seat = seats.pop().unwrap();
-    let mut hand = hands.pop().unwrap();
+    let mut hand = hands.pop().ok_or("a hand")?;
     put_first(&pool, &mut hand);
-    let own = hired(&table, &pool, seat, hand);
-    Ok((table, pool, own))
+    let mut own = hired(&table, &pool, seat, hand);
+    let end = worker(rt, &table, &pool, &mut own, &OpenGate);
+    let events = table.close(own.into_seat()).events();
+    Ok(format!(in alloc; "{end:?} {events}")?)
 }
 
 #[test]
-fn a_sweep_ends_the_work(rt: HostRuntime) -> Result<(), Fail> {
-    let net = identity_of_identity(rt.alloc())?;
-    assert!(rt; is_small(&net));
-    for (fuel, end) in [(4, Sweep::Clean), (3, Sweep::Spent)] {
-        let (table, _, own) = alone(rt.alloc(), &net, fuel)?;
-        let mut seat = own.into_seat();
-        assert_eq!(rt; sweep(&table, &mut seat), end);
-        assert_eq!(rt; table.close(seat).events(), fuel);
+fn one_ends_where_all_is_done_or_the_fuel_is(rt: HostRuntime) -> Result<(), Fail> {
+    for (fuel, by_sweep, by_worker) in [
+        (4, b"Clean 4".as_slice(), b"Quiet 4".as_slice()),
+        (3, b"Spent 3".as_slice(), b"Spent 3".as_slice()),
+    ] {
+        let sweep = swept(rt.alloc(), fuel)?;
+        let worker = worked(&rt, rt.alloc(), fuel)?;
+        assert!(rt; sweep.as_bytes() == by_sweep && worker.as_bytes() == by_worker);
     }
     Ok(())
 }
 
-#[test]
-fn a_worker_works_until_all_is_done(rt: HostRuntime) -> Result<(), Fail> {
-    let net = identity_of_identity(rt.alloc())?;
-    assert!(rt; is_small(&net));
-    for (fuel, end) in [(4, End::Quiet), (3, End::Spent)] {
-        let (table, pool, mut own) = alone(rt.alloc(), &net, fuel)?;
-        assert_eq!(rt; worker(&rt, &table, &pool, &mut own, &OpenGate), end);
-        assert_eq!(rt; table.close(own.into_seat()).events(), fuel);
+/// Of what is left how many nodes and stuck pairs there are, how many entries, and of which rules.
+fn shown(alloc: Global, answer: &Reduced) -> Result<String, Fail> {
+    match answer {
+        Reduced::Done {
+            net,
+            journal,
+            words,
+        } => {
+            let (nodes, stuck) = (net.nodes(), net.stuck());
+            let (length, events) = (journal.len(), words.events());
+            let counts = counts(journal);
+            Ok(format!(in alloc; "{nodes} {stuck} {length} {events} {counts:?}")?)
+        }
+        Reduced::Spent { journal, words } => {
+            let (length, events) = (journal.len(), words.events());
+            Ok(format!(in alloc; "spent {length} {events}")?)
+        }
     }
-    Ok(())
 }
 
+fn reduced(
+    rt: &(impl Threads + Wait + Sync),
+    alloc: Global,
+    small: Small,
+    workers: u32,
+    fuel: u32,
+) -> Result<String, Fail>
+    requires fuel { fuel ≤ 8000000 }
+    requires workers { (0 < workers) × (workers ≤ 64) }
+{
+    let net = net_of(alloc, small)?;
+    let answer = reduce(rt, alloc, &net, workers, fuel, &OpenGate)?;
+    let text = shown(alloc, &answer)?;
+    Ok(text)
+}
+
+/// Four rewrites, each after another; 17, some side by side; a run without an end; and none.
 #[test]
 fn workers_share_a_net(rt: HostRuntime) -> Result<(), Fail> {
-    let net = identity_of_identity(rt.alloc())?;
-    assert!(rt; is_small(&net));
-    for (workers, fuel, is_done) in [
-        (1, 4, true),
-        (2, 4, true),
-        (64, 4, true),
-        (1, 3, false),
-        (2, 3, false),
-        (64, 3, false),
+    for (small, fuel, wanted) in [
+        (
+            Small::Once,
+            4,
+            b"2 0 4 4 Counts { beta: 1, fan: 0, croissant: 1, bracket: 0, cross_fan: 0, \
+            cross_croissant: 2, cross_bracket: 0, erase: 0 }"
+                .as_slice(),
+        ),
+        (Small::Once, 3, b"spent 3 3".as_slice()),
+        (
+            Small::Twice,
+            100,
+            b"2 0 17 17 Counts { beta: 2, fan: 1, croissant: 3, bracket: 1, cross_fan: 2, \
+            cross_croissant: 6, cross_bracket: 2, erase: 0 }"
+                .as_slice(),
+        ),
+        (Small::Endless, 300, b"spent 300 300".as_slice()),
+        (
+            Small::Stuck,
+            0,
+            b"2 1 0 0 Counts { beta: 0, fan: 0, croissant: 0, bracket: 0, cross_fan: 0, \
+            cross_croissant: 0, cross_bracket: 0, erase: 0 }"
+                .as_slice(),
+        ),
     ] {
-        match reduce(&rt, rt.alloc(), &net, workers, fuel, &OpenGate)? {
-            Reduced::Done {
-                net: last,
-                journal,
-                words,
-            } => {
-                assert!(rt; is_done);
-                assert_eq!(rt; journal.len(), fuel);
-                assert_eq!(rt; words.events(), fuel);
-                // An abstraction and its croissant.
-                assert_eq!(rt; last.nodes(), 2);
-                assert_eq!(rt; last.free_ports(), 1);
-            }
-            Reduced::Spent { journal, words } => {
-                assert!(rt; !is_done);
-                assert_eq!(rt; journal.len(), fuel);
-                assert_eq!(rt; words.events(), fuel);
-            }
+        for workers in [1, 2, 64] {
+            let text = reduced(&rt, rt.alloc(), small, workers, fuel)?;
+            assert!(rt; text.as_bytes() == wanted, "{workers}: {text}");
         }
     }
     Ok(())
 }
 
-// How often each rule stands in a complete run of `identity_twice`.
-fn counts_of_identity_twice() -> Counts {
-    Counts {
-        beta: 2,
-        fan: 1,
-        croissant: 3,
-        bracket: 1,
-        cross_fan: 2,
-        cross_croissant: 6,
-        cross_bracket: 2,
-        erase: 0,
-    }
-}
-
-#[test]
-fn sixty_four_workers_begin_at_one_cell(rt: HostRuntime) -> Result<(), Fail> {
-    let net = identity_twice(rt.alloc())?;
-    assert!(rt; is_small(&net));
-    for workers in [1, 2, 64] {
-        match reduce(&rt, rt.alloc(), &net, workers, 100, &OpenGate)? {
-            Reduced::Done {
-                net: last,
-                journal,
-                words,
-            } => {
-                assert_eq!(rt; counts(&journal), counts_of_identity_twice());
-                assert_eq!(rt; words.events(), 17);
-                assert_eq!(rt; last.nodes(), 2);
-            }
-            Reduced::Spent {
-                journal: _journal,
-                words: _words,
-            } => assert!(rt; false),
+/// The same without a journal: of the net of (\x. x x) (\y. y).
+fn counted(
+    rt: &(impl Threads + Wait + Sync),
+    alloc: Global,
+    workers: u32,
+    fuel: u32,
+) -> Result<String, Fail>
+    requires fuel { fuel ≤ 8000000 }
+    requires workers { (0 < workers) × (workers ≤ 64) }
+{
+    let net = net_of(alloc, Small::Twice)?;
+    match reduce_counted(rt, alloc, &net, workers, fuel, &OpenGate)? {
+        Counted::Done { net, counts, words } => {
+            let (nodes, events) = (net.nodes(), words.events());
+            Ok(format!(in alloc; "{nodes} {events} {counts:?}")?)
+        }
+        Counted::Spent { words } => {
+            let events = words.events();
+            Ok(format!(in alloc; "spent {events}")?)
         }
     }
-    Ok(())
 }
 
 #[test]
 fn counts_come_in_place_of_the_journal(rt: HostRuntime) -> Result<(), Fail> {
-    let net = identity_twice(rt.alloc())?;
-    assert!(rt; is_small(&net));
-    for (workers, fuel, is_done) in [
-        (1, 17, true),
-        (64, 17, true),
-        (1, 16, false),
-        (64, 16, false),
+    for (workers, fuel, wanted) in [
+        (
+            2,
+            17,
+            b"2 17 Counts { beta: 2, fan: 1, croissant: 3, bracket: 1, cross_fan: 2, \
+            cross_croissant: 6, cross_bracket: 2, erase: 0 }"
+                .as_slice(),
+        ),
+        (64, 16, b"spent 16".as_slice()),
     ] {
-        match reduce_counted(&rt, rt.alloc(), &net, workers, fuel, &OpenGate)? {
-            Counted::Done {
-                net: last,
-                counts,
-                words,
-            } => {
-                assert!(rt; is_done);
-                assert_eq!(rt; counts, counts_of_identity_twice());
-                assert_eq!(rt; words.events(), fuel);
-                assert_eq!(rt; last.nodes(), 2);
-            }
-            Counted::Spent { words } => {
-                assert!(rt; !is_done);
-                assert_eq!(rt; words.events(), fuel);
-            }
-        }
-    }
-    Ok(())
-}
-
-#[test]
-fn a_run_without_an_end_uses_up_its_fuel(rt: HostRuntime) -> Result<(), Fail> {
-    let net = without_end(rt.alloc())?;
-    assert!(rt; is_small(&net));
-    for workers in [1, 2, 64] {
-        match reduce(&rt, rt.alloc(), &net, workers, 300, &OpenGate)? {
-            Reduced::Done {
-                net: _last,
-                journal: _journal,
-                words: _words,
-            } => assert!(rt; false),
-            Reduced::Spent { journal, words } => {
-                assert_eq!(rt; journal.len(), 300);
-                assert_eq!(rt; words.events(), 300);
-            }
-        }
-    }
-    Ok(())
-}
-
-#[test]
-fn a_pair_without_a_rule_stays(rt: HostRuntime) -> Result<(), Fail> {
-    let net = stuck_pair(rt.alloc())?;
-    assert!(rt; is_small(&net));
-    match reduce(&rt, rt.alloc(), &net, 2, 0, &OpenGate)? {
-        Reduced::Done {
-            net: last,
-            journal,
-            words,
-        } => {
-            assert_eq!(rt; journal.len(), 0);
-            assert_eq!(rt; words.events(), 0);
-            assert_eq!(rt; last.partner(of(0, 0)), Some(of(1, 0)));
-            assert_eq!(rt; last.partner(Port::Free(3)), Some(of(1, 2)));
-        }
-        Reduced::Spent {
-            journal: _journal,
-            words: _words,
-        } => assert!(rt; false),
+        let text = counted(&rt, rt.alloc(), workers, fuel)?;
+        assert!(rt; text.as_bytes() == wanted, "{workers}: {text}");
     }
     Ok(())
 }
