@@ -1,108 +1,117 @@
-//! Faults at each call, over the fakes, and a source and a sink that never fail.
+//! Faults at each call, and a source and a sink that never fail.
 ghost use Rattle.std.specs.Prelude.{◌≡◌, ◌≤◌, ◌<◌, ℕ, List, Option, Some};
 ghost use Rattle.ol_io.specs.Sure.{bytes_of, told_by};
 ghost use Rattle.ol_cli.specs.Completeness.{AskForWhatCanBeDone, IsDoneOrNothing};
 
-use crate::fakes::{file, words_of};
+use crate::fakes::{files_of, told, words_of};
+use crate::pages::replayed;
 use ol_cli::{Outcome, Status, ol};
-use ol_io::{Gate, MemSink, MemSource, OpenGate, SureSink, SureSource};
-use std::alloc::{AllocError, Global};
+use ol_io::{Gate, OpenGate, SureSink, SureSource};
+use std::alloc::Global;
 use std::sync::Wait;
 use std::test::Fail;
 use std::thread::Threads;
 
-// What `run -` writes of `\x. x`.
-const ANSWER: &str = "\\a. a\nbeta 0\nfan 0\ncroissant 0\nbracket 0\ncross-fan 0\n\
-                      cross-croissant 0\ncross-bracket 0\nerase 0\nstuck 0\n";
+/// The source is begun by call 0 and read by calls 1 to 3. The three bytes of `x $` would be refused
+/// at byte 2.
+#[test]
+fn calls_may_fail(rt: HostRuntime) -> Result<(), Fail> {
+    let page = br"$ run - < \x. x ! 0 -
+ReadFault
+read fault
 
-// The numbers of the calls that fail: of the source's one, and of the sink's one.
-#[derive(Clone, Copy)]
-struct Failing {
-    read: u64,
-    write: u64,
+$ run - < x $ y ! 2 -
+ReadFault
+read fault
+
+$ run - < \x. x ! 3 -
+ReadFault
+read fault
+
+$ walk - < \x. x ! 4 -
+Done
+\a. a
+
+$ walk - < \x. x ! - 0
+WriteFault
+
+$ walk - < \x. x ! - 1
+WriteFault
+\a.
+$ walk - < \x. x ! 1 1
+WriteFault
+rea
+$ walk - <  ! - 0
+WriteFault
+
+$ run k
+ReadFault
+read fault
+
+"
+        .as_slice();
+    let now = replayed(&rt, rt.alloc(), page)?;
+    assert!(rt; now.as_slice() == page);
+    Ok(())
 }
 
-// No call has this number.
-const NONE: u64 = 1_000;
+/// Calls 0 to 2 of the source read a first file of one byte, and call 3 begins the second; of a
+/// first file of nine bytes it is call 5.
+#[test]
+fn the_first_of_two_files_is_refused_first(rt: HostRuntime) -> Result<(), Fail> {
+    let page = br"$ check - j < ( < ol trace 1| ! 5 -
+Syntax
+syntax at byte 1
 
-// The status of a line of words, and what is written. Three bytes are taken in each call of the
-// sink, and `most` given in each of the source.
-fn ended(
-    rt: &(impl Threads + Wait + Sync),
-    alloc: Global,
-    line: &str,
-    term: &[u8],
-    most: usize,
-    failing: Failing,
-) -> Result<(Status, Vec<u8>), Fail>
-    requires { 0 < most }
-{
-    let mut files = Vec::new(alloc);
-    files.push(file(alloc, "-", term)?)?;
-    files.push(file(alloc, "j", b"ol trace 1\n")?)?;
-    let mut src = MemSource::new(files, most, Vec::from_slice(alloc, &[failing.read])?);
-    let mut out = MemSink::new(
-        alloc,
-        1_048_576,
-        3,
-        Vec::from_slice(alloc, &[failing.write])?,
-    )
-    .ok()
-    .ok_or("no memory")?;
-    let words = words_of(alloc, line)?;
-    let outcome = ol(rt, alloc, &words, &mut src, &mut out, &OpenGate);
-    let text = Vec::from_slice(alloc, out.bytes())?;
-    Ok((outcome.status, text))
+$ check - j < x < ol trace 1| ! 2 -
+ReadFault
+read fault
+
+$ check - j < x < ol trace 1| ! 4 -
+ReadFault
+read fault
+
+$ equal --fuel 0 - j < ( < x ! 3 -
+Syntax
+syntax at byte 1
+
+$ equal --fuel 0 - j < (\x. x) y < x ! 5 -
+Spent
+fuel 0
+
+$ equal --fuel 0 - j < x < x ! 3 -
+ReadFault
+read fault
+
+$ equal --fuel 5 - j < (\x. x x) (\x. x x) < (
+Spent
+fuel 5
+
+$ equal - j < x < x )
+Syntax
+syntax at byte 2
+
+"
+        .as_slice();
+    let now = replayed(&rt, rt.alloc(), page)?;
+    assert!(rt; now.as_slice() == page);
+    Ok(())
 }
 
-// The answer of 103 bytes takes 35 writes.
+// The answer of 103 bytes takes 35 writes of three bytes.
 #[test]
 fn each_write_may_fail(rt: HostRuntime) -> Result<(), Fail> {
-    let alloc = rt.alloc();
-    for write in 0..36u64 {
-        let failing = Failing { read: NONE, write };
-        let (status, text) = ended(&rt, alloc, "run --fuel 0 -", b"\\x. x", 3, failing)?;
-        let (wanted, taken) = if write < 35 {
-            (Status::WriteFault, 3 * write as usize)
-        } else {
-            (Status::Done, ANSWER.len())
-        };
-        assert_eq!(rt; status, wanted, "{write}");
-        assert_eq!(rt;
-            Some(text.as_slice()),
-            ANSWER.as_bytes().get(..taken),
+    let whole = b"WriteFault\n\\a. a\nbeta 0\nfan 0\ncroissant 0\nbracket 0\ncross-fan 0\n\
+        cross-croissant 0\ncross-bracket 0\nerase 0\nstuck 0\n"
+        .as_slice();
+    for write in 0..35usize {
+        let call = format!(in rt.alloc(); "run --fuel 0 - < \\x. x ! - {write}")?;
+        let text = told(&rt, rt.alloc(), &call, &OpenGate)?;
+        assert!(rt;
+            Some(text.as_slice()) == whole.get(..11 + 3 * write),
             "{write}"
         );
     }
-    Ok(())
-}
-
-#[test]
-fn a_refusal_may_fail_to_be_written(rt: HostRuntime) -> Result<(), Fail> {
-    let alloc = rt.alloc();
-    for (term, read) in [(b"".as_slice(), NONE), (b"\\x. x", 1)] {
-        let failing = Failing { read, write: 0 };
-        let (status, text) = ended(&rt, alloc, "run --fuel 0 -", term, 3, failing)?;
-        assert_eq!(rt; status, Status::WriteFault);
-        assert!(rt; text.is_empty());
-    }
-    Ok(())
-}
-
-// Calls 0 to 2 read the term, and call 3 begins the journal, where the term is no refusal.
-#[test]
-fn the_journal_is_begun_after_the_term(rt: HostRuntime) -> Result<(), Fail> {
-    let alloc = rt.alloc();
-    let failing = Failing {
-        read: 3,
-        write: NONE,
-    };
-    let (status, text) = ended(&rt, alloc, "check - j", b"x", 16, failing)?;
-    assert_eq!(rt; status, Status::ReadFault);
-    assert!(rt; text.as_slice() == b"read fault\n".as_slice());
-    let (status, text) = ended(&rt, alloc, "check - j", b"$", 16, failing)?;
-    assert_eq!(rt; status, Status::Syntax);
-    assert!(rt; text.as_slice() == b"syntax at byte 0\n".as_slice());
     Ok(())
 }
 
@@ -129,15 +138,13 @@ fn surely<R: Threads + Wait + Sync, G: Gate + Sync>(
 #[test]
 fn without_faults_the_answer_is_written(rt: HostRuntime) -> Result<(), Fail> {
     let alloc = rt.alloc();
-    let mut files = Vec::new(alloc);
-    files.push(file(alloc, "-", b"\\x. x")?)?;
-    let mut src = SureSource::new(files);
-    let words = words_of(alloc, "run -")?;
+    let mut src = SureSource::new(files_of(alloc, "\\x. x")?);
+    let words = words_of(alloc, "walk -")?;
     for _call in 0..2u32 {
         let mut out = SureSink::new(alloc, 1_048_576)?;
         let outcome = surely(&rt, alloc, &words, &mut src, &mut out, &OpenGate);
-        assert_eq!(rt; outcome.status, Status::Done);
-        assert!(rt; out.bytes() == ANSWER.as_bytes());
+        let is_done = outcome.status == Status::Done;
+        assert!(rt; is_done && out.bytes() == b"\\a. a\n".as_slice());
     }
     Ok(())
 }

@@ -1,28 +1,19 @@
 //! Tests of whole jobs.
 //!
-//! They stand apart from what they test, so that their proof does not prove that again.
+//! They stand apart from what they test, so that their proof does not prove that again. What whole
+//! commands print of whole terms, nets and journals tests/vectors/check and tests/pages tell.
 //!
-//! - `fakes`: words and files for calls of `ol` over the fakes
-//! - `runs`: rows of `run`
-//! - `commands`: rows of `view`, `trace`, `check` and `gen`
-//! - `demands`: rows of `demand`
-//! - `certificates`: rows of `certify`
-//! - `nets`: rows of `net`
-//! - `equality`: rows of `equal`
+//! - `fakes`: calls of `ol` over the fakes
+//! - `pages`: texts of calls with what they come to
+//! - `answers`: each command, where nothing fails
 //! - `faults`: faults at each call, and a source and a sink that never fail
-//! - `limits`: rows of what is past a limit
+//! - `limits`: limits at their edges and one past
 //! - `workers`: many workers, and gates that they pass
-//! - `outside`: what a source and a gate of the test's own see of a call
+//! - `outside`: what a source of the test's own sees of a call
 #![tactic(auto)]
 
 #[cfg(test)]
-mod certificates;
-#[cfg(test)]
-mod commands;
-#[cfg(test)]
-mod demands;
-#[cfg(test)]
-mod equality;
+mod answers;
 #[cfg(test)]
 mod fakes;
 #[cfg(test)]
@@ -30,10 +21,8 @@ mod faults;
 #[cfg(test)]
 mod limits;
 #[cfg(test)]
-mod nets;
-#[cfg(test)]
 mod outside;
 #[cfg(test)]
-mod runs;
+mod pages;
 #[cfg(test)]
 mod workers;
