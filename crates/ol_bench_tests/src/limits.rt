@@ -20,7 +20,12 @@ fn a_step_may_give_too_large_a_term(rt: HostRuntime) -> Result<(), Fail> {
     let bound = " x".repeat(alloc, 223)?;
     let free = " y".repeat(alloc, 223)?;
     let text = format!(in alloc; "(\\x. x{bound}) (y{free})")?;
-    assert_end(&rt, alloc, &text, b"past at step 1: size 100351, depth 447\n!")
+    assert_end(
+        &rt,
+        alloc,
+        &text,
+        b"past at step 1: size 100351, depth 447\n!",
+    )
 }
 
 // A term of 449 applications, one in the argument of another, round as many free names: each

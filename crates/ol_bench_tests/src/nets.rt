@@ -77,10 +77,20 @@ fn orders_are_traced(rt: HostRuntime) -> Result<(), Fail> {
     let unmet = b"ol net 1\nfree 2\nnode eraser -\nnode eraser -\nlink f0 f1\nlink 0.0 1.0\n|\
         Yes: ol trace 2\n!%\
         ol net 1\nfree 0\nnode eraser -\nnode eraser -\nlink 0.0 1.0\n|Yes: ol trace 2\n!";
-    assert_one(&rt, rt.alloc(), journal(Subject::Net, Order::Demand, 9), unmet)?;
+    assert_one(
+        &rt,
+        rt.alloc(),
+        journal(Subject::Net, Order::Demand, 9),
+        unmet,
+    )?;
     let least = b"ol net 1\nfree 0\nnode eraser -\nnode eraser -\nlink 0.0 1.0\n|\
         Yes: ol trace 2\nerase 1 0 1\n!";
-    assert_one(&rt, rt.alloc(), journal(Subject::Net, Order::Least, 9), least)
+    assert_one(
+        &rt,
+        rt.alloc(),
+        journal(Subject::Net, Order::Least, 9),
+        least,
+    )
 }
 
 /// A run that ends with its fuel, and one without fuel.

@@ -20,7 +20,13 @@ fn nets_are_compared(rt: HostRuntime) -> Result<(), Fail> {
         No: different at f2: there alone\n!%\
         x\nol net 1\n|Refused: !bad net at line 2\n%\
         beta 0\nstuck 0\nol net 1\nfree 2\nlink f0 f1\n|Yes: same\n!";
-    assert_two(&rt, rt.alloc(), OnTwo::Same, b"ol net 1\nfree 2\nlink f0 f1\n", rows)?;
+    assert_two(
+        &rt,
+        rt.alloc(),
+        OnTwo::Same,
+        b"ol net 1\nfree 2\nlink f0 f1\n",
+        rows,
+    )?;
     let refused = b"x|Refused: !bad net at line 2\n";
     assert_two(&rt, rt.alloc(), OnTwo::Same, b"ol net 1\n", refused)
 }

@@ -59,7 +59,12 @@ fn parts_are_names_of_lets(rt: HostRuntime) -> Result<(), Fail> {
     let inner = b"let id = \\x. x in let k = (let l = \\a b. a in l) in k id|\
         Yes: (\\id'. (\\k. k id') (id (\\a b. a))) id\n  at 102\n1 lets unfolded: step 2\n\
         (\\id. (\\a b. a) id) id\n  at 10\n1 lets unfolded: step 4\n\\b. id\nnormal after 4 steps\n!";
-    assert_one(&rt, rt.alloc(), steps(Order::Applicative, true, true), inner)?;
+    assert_one(
+        &rt,
+        rt.alloc(),
+        steps(Order::Applicative, true, true),
+        inner,
+    )?;
     let back = b"let w = (\\x. x x) (\\x. x x) in f w w|No: 1 lets unfolded: step 1\n\
         f ((\\x. x x) (\\x. x x)) w\n  at 12\nf ((\\x. x x) (\\x. x x)) w\n\
         step 2 is step 1 again: no normal form\n!";

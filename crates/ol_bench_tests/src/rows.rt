@@ -33,12 +33,7 @@ fn two(alloc: Global, command: OnTwo, text: &str, other: &str) -> Result<String,
 }
 
 /// Asserts of each row what the command on its text comes to.
-pub fn assert_one(
-    rt: &impl Abort,
-    alloc: Global,
-    command: OnOne,
-    rows: &[u8],
-) -> Result<(), Fail>
+pub fn assert_one(rt: &impl Abort, alloc: Global, command: OnOne, rows: &[u8]) -> Result<(), Fail>
     requires within { IsOneWithin command }
 {
     for row in shown(rows).split('%') {
