@@ -1,14 +1,23 @@
-//! Files in memory, and their names; a call of `bench` over them; leftmost reduction of a term.
+//! A call of `bench` over the fakes, and what it comes to as one text.
 //!
 //! Texts are byte strings: those of other strings are proved byte by byte (docs/LESSONS.md).
-ghost use Rattle.ol_bench.specs.Commands.{IsOneWithin, IsWithinBounds};
+ghost use Rattle.ol_bench.specs.Commands.{IsWithinBounds};
 
-use ol_bench::{Asked, Given, OnOne, Status, bench};
+use ol_bench::{Asked, Given, bench};
 use ol_io::{MemFile, MemSink, MemSource};
-use ol_steps::Shown;
-use ol_strategies::Order;
 use std::alloc::{AllocError, Global};
 use std::test::Fail;
+
+/// No call of a fake has this number.
+pub const NONE: u64 = 1_000_000;
+
+/// A text of a row; nothing where it is no UTF-8.
+pub fn shown(text: &[u8]) -> &str {
+    match str::from_utf8(text) {
+        Ok(shown) => shown,
+        Err(_) => "",
+    }
+}
 
 pub fn file(alloc: Global, name: &str, bytes: &[u8]) -> Result<MemFile, AllocError> {
     Ok(MemFile {
@@ -17,82 +26,40 @@ pub fn file(alloc: Global, name: &str, bytes: &[u8]) -> Result<MemFile, AllocErr
     })
 }
 
-/// A text of a row as it stands in a message; nothing where it is no UTF-8.
-pub fn shown(text: &[u8]) -> &str {
-    match str::from_utf8(text) {
-        Ok(shown) => shown,
-        Err(_) => "",
-    }
-}
-
-/// Two files, of which `other` is the name of the second.
-pub fn two_files(
-    alloc: Global,
-    text: &[u8],
-    other: &str,
-    bytes: &[u8],
-) -> Result<Vec<MemFile>, Fail> {
-    let mut files = Vec::new(alloc);
-    files.push(file(alloc, "file", text)?)?;
-    files.push(file(alloc, other, bytes)?)?;
-    Ok(files)
-}
-
-/// What a call of `bench` over files in memory comes to: its status, and the two sinks.
-#[derive(Drop)]
-pub struct Outcome {
-    pub status: Status,
-    pub out: MemSink,
-    pub errors: MemSink,
-}
-
-impl Outcome {
-    /// Whether the status is this one, and each sink has taken this text.
-    pub fn is(&self, status: Status, out: &[u8], errors: &[u8]) -> bool {
-        self.status == status && self.out.bytes() == out && self.errors.bytes() == errors
-    }
-}
-
-fn sink(alloc: Global) -> Result<MemSink, Fail> {
-    let sink = MemSink::new(alloc, 1_048_576, 65_536, Vec::new(alloc))
-        .ok()
-        .ok_or("no memory")?;
-    Ok(sink)
-}
-
-/// A call of `bench` over these files.
-pub fn ran(alloc: Global, asked: &Asked, files: Vec<MemFile>) -> Result<Outcome, Fail>
-    requires { IsWithinBounds asked.now }
-{
-    let mut src = MemSource::new(files, 65_536, Vec::new(alloc));
-    let mut out = sink(alloc)?;
-    let mut errors = sink(alloc)?;
-    let status = bench(alloc, asked, &mut src, &mut out, &mut errors);
-    Ok(Outcome {
-        status,
-        out,
-        errors,
-    })
-}
-
-// Leftmost reduction, by so many steps.
-pub fn leftmost(most: u32) -> OnOne
-    ensures { IsOneWithin result }
-{
-    let order = Order::Leftmost;
-    let how = Shown {
-        order,
-        marked: false,
-        named: false,
-        folded: false,
-    };
-    OnOne::Steps { how, most }
-}
-
 pub fn named(alloc: Global, name: &str) -> Result<Given, AllocError> {
     Ok(Given::Name(String::from_str(alloc, name)?))
 }
 
 pub fn written(alloc: Global, text: &str) -> Result<Given, AllocError> {
     Ok(Given::Text(String::from_str(alloc, text)?))
+}
+
+// A sink that takes three bytes in each call, of which the one of this number fails.
+fn sink(alloc: Global, failing: u64) -> Result<MemSink, Fail> {
+    let failing = Vec::from_slice(alloc, &[failing])?;
+    let sink = MemSink::new(alloc, 65_536, 3, failing)
+        .ok()
+        .ok_or("no memory")?;
+    Ok(sink)
+}
+
+/// What a call of `bench` over these files comes to, where the calls of these numbers fail, of the
+/// source's ones and of each sink's ones: the status, a colon, what was written, an exclamation mark,
+/// and what was written of errors.
+pub fn ran(
+    alloc: Global,
+    asked: &Asked,
+    files: Vec<MemFile>,
+    failing: (u64, u64),
+) -> Result<String, Fail>
+    requires { IsWithinBounds asked.now }
+{
+    let reads = Vec::from_slice(alloc, &[failing.0])?;
+    let mut out = sink(alloc, failing.1)?;
+    let mut errors = sink(alloc, failing.1)?;
+    let mut src = MemSource::new(files, 65_536, reads);
+    let status = bench(alloc, asked, &mut src, &mut out, &mut errors);
+    let (out, errors) = (shown(out.bytes()), shown(errors.bytes()));
+    let text = format!(in alloc; "{status:?}: {out}!{errors}")?;
+    Ok(text)
 }

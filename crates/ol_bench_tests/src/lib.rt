@@ -1,81 +1,38 @@
-//! Tests of the bench.
+//! Tests of the bench: of what neither a clause nor a script of tests/ says.
 //!
-//! They stand apart from what they test, so that their proof does not prove that again.
+//! They stand apart from what they test, so that their proof does not prove that again. Each row is a
+//! part of a byte string, which is split when the test runs; what a call comes to is compared as one
+//! text (docs/LESSONS.md). The commands of docs/BENCH.md are run by tests/bench.
 //!
-//! - `after`: rows of `after` over the fakes
-//! - `commands`: rows of each command over the fakes
-//! - `comparing`: two nets that are one up to numbers, and two that aren't
-//! - `costs`: rows of what terms cost
-//! - `counts`: rows of `counts`
-//! - `decodings`: rows of `show`
-//! - `derivations`: rows of `derivation`
-//! - `explain`: rows of `explain` over the fakes
-//! - `fakes`: files in memory, and their names; leftmost reduction of a term
-//! - `families`: rows of how many families of redexes are contracted
-//! - `folds`: rows of `steps` whose parts are written by the names of lets
-//! - `frees`: where names stand free
-//! - `grades`: rows of `grade`
-//! - `limits`: rows of `steps` at the limits of terms
-//! - `marks`: rows of `steps` with carets
-//! - `outside`: `same` and `check` through `bench`, where a call of the source or of a sink fails
-//! - `own_names`: rows of `steps` whose binders keep their names
-//! - `reasons`: rows of `explain`: copies that are numbered otherwise, and links that lines made
-//! - `steps`: reduction in each order, and terms that come back
-//! - `stops`: where texts stop being terms
-//! - `stories`: rows of `story`
-//! - `texts`: rows of commands on a term that stands on the command line
-//! - `trees`: rows of `tree`
-//! - `walks`: rows of `walk --frame`
-//! - `waves`: rows of `waves`
+//! - `fakes`: a call of `bench` over the fakes, and what it comes to as one text
+//! - `rows`: rows of commands on one text and on two
+//! - `terms`: commands on a text with a term
+//! - `reductions`: `steps` and `derivation`
+//! - `nets`: commands on a net, and journals
+//! - `pairs`: `same`, `after` and `explain`
+//! - `walks`: `walk --frame`
+//! - `grades`: `grade`
+//! - `limits`: `steps` at the limits of terms
+//! - `outside`: `same` and `check`, where a call of the source or of a sink fails
 #![tactic(auto)]
 
 #[cfg(test)]
-mod after;
-#[cfg(test)]
-mod commands;
-#[cfg(test)]
-mod comparing;
-#[cfg(test)]
-mod costs;
-#[cfg(test)]
-mod counts;
-#[cfg(test)]
-mod decodings;
-#[cfg(test)]
-mod derivations;
-#[cfg(test)]
-mod explain;
-#[cfg(test)]
 mod fakes;
-#[cfg(test)]
-mod families;
-#[cfg(test)]
-mod folds;
-#[cfg(test)]
-mod frees;
 #[cfg(test)]
 mod grades;
 #[cfg(test)]
 mod limits;
 #[cfg(test)]
-mod marks;
+mod nets;
 #[cfg(test)]
 mod outside;
 #[cfg(test)]
-mod own_names;
+mod pairs;
 #[cfg(test)]
-mod reasons;
+mod reductions;
 #[cfg(test)]
-mod steps;
+mod rows;
 #[cfg(test)]
-mod stops;
-#[cfg(test)]
-mod stories;
-#[cfg(test)]
-mod texts;
-#[cfg(test)]
-mod trees;
+mod terms;
 #[cfg(test)]
 mod walks;
-#[cfg(test)]
-mod waves;

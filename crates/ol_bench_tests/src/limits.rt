@@ -1,9 +1,18 @@
-//! Rows of `steps` at the limits of terms, over the fakes.
-use crate::commands::assert_row;
-use ol_bench::Status;
+//! `steps` at the limits of terms.
+use crate::reductions::steps;
+use crate::rows::one;
+use ol_strategies::Order;
 use std::alloc::Global;
 use std::fmt::Write;
+use std::process::Abort;
 use std::test::Fail;
+
+// Asserts how the steps of a text end.
+fn assert_end(rt: &impl Abort, alloc: Global, text: &str, end: &[u8]) -> Result<(), Fail> {
+    let told = one(alloc, steps(Order::Leftmost, false, false), text)?;
+    assert!(rt; told.as_bytes().ends_with(end), "{told}");
+    Ok(())
+}
 
 #[test]
 fn a_step_may_give_too_large_a_term(rt: HostRuntime) -> Result<(), Fail> {
@@ -11,26 +20,12 @@ fn a_step_may_give_too_large_a_term(rt: HostRuntime) -> Result<(), Fail> {
     let bound = " x".repeat(alloc, 223)?;
     let free = " y".repeat(alloc, 223)?;
     let text = format!(in alloc; "(\\x. x{bound}) (y{free})")?;
-    let shown = " a".repeat(alloc, 223)?;
-    let wanted = format!(in alloc;
-        "(\\a. a{shown}) (y{free})\n  at .\npast at step 1: size 100351, depth 447\n"
-    )?;
-    let row = ("steps", 1, text.as_bytes(), Status::No, wanted.as_str());
-    assert_row(&rt, alloc, row)
-}
-
-#[test]
-fn a_deep_term_is_refused(rt: HostRuntime) -> Result<(), Fail> {
-    let alloc = rt.alloc();
-    let text = "x ".repeat(alloc, 1_001)?;
-    let row = (
-        "steps",
-        0,
-        text.as_bytes(),
-        Status::Refused,
-        "limit depth 1000\n",
-    );
-    assert_row(&rt, alloc, row)
+    assert_end(
+        &rt,
+        alloc,
+        &text,
+        b"past at step 1: size 100351, depth 447\n!",
+    )
 }
 
 // A term of 449 applications, one in the argument of another, round as many free names: each
@@ -47,37 +42,20 @@ fn nested(alloc: Global) -> Result<String, Fail> {
 
 #[test]
 fn a_term_of_many_nodes_is_refused(rt: HostRuntime) -> Result<(), Fail> {
-    let alloc = rt.alloc();
-    let text = nested(alloc)?;
-    let row = (
-        "steps",
-        0,
-        text.as_bytes(),
-        Status::Refused,
-        "limit nodes 200000\n",
-    );
-    assert_row(&rt, alloc, row)
+    let text = nested(rt.alloc())?;
+    assert_end(&rt, rt.alloc(), &text, b"Refused: !limit nodes 200000\n")
 }
 
 #[test]
-fn a_long_file_is_refused(rt: HostRuntime) -> Result<(), Fail> {
-    let alloc = rt.alloc();
-    let most = " ".repeat(alloc, 1_048_576)?;
-    let row = (
-        "steps",
-        0,
-        most.as_bytes(),
-        Status::Refused,
-        "syntax at byte 1048576\n",
-    );
-    assert_row(&rt, alloc, row)?;
-    let more = " ".repeat(alloc, 1_048_577)?;
-    let row = (
-        "steps",
-        0,
-        more.as_bytes(),
-        Status::Refused,
-        "limit bytes 1048576\n",
-    );
-    assert_row(&rt, alloc, row)
+fn deep_and_long_terms_are_refused(rt: HostRuntime) -> Result<(), Fail> {
+    let rows: [(&str, usize, &[u8]); 3] = [
+        ("x ", 1_001, b"Refused: !limit depth 1000\n"),
+        (" ", 1_048_576, b"Refused: !syntax at byte 1048576\n"),
+        (" ", 1_048_577, b"Refused: !limit bytes 1048576\n"),
+    ];
+    for (part, times, end) in rows {
+        let text = part.repeat(rt.alloc(), times)?;
+        assert_end(&rt, rt.alloc(), &text, end)?;
+    }
+    Ok(())
 }
