@@ -3,8 +3,8 @@
     tests/all [--long]
 
 It tries the scripts `ol` and `prove`, the commands of the pages, the term files of examples/, the vectors, docs/BENCH.md,
-the library for C where it is built, and the scripts themselves, with the programs that tests/lib/which_ol.py finds: those
-that OL and OL_BENCH name; else the proved ones, where they are there; else `ol` on PATH; else the scripts `ol` and
+the library for C where it is built, typical bugs of a runtime, comparisons of `ol-bench` with plain code on a few terms,
+and the scripts themselves, with the programs that tests/lib/which_ol.py finds: those that OL and OL_BENCH name; else the proved ones, where they are there; else `ol` on PATH; else the scripts `ol` and
 `ol-bench` at the top. With --long it runs those too that are named at the end with the time that they take. The last line is 'N passed, M failed', over all.
 """
 import collections
@@ -15,7 +15,10 @@ import asking
 import summing
 from which_ol import TOP
 
-USUAL = ["scripts", "first-answer", "pages", "examples", "vectors/check", "bench", "library"]
+USUAL = ["scripts", "first-answer", "pages", "examples", "vectors/check", "bench", "library", "bugs"]
+# Of these a few terms.
+FEW = ["families", "strategies", "afters", "explains", "sames", "objects", "rounds"]
+USUAL += [f"{it} --terms 60" for it in FEW]
 # A longer one: its name, what it tries, and the seconds that it took on four idle processors; None, where that wasn't measured yet.
 Long = collections.namedtuple("Long", "name tries takes")
 LONG = [
@@ -31,7 +34,6 @@ LONG = [
     Long("objects", "`--json` of `ol-bench` on 1,000 terms, read by Python", None),
     Long("rounds", "`ol-bench journal --order rounds` on 1,000 terms", None),
     Long("faults/many", "a runtime with eight faults on 300 terms", None),
-    Long("bugs", "fourteen bugs in a plain runtime, with the commands that tell each", None),
     Long("speed", "the rows of docs/RUNTIMES.md, part 4, with their times", None),
 ]
 
@@ -42,7 +44,8 @@ def run(names):
     for name in names:
         begun = time.monotonic()
         print(f"tests/{name}", flush=True)
-        sums.append(summing.ran([os.path.join(TOP, "tests", name)])[0])
+        script, *words = name.split()
+        sums.append(summing.ran([os.path.join(TOP, "tests", script), *words])[0])
         print(f"tests/{name} took {time.monotonic() - begun:.0f} s", flush=True)
     return summing.added(sums)
 
