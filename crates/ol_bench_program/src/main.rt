@@ -1,10 +1,14 @@
 //! The program `ol-bench` over files, standard input, standard output and standard error.
 //!
-//! - `words`: the words of a command line, read by clap
+//! - `words`: what the words of a command line ask
+//! - `command`: the command line as clap is told of it
+//! - `rows`: the commands, and the arguments of each
 #![tactic(auto)]
 
 ghost use Rattle.ol_bench.specs.Commands.{IsWithinBounds};
 
+mod command;
+mod rows;
 mod words;
 
 use clap::Error;

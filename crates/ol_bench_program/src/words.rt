@@ -4,7 +4,9 @@ ghost use Rattle.std.specs.Prelude.{◌≤◌, length, IfOk, IfSome};
 ghost use Rattle.ol_bench.specs.Commands.{IsOneWithin, IsTwoWithin, IsWithinBounds, most_students};
 ghost use Rattle.ol_limits.specs.Limits.{most_fuel};
 
-use clap::{Arg, ArgAction, ArgMatches, Command, Error};
+use crate::command::matches_of;
+use crate::rows::{MOST_LINES, MOST_MOVES, MOST_STUDENTS};
+use clap::{ArgMatches, Error};
 use ol_bench::{Asked, Given, OnOne, OnTwo};
 use ol_counts::{Bounds, Columns};
 use ol_grades::Bounds as Following;
@@ -19,18 +21,7 @@ use ol_strategies::Order as Reduction;
 use ol_subjects::Subject;
 use ol_term::Translation;
 use ol_walks::Wanted;
-use std::alloc::{AllocError, Global};
-
-const OF_TERM: &str = "the file with the term, `-` for standard input";
-
-const OF_TERM_OR_NET: &str = "the file with the term or the net, `-` for standard input";
-
-const OF_TWO: &str =
-    "the file with the term or the net, `-` for standard input; with -e the file with the journal";
-
-const TRANSLATION: &str = "how the term becomes a net, 1 or 2; by itself 2";
-
-const PLAIN_FUEL_HELP: &str = "the most interactions, by itself 200000";
+use std::alloc::Global;
 
 // How many interactions `story` tells by itself.
 const STORY_FUEL: u32 = 1_000;
@@ -38,357 +29,13 @@ const STORY_FUEL: u32 = 1_000;
 // How many interactions `tree` makes for a part by itself.
 const TREE_FUEL: u32 = 10_000;
 
-// How many moves the machine of call-by-need makes by itself, and at most.
+// How many moves the machine of call-by-need makes by itself.
 const PLAIN_MOVES: u32 = 1_000_000;
 
-const MOST_MOVES: u32 = 8_000_000;
-
-// How many crossings `walk` tells by itself, and at most; and how many each walk makes by itself.
+// How many crossings `walk` tells by itself, and how many each walk makes.
 const PLAIN_LINES: u32 = 1_000;
 
-const MOST_LINES: u32 = 100_000;
-
 const PLAIN_EDGES: u32 = 100_000;
-
-// How many students `grade` compares at most.
-const MOST_STUDENTS: usize = 1_000;
-
-// The name of a file, behind this name.
-fn file<'a>(alloc: Global, id: &'a str, help: &'a str) -> Arg<'a> {
-    Arg::new(alloc, id).action(ArgAction::Set).help(help)
-}
-
-// A term in place of a file.
-fn term<'a>(alloc: Global) -> Arg<'a> {
-    Arg::new(alloc, "term")
-        .short('e')
-        .value_name("TERM")
-        .action(ArgAction::Set)
-        .help("the term itself, in place of its file")
-}
-
-// A command that reads a term: of a file, or behind `-e`.
-fn of_term<'a>(
-    alloc: Global,
-    command: Command<'a>,
-    help: &'a str,
-) -> Result<Command<'a>, AllocError> {
-    let name = file(alloc, "name", help)
-        .required_unless_present("term")?
-        .conflicts_with("term")?;
-    command.arg(term(alloc))?.arg(name)
-}
-
-// An option with a number.
-fn number<'a>(alloc: Global, id: &'a str, least: i64, most: i64, help: &'a str) -> Arg<'a> {
-    Arg::new(alloc, id)
-        .long(id)
-        .action(ArgAction::Set)
-        .value_parser(clap::value_parser!(u32).range(least..=most))
-        .help(help)
-}
-
-// An option without a value.
-fn flag<'a>(alloc: Global, id: &'a str, help: &'a str) -> Arg<'a> {
-    Arg::new(alloc, id)
-        .long(id)
-        .action(ArgAction::SetTrue)
-        .help(help)
-}
-
-fn json<'a>(alloc: Global) -> Arg<'a> {
-    flag(alloc, "json", "the answer as one JSON object on one line")
-}
-
-// A command that reads a term or a net.
-fn of_subject<'a>(alloc: Global, command: Command<'a>) -> Result<Command<'a>, AllocError> {
-    let net = flag(alloc, "net", "the file has a net, as `ol net` writes one").conflicts_with(
-        "term",
-    )?;
-    command
-        .arg(net)?
-        .arg(number(alloc, "translation", 1, 2, TRANSLATION))
-}
-
-// The most interactions of a run.
-fn fuel<'a>(alloc: Global, help: &'a str) -> Arg<'a> {
-    number(alloc, "fuel", 0, MOST_FUEL as i64, help)
-}
-
-// The most places that `demand` asks.
-fn heads<'a>(alloc: Global) -> Arg<'a> {
-    let help = "the most places that `demand` asks, by itself 4096";
-    number(alloc, "heads", 1, MOST_HEADS as i64, help)
-}
-
-// A command that reads a term or a net, and runs it.
-fn of_run<'a>(alloc: Global, command: Command<'a>) -> Result<Command<'a>, AllocError> {
-    of_subject(alloc, command)?
-        .arg(fuel(alloc, PLAIN_FUEL_HELP))?
-        .arg(heads(alloc))
-}
-
-// A command that reads a term or a net, and a journal. With `-e` only the journal has a file, and
-// its name is the first one.
-fn of_journal<'a>(alloc: Global, command: Command<'a>) -> Result<Command<'a>, AllocError> {
-    let journal = file(
-        alloc,
-        "other",
-        "the file with the journal, `-` for standard input",
-    )
-    .value_name("journal")
-    .required_unless_present("term")?
-    .conflicts_with("term")?;
-    of_subject(alloc, command)?
-        .arg(term(alloc))?
-        .arg(file(alloc, "name", OF_TWO).required(true))?
-        .arg(journal)
-}
-
-fn journal<'a>(alloc: Global) -> Result<Command<'a>, AllocError> {
-    let order = Arg::new(alloc, "order")
-        .long("order")
-        .required(true)
-        .action(ArgAction::Set)
-        .value_parser(["least", "demand", "rounds"].as_slice())
-        .help("which pairs come first");
-    let command = Command::new(alloc, "journal").about(
-        "The journal of a run in one of three orders",
-    );
-    of_term(alloc, of_run(alloc, command)?.arg(order)?, OF_TERM_OR_NET)
-}
-
-fn after<'a>(alloc: Global) -> Result<Command<'a>, AllocError> {
-    let lines = Arg::new(alloc, "lines")
-        .required(true)
-        .action(ArgAction::Set)
-        .value_parser(clap::value_parser!(u32).range(1..=MOST_FUEL as i64 + 1))
-        .help("how many lines of the journal, the first of which tells its form");
-    let command = Command::new(alloc, "after").about(
-        "The net after the first lines of a journal, under the journal's names",
-    );
-    let weights = flag(alloc, "weights", "beside each link what it weighs");
-    of_journal(alloc, command.arg(weights)?.arg(lines)?)
-}
-
-fn check<'a>(alloc: Global) -> Result<Command<'a>, AllocError> {
-    let command = Command::new(alloc, "check").about(
-        "What a journal is found to be, as `ol check` tells it, with a status for each",
-    );
-    of_journal(alloc, command.arg(json(alloc))?)
-}
-
-fn explain<'a>(alloc: Global) -> Result<Command<'a>, AllocError> {
-    let command = Command::new(alloc, "explain").about(
-        "What a journal is found to be; pairs left, what bad text wants, why a line is wrong",
-    );
-    of_journal(alloc, command.arg(json(alloc))?)
-}
-
-fn steps<'a>(alloc: Global) -> Result<Command<'a>, AllocError> {
-    let order = Arg::new(alloc, "order")
-        .long("order")
-        .action(ArgAction::Set)
-        .value_parser(["leftmost", "head", "weak-head", "applicative", "value"].as_slice())
-        .help("which redex comes next, by itself the leftmost one");
-    let command = Command::new(alloc, "steps")
-        .about(
-            "The terms of reduction in an order, one under another, with the address of each redex",
-        )
-        .arg(flag(
-            alloc,
-            "leftmost",
-            "the leftmost redex comes first, as it does by itself",
-        ))?
-        .arg(order)?
-        .arg(flag(
-            alloc,
-            "mark",
-            "a line of carets under the redex that comes next",
-        ))?
-        .arg(flag(
-            alloc,
-            "names",
-            "binders keep the names that they have in the file, primed where they would clash",
-        ))?
-        .arg(flag(
-            alloc,
-            "fold",
-            "parts that are a let of the file are written by its name",
-        ))?
-        .arg(number(
-            alloc,
-            "most",
-            0,
-            MOST_STEPS as i64,
-            "the most steps, by itself 100",
-        ))?;
-    of_term(alloc, command, OF_TERM)
-}
-
-fn counts<'a>(alloc: Global) -> Result<Command<'a>, AllocError> {
-    let command = Command::new(alloc, "counts").about(
-        "What a term costs by ways of reducing it, a column each",
-    );
-    let steps = "the most steps of leftmost and applicative order and for families, by itself 1000";
-    let most = number(alloc, "most", 0, MOST_STEPS as i64, steps);
-    let by_need = "the most moves of call-by-need, by itself 1000000";
-    let moves = number(alloc, "moves", 0, MOST_MOVES as i64, by_need);
-    let command = of_run(alloc, command)?
-        .arg(most)?
-        .arg(moves)?
-        .arg(flag(alloc, "no-run", "no column for `run`"))?
-        .arg(flag(alloc, "no-demand", "no column for `demand`"))?
-        .arg(flag(alloc, "no-leftmost", "no column for leftmost order"))?
-        .arg(flag(alloc, "applicative", "a column for applicative order"))?
-        .arg(flag(alloc, "need", "a column for call-by-need"))?
-        .arg(flag(alloc, "families", "a column for the families of redexes"))?
-        .arg(json(alloc))?;
-    of_term(alloc, command, OF_TERM_OR_NET)
-}
-
-fn free<'a>(alloc: Global) -> Result<Command<'a>, AllocError> {
-    let command = Command::new(alloc, "free").about(
-        "The free names of a term, each with its line and column",
-    );
-    of_term(alloc, command, OF_TERM)
-}
-
-fn waves<'a>(alloc: Global) -> Result<Command<'a>, AllocError> {
-    let command = Command::new(alloc, "waves").about(
-        "How many pairs each wave of a run has, by rule",
-    );
-    let command = of_subject(alloc, command)?.arg(fuel(alloc, PLAIN_FUEL_HELP))?;
-    of_term(alloc, command, OF_TERM_OR_NET)
-}
-
-fn story<'a>(alloc: Global) -> Result<Command<'a>, AllocError> {
-    let command = Command::new(alloc, "story").about(
-        "Each step of the run that takes the least pair: nodes, births, and the pairs that are left",
-    );
-    let help = "the most interactions, by itself 1000";
-    let command = of_subject(alloc, command)?.arg(fuel(alloc, help))?;
-    of_term(alloc, command, OF_TERM_OR_NET)
-}
-
-fn show<'a>(alloc: Global) -> Result<Command<'a>, AllocError> {
-    let command = Command::new(alloc, "show")
-        .about(
-            "The normal form of a term, and which numerals, booleans, pairs and lists it encodes",
-        )
-        .arg(number(alloc, "translation", 1, 2, TRANSLATION))?
-        .arg(fuel(alloc, PLAIN_FUEL_HELP))?
-        .arg(heads(alloc))?;
-    of_term(alloc, command, OF_TERM)
-}
-
-fn tree<'a>(alloc: Global) -> Result<Command<'a>, AllocError> {
-    let depth = "how deep a part may be to be asked, where the root is of depth 0";
-    let command = Command::new(alloc, "tree")
-        .about("The Böhm tree of a term down to a depth, by demand, part by part")
-        .arg(number(alloc, "depth", 0, MOST_HEADS as i64, depth).required(true))?
-        .arg(number(alloc, "translation", 1, 2, TRANSLATION))?
-        .arg(fuel(alloc, "the most interactions for one part, by itself 10000"))?
-        .arg(heads(alloc))?;
-    of_term(alloc, command, OF_TERM)
-}
-
-fn walk<'a>(alloc: Global) -> Result<Command<'a>, AllocError> {
-    let frame = Arg::new(alloc, "frame")
-        .long("frame")
-        .value_name("path")
-        .required(true)
-        .action(ArgAction::Set)
-        .help("the place: `root`, or numbers of arguments from the root with dots between them");
-    let about =
-        "The questions that one place of a term is asked by `ol walk`, crossing by crossing";
-    let asked = "the question for this many abstractions alone, by itself all that are asked";
-    let lines = "the most crossings that are told, by itself 1000";
-    let edges = "the most crossings of each walk, by itself 100000";
-    let heads = "the most places that are asked, by itself 4096";
-    let command = Command::new(alloc, "walk")
-        .about(about)
-        .arg(frame)?
-        .arg(number(alloc, "asked", 0, MOST_NODES as i64, asked))?
-        .arg(number(alloc, "lines", 0, MOST_LINES as i64, lines))?
-        .arg(number(alloc, "edges", 1, MOST_EDGES as i64, edges))?
-        .arg(number(alloc, "heads", 1, MOST_HEADS as i64, heads))?
-        .arg(number(alloc, "translation", 1, 2, TRANSLATION))?;
-    of_term(alloc, command, OF_TERM)
-}
-
-fn places<'a>(alloc: Global) -> Result<Command<'a>, AllocError> {
-    let byte = Arg::new(alloc, "byte")
-        .action(ArgAction::Set)
-        .value_parser(clap::value_parser!(u32).range(0..=MOST_JOURNAL_BYTES as i64))
-        .help("the place of the byte, counted from 0; by itself where the text stops being a term");
-    Command::new(alloc, "where")
-        .about("Line and column of a byte, or of where a text stops being a term, with a caret")
-        .arg(file(alloc, "name", "the file, `-` for standard input").required(true))?
-        .arg(byte)
-}
-
-fn derivation<'a>(alloc: Global) -> Result<Command<'a>, AllocError> {
-    let help = "the file with one term a line, `-` for standard input";
-    Command::new(alloc, "derivation")
-        .about("Whether each term of a derivation is one beta step from the one before it")
-        .arg(file(alloc, "name", help).required(true))
-}
-
-fn same<'a>(alloc: Global) -> Result<Command<'a>, AllocError> {
-    let help = "a file with a net, `-` for standard input";
-    Command::new(alloc, "same")
-        .about(
-            "Whether two nets are one up to the numbers of nodes, or the first port where they differ",
-        )
-        .arg(file(alloc, "name", help).required(true))?
-        .arg(file(alloc, "other", help).required(true))
-}
-
-fn grade<'a>(alloc: Global) -> Result<Command<'a>, AllocError> {
-    let on = Arg::new(alloc, "on")
-        .long("on")
-        .value_name("inputs")
-        .required(true)
-        .action(ArgAction::Set)
-        .help("the file with the inputs, one a line");
-    let students = Arg::new(alloc, "student")
-        .required(true)
-        .action(ArgAction::Append)
-        .num_args(1..=MOST_STUDENTS as usize)
-        .help("the files with the students' functions");
-    Command::new(alloc, "grade")
-        .about("Whether students' functions give what a solution gives, on some inputs")
-        .arg(on)?
-        .arg(number(alloc, "translation", 1, 2, TRANSLATION))?
-        .arg(fuel(alloc, PLAIN_FUEL_HELP))?
-        .arg(heads(alloc))?
-        .arg(file(alloc, "name", "the file with the solution").required(true))?
-        .arg(students)
-}
-
-fn command<'a>(alloc: Global) -> Result<Command<'a>, AllocError> {
-    Command::new(alloc, "ol-bench")
-        .bin_name("ol-bench")?
-        .about("Answers for those who look closer at a term, a net or a journal of `ol`")
-        .subcommand_required(true)
-        .subcommand(journal(alloc)?)?
-        .subcommand(check(alloc)?)?
-        .subcommand(explain(alloc)?)?
-        .subcommand(after(alloc)?)?
-        .subcommand(steps(alloc)?)?
-        .subcommand(counts(alloc)?)?
-        .subcommand(same(alloc)?)?
-        .subcommand(places(alloc)?)?
-        .subcommand(derivation(alloc)?)?
-        .subcommand(free(alloc)?)?
-        .subcommand(waves(alloc)?)?
-        .subcommand(story(alloc)?)?
-        .subcommand(show(alloc)?)?
-        .subcommand(tree(alloc)?)?
-        .subcommand(walk(alloc)?)?
-        .subcommand(grade(alloc)?)
-}
 
 // The number of an option: what it is by itself where it isn't given, and one of its ends where it
 // is beyond that.
@@ -732,7 +379,7 @@ fn asked_of(alloc: Global, name: &str, found: &ArgMatches) -> Result<Asked, Erro
 pub fn asked_by(alloc: Global, words: &Vec<String>) -> Result<Asked, Error>
     ensures { IfOk result IsWithinBounds }
 {
-    let matches = command(alloc)?.try_get_matches_from(words.as_slice())?;
+    let matches = matches_of(alloc, words)?;
     match matches.subcommand() {
         Some((name, found)) => asked_of(alloc, name, found),
         // clap takes no words without a command.
