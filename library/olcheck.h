@@ -42,7 +42,7 @@ struct ol_verdict {
     uint32_t number;
 };
 
-/* How often each rule stands in a journal. */
+/* How often each rule is applied by the run of a journal. */
 struct ol_counts {
     uint32_t beta, fan, croissant, bracket, cross_fan, cross_croissant, cross_bracket, erase;
 };
@@ -56,7 +56,7 @@ struct ol_verdict ol_check(const void *term, size_t term_length, uint32_t transl
 struct ol_verdict ol_check_net(const void *net, size_t net_length,
                                const void *journal, size_t journal_length);
 
-/* The same verdict; and *counts is how often each rule stands in the journal, where the verdict is
+/* The same verdict; and *counts is how often the run applies each rule, if the verdict is
    OL_COMPLETE or OL_RUN, else zeros. After OL_BAD_POINTER it isn't written. */
 struct ol_verdict ol_count(const void *term, size_t term_length, uint32_t translation,
                            const void *journal, size_t journal_length, struct ol_counts *counts);

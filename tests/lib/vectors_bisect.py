@@ -1,17 +1,18 @@
 """Finds the first line of a runtime's journal after which its net is wrong, by halving, with `ol-bench after`.
 
-    tests/vectors/bisect [--translation T | --net] COMMAND NAME
+    tests/vectors/bisect [--translation T | --net] [--each] COMMAND NAME
 
 NAME is a file with a term, or with --net a net file. The shell runs COMMAND, for at most a minute each time, with the
 net on standard input: as `ol view` shows it, or with --net the file itself. `COMMAND` writes a journal, in either form.
 `COMMAND --after L` writes the net that the first L lines of this journal leave, as `ol-bench after L` does, under the
 names of the journal: of its lines from the third on any order will do. Each call has to make the same run.
 
-What `ol-bench explain` says of the journal is printed first. Where all nets up to there are right, a last line says so;
-the status is 0 if the journal is one of a complete run, too. Else the line after which the net is wrong is printed, and the lines
-in which the two nets differ, those of `ol-bench` behind `<` and those of COMMAND behind `>`; the status is 1. Where two
-slips make the net right again, one of them is found. Status 2: COMMAND or NAME is no such thing. Which program
-`ol-bench` is run, tests/lib/which_ol.py says.
+What `ol-bench explain` says of the journal is printed first. Of its good lines the net after the last one is asked. If
+that is right, a last line says so; the status is 0 if the journal is one of a complete run, too. Else a line after which
+the net is wrong, and before which it is right, is printed, and the lines in which the two nets differ, those of `ol-bench`
+behind `<` and those of COMMAND behind `>`; the status is 1. A net that is wrong on the way alone isn't found so: what is
+wrong may be erased later. With --each the net after each line is asked, one after another. Status 2: COMMAND or NAME is no
+such thing. Which program `ol-bench` is run, tests/lib/which_ol.py says.
 """
 import re
 import sys
@@ -56,8 +57,10 @@ class Search:
         ours, theirs = self.nets(line)
         return ours[:2] == theirs[:2] and sorted(ours) == sorted(theirs)
 
-    def first_wrong(self, last):
-        """A line after which the net is wrong, and before which it is right, or None, where it is right after `last`."""
+    def first_wrong(self, last, each):
+        """A line after which the net is wrong, and before which it is right; None if it is right after `last`, or with `each` after all."""
+        if each:
+            return next((line for line in range(1, last + 1) if not self.is_right(line)), None)
         if not self.is_right(1):
             return 1
         if last == 1 or self.is_right(last):
@@ -69,7 +72,7 @@ class Search:
         return high
 
 
-def told(search):
+def told(search, each):
     """Prints what is found, and gives the status."""
     status, text = search.asked(["explain"], search.journal)
     print(text, end="")
@@ -77,9 +80,9 @@ def told(search):
     last = int(off.group(1)) - 1 if off else search.journal.count("\n")
     if last < 1:
         return 1
-    wrong = search.first_wrong(last)
+    wrong = search.first_wrong(last, each)
     if wrong is None:
-        print(f"the nets are right up to line {last}")
+        print(f"the nets are right up to line {last}" if each else f"the net is right after line {last}")
         return 1 if status else 0
     ours, theirs = search.nets(wrong)
     print(f"the net is wrong after line {wrong}: {search.journal.splitlines()[wrong - 1]}")
@@ -94,10 +97,11 @@ def main(words):
     asked.add_argument("name", metavar="NAME", help="a file with a term or a net")
     asked.add_argument("--translation", metavar="T", choices=["1", "2"], default="2", help="of the term (2)")
     asked.add_argument("--net", action="store_true", help="NAME has a net")
+    asked.add_argument("--each", action="store_true", help="ask the net after each line, and don't halve")
     asked = asked.parse_args(words)
     options = ["--net"] if asked.net else ["--translation", asked.translation]
     try:
-        return told(Search(which_ol.found("ol-bench"), asked.command, options, asked.name))
+        return told(Search(which_ol.found("ol-bench"), asked.command, options, asked.name), asked.each)
     except ValueError as fault:
         print(f"{sys.argv[0]}: {fault}", file=sys.stderr)
         return 2
