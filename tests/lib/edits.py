@@ -4,8 +4,8 @@
 
 Each is a wrong body, in crates/NAME/must-fail/. With names only those of these crates are tried. Their libraries have to be
 proved already: in out/ of each crate below them, as .ci/run and `./prove` leave them. An edit that begins with the line
-`# Dear: ..` changes a function for which much of the crate is proved. So it is tried with --long alone, and the merge gate
-doesn't try it.
+`# Dear: ..` is tried with --long alone, and the merge gate doesn't try it: together with the others it would have too
+much of the crate proved (docs/DECISIONS.md).
 
 `rt must-fail` tries one edit after another, each on the whole crate. Here the edits of a crate are put in together, at most
 one a function, and only these functions are proved, with those that they call. A function's proof sees its own body and the
