@@ -1,113 +1,139 @@
 //! Tables over the fakes, and one run of the adapters.
 
+ghost use Rattle.std.specs.Prelude.{◌≤◌};
+
 use ol_io::{
     Gate, MemFile, MemSink, MemSource, OpenGate, ReadAll, StdSink, StdSource, SureSink, SureSource,
-    Written, read_all, write_all,
+    read_all, write_all,
 };
-use std::alloc::Global;
+use std::alloc::{AllocError, Global};
 use std::fs;
-use std::process::Abort;
+use std::rt::Files;
 use std::test::Fail;
 
-/// Files with these names and texts.
-fn held(alloc: Global, files: &[(&str, &str)]) -> Result<Vec<MemFile>, Fail> {
-    let mut held = Vec::new(alloc);
-    for (name, text) in files {
-        held.push(MemFile {
-            name: String::from_str(alloc, name)?,
-            bytes: Vec::from_slice(alloc, text.as_bytes())?,
-        })?;
-    }
-    Ok(held)
+/// A file of this name and text.
+fn file(alloc: Global, name: &str, bytes: &[u8]) -> Result<MemFile, AllocError> {
+    Ok(MemFile {
+        name: String::from_str(alloc, name)?,
+        bytes: Vec::from_slice(alloc, bytes)?,
+    })
 }
 
-// What `read_all` gives of one name, whose source gives three bytes at a time and fails at one
-// call.
-fn read_row(
-    rt: &impl Abort,
-    alloc: Global,
-    name: &str,
-    failing: u64,
-    most: usize,
-    want: Result<&str, ReadAll>,
-) -> Result<(), Fail> {
-    let files = held(alloc, &[("a", "hello"), ("a", "later"), ("-", "")])?;
-    let mut src = MemSource::new(files, 3, vec![in alloc; failing]?);
-    assert!(rt; most <= 1024);
-    match (read_all(alloc, &mut src, name, most), want) {
-        (Ok(got), Ok(want)) => assert!(rt; got.as_slice() == want.as_bytes()),
-        (Err(got), Err(want)) => assert!(rt; got == want),
-        _ => panic!(rt; "{name} {failing} {most}"),
+/// Three files, of which two have one name.
+fn files(alloc: Global) -> Result<Vec<MemFile>, AllocError> {
+    let mut files = Vec::new(alloc);
+    files.push(file(alloc, "a", b"hello")?)?;
+    files.push(file(alloc, "a", b"later")?)?;
+    files.push(file(alloc, "-", b"")?)?;
+    Ok(files)
+}
+
+/// The bytes that were read, or why there are none.
+fn shown(alloc: Global, read: Result<Vec<u8>, ReadAll>) -> Result<String, Fail> {
+    match read {
+        Ok(bytes) => Ok(String::from_utf8(bytes).ok().ok_or("no text")?),
+        Err(fault) => Ok(format!(in alloc; "{fault:?}")?),
     }
-    Ok(())
+}
+
+/// What `read_all` gives of one name, whose source gives three bytes at a time and fails at one
+/// call.
+fn read(alloc: Global, name: &str, failing: u64, most: usize) -> Result<String, Fail>
+    requires { most ≤ 1024 }
+{
+    let mut src = MemSource::new(files(alloc)?, 3, vec![in alloc; failing]?);
+    let read = read_all(alloc, &mut src, name, most);
+    shown(alloc, read)
 }
 
 #[test]
 fn reads_whole_names(rt: HostRuntime) -> Result<(), Fail> {
-    for (name, failing, most, want) in [
-        ("a", 99, 5, Ok("hello")),
-        ("a", 4, 1024, Ok("hello")),
-        ("-", 99, 0, Ok("")),
-        ("a", 99, 4, Err(ReadAll::TooLong)),
-        ("a", 99, 0, Err(ReadAll::TooLong)),
-        ("b", 99, 5, Err(ReadAll::Fault)),
-        ("a", 0, 5, Err(ReadAll::Fault)),
-        ("a", 1, 5, Err(ReadAll::Fault)),
-        ("a", 2, 5, Err(ReadAll::Fault)),
-        ("a", 3, 5, Err(ReadAll::Fault)),
+    let mut text = String::new(rt.alloc());
+    for (name, failing, most) in [
+        ("a", 99, 5),
+        ("a", 4, 1024),
+        ("-", 99, 0),
+        ("a", 99, 4),
+        ("a", 99, 0),
+        ("b", 99, 5),
+        ("a", 0, 5),
+        ("a", 1, 5),
+        ("a", 2, 5),
+        ("a", 3, 5),
     ] {
-        read_row(&rt, rt.alloc(), name, failing, most, want)?;
+        let read = read(rt.alloc(), name, failing, most)?;
+        text.push_str(&read)?;
+        text.push_str("\n")?;
     }
+    assert!(rt;
+        text.as_bytes()
+            == b"hello\nhello\n\nTooLong\nTooLong\nFault\nFault\nFault\nFault\nFault\n".as_slice(),
+        "{text}"
+    );
     Ok(())
 }
 
-/// The room, the write that fails, the answer and the bytes that were taken.
+/// What comes of a text that is written three bytes at a time, where one call fails and there is room
+/// for so many bytes.
+fn written(alloc: Global, room: usize, failing: u64) -> Result<String, Fail>
+    requires { room ≤ 1024 }
+{
+    let mut out = MemSink::new(alloc, room, 3, vec![in alloc; failing]?)?;
+    let written = write_all(&mut out, b"four score");
+    let kept = str::from_utf8(out.bytes()).ok().ok_or("no text")?;
+    Ok(format!(in alloc; "{written:?} {kept}\n")?)
+}
+
+/// The room, and the write that fails.
 #[test]
 fn writes_whole_texts(rt: HostRuntime) -> Result<(), Fail> {
-    let alloc = rt.alloc();
-    for (room, failing, want, kept) in [
-        (1024, 99, Written::All, "four score"),
-        (10, 4, Written::All, "four score"),
-        (1024, 0, Written::Fault { taken: 0 }, ""),
-        (1024, 1, Written::Fault { taken: 3 }, "fou"),
-        (1024, 3, Written::Fault { taken: 9 }, "four scor"),
-        (8, 99, Written::Fault { taken: 8 }, "four sco"),
-    ] {
-        let mut out = MemSink::new(alloc, room, 3, vec![in alloc; failing]?)?;
-        assert!(rt; write_all(&mut out, b"four score") == want);
-        assert!(rt; out.bytes() == kept.as_bytes());
+    let mut text = String::new(rt.alloc());
+    for (room, failing) in [(1024, 99), (10, 4), (1024, 0), (1024, 1), (1024, 3), (8, 99)] {
+        let written = written(rt.alloc(), room, failing)?;
+        text.push_str(&written)?;
     }
+    assert!(rt;
+        text.as_bytes()
+            == b"All four score\nAll four score\nFault { taken: 0 } \nFault { taken: 3 } fou\n\
+            Fault { taken: 9 } four scor\nFault { taken: 8 } four sco\n"
+                .as_slice(),
+        "{text}"
+    );
     Ok(())
+}
+
+/// What the adapter over std reads of a file of that name.
+fn read_by_std(rt: &(impl Files + Input), alloc: Global, most: usize) -> Result<String, Fail>
+    requires { most ≤ 1024 }
+{
+    let mut src = StdSource::new(rt);
+    let read = read_all(alloc, &mut src, "ol_io_adapters.txt", most);
+    shown(alloc, read)
 }
 
 #[test]
 fn adapters_read_a_file_and_write(rt: HostRuntime) -> Result<(), Fail> {
     let alloc = rt.alloc();
     fs::write(&rt, "ol_io_adapters.txt", b"a file".as_slice())?;
-    let mut src = StdSource::new(&rt);
-    let got = read_all(alloc, &mut src, "ol_io_adapters.txt", 6)?;
-    assert!(rt; got.as_slice() == b"a file".as_slice());
-    let short = read_all(alloc, &mut src, "ol_io_adapters.txt", 5);
-    assert!(rt; short.err() == Some(ReadAll::TooLong));
+    let whole = read_by_std(&rt, alloc, 6)?;
+    let short = read_by_std(&rt, alloc, 5)?;
     fs::remove_file(&rt, "ol_io_adapters.txt")?;
-    let gone = read_all(alloc, &mut src, "ol_io_adapters.txt", 6);
-    assert!(rt; gone.err() == Some(ReadAll::Fault));
-    let mut out = StdSink::new(&rt);
-    assert!(rt; write_all(&mut out, b"written\n") == Written::All);
+    let gone = read_by_std(&rt, alloc, 6)?;
+    let written = write_all(&mut StdSink::new(&rt), b"written\n");
+    let told = format!(in alloc; "{whole} {short} {gone} {written:?}")?;
+    assert!(rt; told.as_bytes() == b"a file TooLong Fault All".as_slice(), "{told}");
     Ok(())
 }
 
-/// A source that never fails has every name, and a sink that never fails keeps what has room.
-#[test]
-fn a_sure_source_goes_to_a_sure_sink(rt: HostRuntime) -> Result<(), Fail> {
-    let alloc = rt.alloc();
-    let mut src = SureSource::new(held(alloc, &[("a", "four score")])?);
+/// What a sure sink of six bytes keeps of what a sure source has.
+fn passed(alloc: Global) -> Result<String, Fail> {
+    let mut src = SureSource::new(files(alloc)?);
     let text = read_all(alloc, &mut src, "a", 10)?;
-    assert!(rt; read_all(alloc, &mut src, "b", 0)?.is_empty());
-    let mut out = SureSink::new(alloc, 6)?;
-    assert!(rt; write_all(&mut out, &text) == Written::All);
-    assert!(rt; out.bytes() == b"four s".as_slice());
-    Ok(())
+    let none = read_all(alloc, &mut src, "b", 0)?.len();
+    let mut out = SureSink::new(alloc, 3)?;
+    let written = write_all(&mut out, &text);
+    let kept = str::from_utf8(out.bytes()).ok().ok_or("no text")?;
+    Ok(format!(in alloc; "{none} {written:?} {kept}")?)
 }
 
 // A gate is shared by the threads that pass it.
@@ -115,7 +141,12 @@ fn pass_shared(gate: &(impl Gate + Sync)) {
     gate.pass(0, 0);
 }
 
+/// A source that never fails has every name, and a sink that never fails keeps what has room. The open
+/// gate lets pass.
 #[test]
-fn the_open_gate_lets_pass() {
+fn a_sure_source_goes_to_a_sure_sink(rt: HostRuntime) -> Result<(), Fail> {
     pass_shared(&OpenGate);
+    let text = passed(rt.alloc())?;
+    assert!(rt; text.as_bytes() == b"0 All hel".as_slice(), "{text}");
+    Ok(())
 }

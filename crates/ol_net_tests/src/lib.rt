@@ -2,7 +2,7 @@
 //!
 //! They stand apart from what they test, so that their proof does not prove that again.
 //!
-//! - `small_nets`: small nets that several of these use, by their texts
+//! - `small_nets`: small nets that several of these use, by their names
 //! - `nets`: a net built from its parts, and what is refused
 //! - `steps`: small nets, step by step
 //! - `runs`: whole runs of one small term

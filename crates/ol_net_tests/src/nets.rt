@@ -1,6 +1,8 @@
 //! A small net built from its parts, and what is refused.
 
-use ol_net::{BuildFault, Facing, Kind, Net, NodeId, Port};
+use crate::small_nets::{Small, net_of};
+use ol_net::{Kind, Net, NodeId, Port};
+use std::alloc::Global;
 use std::test::Fail;
 
 fn of(node: u32, slot: u8) -> Port {
@@ -10,48 +12,42 @@ fn of(node: u32, slot: u8) -> Port {
     }
 }
 
-/// A fan and an abstraction that face each other, and what is refused of their parts.
+/// What two nodes that face each other tell, the numbers of their net, and a partner.
+fn told(alloc: Global) -> Result<String, Fail> {
+    let net = net_of(alloc, Small::Stuck)?;
+    let facing = [net.facing(NodeId(0)), net.facing(NodeId(1))];
+    let numbers = [net.stuck(), net.nodes(), net.free_ports(), net.top_index()];
+    let partner = net.partner(Port::Free(3));
+    Ok(format!(in alloc; "{facing:?} {numbers:?} {partner:?}")?)
+}
+
 #[test]
 fn counts_a_stuck_pair_once(rt: HostRuntime) -> Result<(), Fail> {
-    let alloc = rt.alloc();
-    let whole = [
-        (of(0, 0), of(1, 0)),
-        (of(0, 1), Port::Free(0)),
-        (of(0, 2), Port::Free(1)),
-        (of(1, 1), Port::Free(2)),
-        (of(1, 2), Port::Free(3)),
-    ];
-    let nodes = [(Kind::Fan, 0), (Kind::Lam, 0)];
-    let net = Net::build(alloc, 4, nodes.to_vec(alloc)?, whole.to_vec(alloc)?)?;
-    assert!(rt; [net.facing(NodeId(0)), net.facing(NodeId(1))] == [Facing::Stuck, Facing::Stuck]);
-    assert!(rt; [net.stuck(), net.nodes(), net.free_ports(), net.top_index()] == [1, 2, 4, 0]);
-    assert!(rt; net.partner(Port::Free(3)) == Some(whole[4].0));
-    let open = Net::build(alloc, 4, nodes.to_vec(alloc)?, whole[..4].to_vec(alloc)?).err();
-    let port = Port::Free(3);
-    assert!(rt; open == Some(BuildFault::Loose { port }));
+    let text = told(rt.alloc())?;
+    let wanted = b"[Stuck, Stuck] [1, 2, 4, 0] Some(Of { node: NodeId(1), slot: 2 })".as_slice();
+    assert!(rt; text.as_bytes() == wanted, "{text}");
     Ok(())
 }
 
-/// Where indexes of up to 2 are allowed: the indexes of an abstraction and of an eraser, the number
-/// of free ports, the last of three links, and the fault.
+/// Where indexes of up to 2 are allowed: what an abstraction of an index, whose slots are linked, and
+/// so many free ports come to.
+fn built(alloc: Global, index: u32, free: u32) -> Result<String, Fail> {
+    let nodes = vec![in alloc; (Kind::Lam, index)]?;
+    let links = vec![in alloc; (Port::Free(0), of(0, 0)), (of(0, 1), of(0, 2))]?;
+    let nodes = Net::build_to(alloc, 2, free, nodes, links).map(|net| net.nodes());
+    Ok(format!(in alloc; "{nodes:?}")?)
+}
+
+/// The faults that `net_files` has not: an index above the greatest, and a free port that is loose.
 #[test]
 fn refuses_indexes_above_a_top_of_two(rt: HostRuntime) -> Result<(), Fail> {
-    let alloc = rt.alloc();
-    let good = (Port::Free(1), of(1, 0));
-    let missing = (Port::Free(2), of(0, 2));
-    let again = (Port::Free(1), of(0, 2));
-    let port = Port::Free(2);
-    for (lam, eraser, free, last, fault) in [
-        (2, 0, 2, good, None),
-        (3, 0, 2, missing, Some(BuildFault::BadIndex { node: 0 })),
-        (2, 1, 2, good, Some(BuildFault::BadIndex { node: 1 })),
-        (2, 0, 2, missing, Some(BuildFault::BadPort { link: 2 })),
-        (2, 0, 2, again, Some(BuildFault::Twice { link: 2 })),
-        (2, 0, 3, good, Some(BuildFault::Loose { port })),
+    for (index, free, wanted) in [
+        (2, 1, b"Ok(1)".as_slice()),
+        (3, 1, b"Err(BadIndex { node: 0 })".as_slice()),
+        (2, 2, b"Err(Loose { port: Free(1) })".as_slice()),
     ] {
-        let nodes = vec![in alloc; (Kind::Lam, lam), (Kind::Eraser, eraser)]?;
-        let links = vec![in alloc; (Port::Free(0), of(0, 0)), (of(0, 1), of(0, 2)), last]?;
-        assert!(rt; Net::build_to(alloc, 2, free, nodes, links).err() == fault);
+        let text = built(rt.alloc(), index, free)?;
+        assert!(rt; text.as_bytes() == wanted, "{text}");
     }
     Ok(())
 }

@@ -1,27 +1,54 @@
 //! Small nets, step by step.
 
-use crate::small_nets::{IDENTITY_OF_IDENTITY, assert_shown, stepped};
-use ol_net::Rule;
+use crate::small_nets::{Small, net_of};
+use ol_net::{Net, NodeId};
+use ol_rules::step;
+use ol_view::show;
+use std::alloc::Global;
 use std::test::Fail;
 
-#[test]
-fn four_steps_leave_an_identity(rt: HostRuntime) -> Result<(), Fail> {
-    let steps = [
-        (0, Rule::Beta),
-        (2, Rule::CrossCroissant),
-        (6, Rule::CrossCroissant),
-        (5, Rule::Croissant),
-    ];
-    let net = stepped(&rt, rt.alloc(), IDENTITY_OF_IDENTITY, &steps)?;
-    let text = "nodes 2\nf0 7.0\n7 lam 0 f0 9.1 9.0\n9 croissant 0 7.2 7.1\n";
-    assert_shown(&rt, rt.alloc(), &net, text)
+/// What a step at a node of a small net comes to.
+fn answer(alloc: Global, net: &mut Net, at: u32) -> Result<String, Fail> {
+    if net.born() > 2_000_000_000 {
+        return Err("large")?;
+    }
+    let rule = step(net, NodeId(at));
+    Ok(format!(in alloc; "{rule:?}\n")?)
 }
 
-/// Two fans go whose slots 1 are linked: joined to each other they are a loop, which goes too.
+/// What steps at these nodes come to, and the net then.
+fn stepped(alloc: Global, small: Small, nodes: &[u32]) -> Result<Vec<u8>, Fail> {
+    let mut net = net_of(alloc, small)?;
+    let mut text = Vec::new(alloc);
+    for at in nodes {
+        let answer = answer(alloc, &mut net, *at)?;
+        text.extend_from_slice(answer.as_bytes())?;
+    }
+    let shown = show(alloc, &net)?;
+    text.extend_from_slice(&shown)?;
+    Ok(text)
+}
+
+/// Four steps leave an identity, and a node of no pair has none. Two fans go whose slots 1 are linked:
+/// joined to each other they are a loop, which goes too.
 #[test]
-fn a_loop_goes(rt: HostRuntime) -> Result<(), Fail> {
-    let fans = "ol net 1\nfree 2\nnode fan 0\nnode fan 0\n\
-        link f0 0.2\nlink f1 1.2\nlink 0.0 1.0\nlink 0.1 1.1\n";
-    let net = stepped(&rt, rt.alloc(), fans, &[(0, Rule::Fan)])?;
-    assert_shown(&rt, rt.alloc(), &net, "nodes 0\nf0 f1\nf1 f0\n")
+fn nets_are_stepped(rt: HostRuntime) -> Result<(), Fail> {
+    for (small, nodes, wanted) in [
+        (
+            Small::Once,
+            [0, 4, 2, 6, 5].as_slice(),
+            b"Ok(Beta)\nErr(NotActive)\nOk(CrossCroissant)\nOk(CrossCroissant)\nOk(Croissant)\n\
+            nodes 2\nf0 7.0\n7 lam 0 f0 9.1 9.0\n9 croissant 0 7.2 7.1\n"
+                .as_slice(),
+        ),
+        (
+            Small::Loop,
+            [0].as_slice(),
+            b"Ok(Fan)\nnodes 0\nf0 f1\nf1 f0\n".as_slice(),
+        ),
+    ] {
+        let text = stepped(rt.alloc(), small, nodes)?;
+        assert!(rt; text.as_slice() == wanted);
+    }
+    Ok(())
 }

@@ -2,8 +2,8 @@
 
 ghost use Rattle.std.specs.Prelude.{◌≤◌, length};
 
-use ol_parse::{ParseFault, parse};
-use ol_term::Term;
+use ol_parse::parse;
+use ol_term::{Names, Term};
 use std::alloc::{AllocError, Global};
 use std::test::Fail;
 
@@ -27,59 +27,66 @@ fn write(term: &Term, out: &mut Vec<u8>) -> Result<(), AllocError> {
     Ok(())
 }
 
-fn is_dead_at(alloc: Global, text: &[u8], place: usize) -> bool
-    requires { length text.now ≤ 1024 }
-{
-    match parse(alloc, text) {
-        Err(ParseFault::Syntax { at }) => at == place,
-        _ => false,
+// The names, each after a space.
+fn write_names(names: &Names, out: &mut Vec<u8>) -> Result<(), AllocError> {
+    for k in 0..names.len() {
+        out.push(b' ')?;
+        if let Some(name) = names.get(k) {
+            out.extend_from_slice(name)?;
+        }
     }
+    Ok(())
 }
 
-#[test]
-fn a_text_is_read(rt: HostRuntime) -> Result<(), Fail> {
-    let alloc = rt.alloc();
-    let text = b"# of two names\r\n\tlet I = \\x y'. x(f y') in I \xCE\xBBz. _g f z # the end";
-    let file = parse(alloc, text).ok().ok_or("no term")?;
-    let mut out = Vec::new(alloc);
-    write(&file.term, &mut out)?;
-    assert_eq!(rt; out.as_slice(), b"@\\@0\\@@ab0\\\\@1@b0".as_slice());
-    assert_eq!(rt; file.names.len(), 2);
-    assert!(rt; matches!(file.names.get(0), Some(b"_g")));
-    assert!(rt; matches!(file.names.get(1), Some(b"f")));
-    Ok(())
+// The term of a text and its names, or why there is none.
+fn read(alloc: Global, text: &[u8]) -> Result<Vec<u8>, AllocError>
+    requires { length text.now ≤ 10000 }
+{
+    match parse(alloc, text) {
+        Ok(file) => {
+            let mut out = Vec::new(alloc);
+            write(&file.term, &mut out)?;
+            write_names(&file.names, &mut out)?;
+            Ok(out)
+        }
+        Err(fault) => {
+            let told = format!(in alloc; "{fault:?}")?;
+            Ok(told.into_bytes())
+        }
+    }
 }
 
 /// The last term of a `let` is the function, so its names come before those of the first term.
 #[test]
-fn the_names_of_the_last_term_come_first(rt: HostRuntime) -> Result<(), Fail> {
+fn a_text_is_read(rt: HostRuntime) -> Result<(), Fail> {
     let alloc = rt.alloc();
-    let file = parse(alloc, b"let x = a in b x").ok().ok_or("no term")?;
-    let mut out = Vec::new(alloc);
-    write(&file.term, &mut out)?;
-    assert_eq!(rt; out.as_slice(), b"@\\@a0b".as_slice());
-    assert_eq!(rt; file.names.len(), 2);
-    assert!(rt; matches!(file.names.get(0), Some(b"b")));
-    assert!(rt; matches!(file.names.get(1), Some(b"a")));
+    let text = b"# of two names\r\n\tlet I = \\x y'. x(f y') in I \xCE\xBBz. _g f z # the end";
+    let read = read(alloc, text)?;
+    assert!(rt; read.as_slice() == b"@\\@0\\@@ab0\\\\@1@b0 _g f".as_slice());
     Ok(())
 }
 
+/// Texts parted by `;`, and the place where each is dead, after `|`.
 #[test]
 fn other_texts_are_dead_somewhere(rt: HostRuntime) -> Result<(), Fail> {
-    let alloc = rt.alloc();
-    assert!(rt; is_dead_at(alloc, b"", 0));
-    assert!(rt; is_dead_at(alloc, b"in", 2));
-    assert!(rt; is_dead_at(alloc, b"\\x.", 3));
-    assert!(rt; is_dead_at(alloc, b"(x))", 3));
-    assert!(rt; is_dead_at(alloc, b"x \xCEy", 3));
-    assert!(rt; is_dead_at(alloc, b"let x = y in", 12));
-    assert!(rt; is_dead_at(alloc, b"let let = y in y", 7));
-    assert!(rt; is_dead_at(alloc, b"x 'y", 2));
+    let mut out = Vec::new(rt.alloc());
+    for text in b";in;\\x.;(x));x \xCEy;let x = y in;let let = y in y;x 'y".split(|byte| *byte == b';') {
+        if text.len() < 100 {
+            let read = read(rt.alloc(), text)?;
+            out.extend_from_slice(&read)?;
+        }
+    }
+    assert!(rt;
+        out.as_slice()
+            == b"Syntax { at: 0 }Syntax { at: 2 }Syntax { at: 3 }Syntax { at: 3 }\
+            Syntax { at: 3 }Syntax { at: 12 }Syntax { at: 7 }Syntax { at: 2 }"
+                .as_slice()
+    );
     Ok(())
 }
 
-#[test]
-fn a_deep_term_is_refused(rt: HostRuntime) -> Result<(), Fail> {
+// An abstraction of a thousand names, the first of which is left out if `few` is true.
+fn deep(alloc: Global, few: bool) -> Result<Vec<u8>, AllocError> {
     let mut text = [b' '; 2004];
     text[0] = b'\\';
     for k in 0..1000 {
@@ -87,13 +94,22 @@ fn a_deep_term_is_refused(rt: HostRuntime) -> Result<(), Fail> {
     }
     text[2001] = b'.';
     text[2003] = b'x';
+    if few {
+        text[1] = b' ';
+    }
+    match parse(alloc, &text) {
+        Ok(_) => Vec::from_slice(alloc, b"Ok"),
+        Err(fault) => Ok(format!(in alloc; "{fault:?}")?.into_bytes()),
+    }
+}
+
+#[test]
+fn a_deep_term_is_refused(rt: HostRuntime) -> Result<(), Fail> {
+    let refused = deep(rt.alloc(), false)?;
+    let taken = deep(rt.alloc(), true)?;
     assert!(rt;
-        matches!(
-            parse(rt.alloc(), &text),
-            Err(ParseFault::Depth { depth: 1001 })
-        )
+        refused.as_slice() == b"Depth { depth: 1001 }".as_slice()
+            && taken.as_slice() == b"Ok".as_slice()
     );
-    text[1] = b' ';
-    assert!(rt; parse(rt.alloc(), &text).is_ok());
     Ok(())
 }
