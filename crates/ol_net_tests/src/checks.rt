@@ -1,8 +1,11 @@
 //! Traces of small terms, whole and broken, and nets after some leads.
 
+ghost use Rattle.std.specs.Prelude.{◌≤◌, length};
+
 use crate::small_nets::{ERASED_IDENTITY, IDENTITY_OF_IDENTITY, assert_shown, net_of};
+use ol_net::Net;
 use ol_rules::run;
-use ol_view::{Check, after, check, trace_text};
+use ol_view::{Check, Checker, after, check, trace_text};
 use std::alloc::Global;
 use std::process::Abort;
 use std::test::Fail;
@@ -24,12 +27,27 @@ fn traces_runs(rt: HostRuntime) -> Result<(), Fail> {
     Ok(())
 }
 
-/// Asserts what each of some texts, parted by `;`, is found to be, against the net of
-/// (\x. x) (\y. y).
+/// What is found of a text that is fed byte by byte.
+fn found_by_bytes(alloc: Global, net: &Net, text: &[u8]) -> Result<Check, Fail>
+    requires { length net.now.nodes ≤ 100 }
+{
+    let mut checker = Checker::new(alloc, net)?;
+    for at in 0..text.len() {
+        if let Some(found) = checker.feed(&text[at..at + 1])? {
+            return Ok(found);
+        }
+    }
+    Ok(checker.finish())
+}
+
+/// Asserts what each of some texts, parted by `;`, is found to be, whole and byte by byte, against
+/// the net of (\x. x) (\y. y).
 fn assert_found(rt: &impl Abort, alloc: Global, texts: &str, wanted: Check) -> Result<(), Fail> {
     let net = net_of(alloc, IDENTITY_OF_IDENTITY)?;
     for text in texts.split(';') {
-        assert!(rt; check(alloc, &net, text.as_bytes())? == wanted, "{text}");
+        let whole = check(alloc, &net, text.as_bytes())?;
+        let fed = found_by_bytes(alloc, &net, text.as_bytes())?;
+        assert!(rt; whole == wanted && fed == wanted, "{text}");
     }
     Ok(())
 }
