@@ -6,3 +6,4 @@ pub mod Words
 pub mod WeakHeads
 pub mod Returns
 pub mod Showable
+pub mod Unfoldings

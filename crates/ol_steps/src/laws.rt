@@ -2,6 +2,7 @@
 //! definitions.
 
 ghost use Rattle.ol_steps.specs.Laws.{FoldedReadsAgain, ReadsAgain, RedexIsMarked, ReturnIsEndless, ReturnHasNone};
+ghost use Rattle.ol_steps.specs.Unfoldings.{LetsAreUnfolded, NoValueIsShown};
 
 /// Where a term of an order's walk is that of an earlier step, the order has no end: each term that
 /// it leads to from the first has a next redex. So the first term has no normal form, if the order
@@ -33,4 +34,18 @@ pub fn names_are_read_again()
 /// the walk. So no binder takes the name of a let.
 pub fn folds_are_read_again()
     ensures { FoldedReadsAgain }
+{}
+
+/// The steps of a walk that only unfold a let contract the redexes of the lets at the front of the
+/// text, each at most once. The names of the binders of these redexes, and those of the lets that
+/// are left at the front, are together the names of all. It is so in each order, and whatever names
+/// the binders have, so also if each has its own.
+pub fn lets_are_unfolded()
+    ensures { LetsAreUnfolded }
+{}
+
+/// No part of a term that is shown is the value of a let that counts, but for the redex that comes
+/// next and what this stands in.
+pub fn no_value_is_shown()
+    ensures { NoValueIsShown }
 {}

@@ -16,6 +16,7 @@ mod showing;
 mod stepping;
 
 pub use laws::{
-    folds_are_read_again, names_are_read_again, redexes_are_marked, returns_are_endless,
+    folds_are_read_again, lets_are_unfolded, names_are_read_again, no_value_is_shown,
+    redexes_are_marked, returns_are_endless,
 };
 pub use stepping::{Shown, is_within, steps};
