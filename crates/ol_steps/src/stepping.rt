@@ -372,19 +372,20 @@ fn of_text(
 
 /// The terms of reduction in an order, one under another, each with the address of the redex that
 /// comes next, by at most `most` steps. If the redex is to be marked, a line between the two has
-/// carets under its text, without brackets round it: `redexes_are_marked` says so of terms that
+/// carets under its text, without brackets round it. Law `redexes_are_marked` says so of terms that
 /// aren't folded, and `folded_redexes_are_marked` of those that are. If binders are to keep their
 /// names, each has the one that it has in the file, with as few primes as keep it from every free
 /// name and every binder round it that is used in its body. The file has a term that `ol` takes by
 /// translation 2, in at most 1,048,576 bytes. Step 0 is the term itself.
 ///
 /// If terms are to be folded, each abstraction or application that is the value of a let at the
-/// front of the file is written by its name, but for the redex that comes next and what this stands
-/// in. If it is that of several, the last one's name is taken. A let counts if its value is closed,
-/// where those of the lets before it are put in, and its name is no free name and no later let's.
-/// Steps one after another that only unfold a let are one line, which says how many they are, and
-/// the step whose term comes next. Steps are counted as ever (`each_step_counts`), and the end and
-/// the last line are those without folding (`showing_changes_no_end`).
+/// front of the file is written by its name. The redex that comes next isn't, nor is what it stands
+/// in, but its function and its argument may be. If a part is the value of several, the last one's
+/// name is taken. A let counts if its value is closed, where those of the lets before it are put in,
+/// and its name is no free name and no later let's. Steps one after another that only unfold a let
+/// are one line, which says how many they are, and the step whose term comes next. Steps are counted
+/// as ever (`each_step_counts`), and the end and the last line are those without folding
+/// (`showing_changes_no_end`).
 ///
 /// - `Yes`: the last term is what the order ends in, and the last line has the order's word for it:
 ///   a normal form, for leftmost and applicative order; a head normal form; a weak head normal form;
