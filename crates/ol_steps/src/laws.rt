@@ -54,8 +54,8 @@ pub fn each_step_counts()
     ensures { EachStepCounts }
 {}
 
-/// However the terms of an order are shown, by what names, with or without carets, folded or not,
-/// the answers to a file, by one most number of steps, have one end and one last line.
+/// Let two answers to a file be of one order, by at most as many steps. They have one end and one
+/// last line, whatever names are printed, with or without carets, folded or not.
 pub fn showing_changes_no_end()
     ensures { ShowingChangesNoEnd }
 {}
