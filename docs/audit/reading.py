@@ -252,18 +252,32 @@ def ghost_members(text):
     return {it.group(1): text[it.end():balanced(text, it.end() - 1) - 1] for it in re.finditer(r"\bghost (\w+)\s*[:=]\s*\{", text)}
 
 
+CLAUSE = re.compile(r"(?:\s|//[^\n]*\n)*(ghost|requires|ensures)\b\*?\s*(\w+)?\s*:?\s*\{")
+
+
 def clauses_of(text, at):
     """The clauses that begin at this place: name -> text. A clause without a name has a number."""
     clauses = {}
     while True:
-        found = re.compile(r"(?:\s|//[^\n]*\n)*(ghost|requires|ensures)\b\*?\s*(\w+)?\s*:?\s*\{").match(text, at)
+        found = CLAUSE.match(text, at)
         if not found:
             return clauses
         at = balanced(text, found.end() - 1)
         clauses[found.group(2) or str(len(clauses))] = text[found.end():at - 1]
 
 
-Function = collections.namedtuple('Function', 'name public signature clauses')
+def premises_of(text, at):
+    """The names that only a `requires` has which begins at this place: what a caller has to keep, and no clause."""
+    names = collections.defaultdict(set)
+    while True:
+        found = CLAUSE.match(text, at)
+        if not found:
+            return names['requires'] - names['ensures']
+        at = balanced(text, found.end() - 1)
+        names[found.group(1)].add(found.group(2))
+
+
+Function = collections.namedtuple('Function', 'name public signature clauses premises')
 
 
 class Source:
@@ -344,7 +358,8 @@ class Source:
             else:
                 public = bool(start.group(1)) and start.group(2) in handed
             signature = around[-1][2] + head if around else head
-            found.append(Function(start.group(2), public, signature, clauses_of(self.text, first.start())))
+            at = first.start()
+            found.append(Function(start.group(2), public, signature, clauses_of(self.text, at), premises_of(self.text, at)))
         return found
 
 

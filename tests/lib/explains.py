@@ -56,7 +56,7 @@ def cause(view, entries, line, told):
         if place[0] != "f" and place[1] == 0 and "." in named:
             faced, ticket = names[place[0]], named.split(".")[0]
             if faced != named and faced.split(".")[0] == ticket and "." in faced:
-                return f"{names[node]} faces {faced}: the copies of line {int(ticket) + 2} are numbered otherwise"
+                return f"{names[node]} faces {faced}: the copies of line {int(ticket) + 2} may be numbered otherwise"
     place = net.linked[x, 0]
     if place[0] == "f":
         return f"{first} faces free port {place[1]}"

@@ -6,7 +6,8 @@ Each row is one run: what was asked for, the status, the seconds by the clock an
 is at least what this runner itself needs). A row fails where the text or the status isn't the one that the definition of the answer gives, where the
 run takes more than 10 seconds, or more than 3,072 MB. The texts that are expected are made here, and never by the program.
 
-The program is what --program or the variable OL names; else the proved crates/ol/out/ol, where it is there; else `ol` on PATH.
+The program is what --program or the variable OL names; else the proved crates/ol/out/ol, where it is there; else `ol` on PATH; else the
+script `ol` at the top.
 """
 import os
 import pathlib

@@ -9,7 +9,8 @@ how many of these runs still wrote the whole text. In the last command each of f
 room for 128: where it isn't let grow, the cell is found by the rounds of the workers, so at least four of these runs write the
 whole text.
 
-The program is what --program or the variable OL names; else the proved crates/ol/out/ol, where it is there; else `ol` on PATH. Allocations
+The program is what --program or the variable OL names; else the proved crates/ol/out/ol, where it is there; else `ol` on PATH; else the
+script `ol` at the top. Allocations
 are refused by a few lines of C, below, which stand in front of the C library's allocator (LD_PRELOAD), so it is the built
 program that is tried, with its threads, its reading of the words and its writing; `rt try --fail-alloc` runs it unproved
 under a checker of memory, far slower, and counts only what the program itself asks for. Here also an allocation that the C library

@@ -1,4 +1,4 @@
-"""Finds the first line of a runtime's journal after which its net is wrong, by halving, with `ol-bench after`.
+"""Finds a line of a runtime's journal after which its net is wrong, and before which it is right, with `ol-bench after`.
 
     tests/vectors/bisect [--translation T | --net] [--each] COMMAND NAME
 

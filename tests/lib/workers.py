@@ -2,7 +2,8 @@
 
     tests/workers [--program PATH] [--runs N] [--jobs N]
 
-The program is what --program or the variable OL names; else the proved crates/ol/out/ol, where it is there; else `ol` on PATH. By default
+The program is what --program or the variable OL names; else the proved crates/ol/out/ol, where it is there; else `ol` on PATH; else the
+script `ol` at the top. By default
 10,000 runs are made, so each term is run about 16 times with each number of workers. The numbers are drawn by a generator
 that begins the same each time; how the workers' steps interleave is the machine's. The last line is 'N passed, M failed'.
 """

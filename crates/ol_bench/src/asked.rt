@@ -149,69 +149,36 @@ impl OnOne {
         ensures { IfOk result (λ a. IsAnswerToOne self bytes.now a.text.items a.end) }
     {
         match self {
-            OnOne::Where { byte } => {
-                let answer = whereabouts(alloc, bytes, byte as usize)?;
-                Ok(answer)
-            }
-            OnOne::Stop => {
-                let answer = stop(alloc, bytes)?;
-                Ok(answer)
-            }
-            OnOne::Derivation => {
-                let answer = derivation(alloc, bytes)?;
-                Ok(answer)
-            }
-            OnOne::Steps { how, most } => {
-                let answer = steps(alloc, bytes, how, most)?;
-                Ok(answer)
-            }
+            OnOne::Where { byte } => whereabouts(alloc, bytes, byte as usize),
+            OnOne::Stop => stop(alloc, bytes),
+            OnOne::Derivation => derivation(alloc, bytes),
+            OnOne::Steps { how, most } => steps(alloc, bytes, how, most),
             OnOne::Counts {
                 subject,
                 bounds,
                 columns,
                 layout,
-            } => {
-                let answer = counted(alloc, bytes, subject, bounds, columns, layout)?;
-                Ok(answer)
-            }
+            } => counted(alloc, bytes, subject, bounds, columns, layout),
             OnOne::Journal {
                 subject,
                 order,
                 fuel,
                 heads,
-            } => {
-                let answer = journal(alloc, bytes, subject, order, fuel, heads)?;
-                Ok(answer)
-            }
-            OnOne::Free => {
-                let answer = free_names(alloc, bytes)?;
-                Ok(answer)
-            }
-            OnOne::Waves { subject, fuel } => {
-                let answer = wave_table(alloc, bytes, subject, fuel)?;
-                Ok(answer)
-            }
-            OnOne::Story { subject, fuel } => {
-                let answer = story(alloc, bytes, subject, fuel)?;
-                Ok(answer)
-            }
+            } => journal(alloc, bytes, subject, order, fuel, heads),
+            OnOne::Free => free_names(alloc, bytes),
+            OnOne::Waves { subject, fuel } => wave_table(alloc, bytes, subject, fuel),
+            OnOne::Story { subject, fuel } => story(alloc, bytes, subject, fuel),
             OnOne::Show {
                 translation,
                 fuel,
                 heads,
-            } => {
-                let answer = show(alloc, bytes, translation, fuel, heads)?;
-                Ok(answer)
-            }
+            } => show(alloc, bytes, translation, fuel, heads),
             OnOne::Tree {
                 translation,
                 depth,
                 fuel,
                 heads,
-            } => {
-                let answer = tree(alloc, bytes, translation, depth, fuel, heads)?;
-                Ok(answer)
-            }
+            } => tree(alloc, bytes, translation, depth, fuel, heads),
         }
     }
 }

@@ -437,8 +437,8 @@ fn told<W: Sink>(sink: &mut W, text: &[u8], status: Status) -> Status
 ///   where the source failed, but not at a student's file (`Grade`); `limit bytes 1048576`, `limit net 33554432` or
 ///   `limit journal 402653184` where a file has more bytes than that; or the one by which `ol`
 ///   refuses a file with a term or a net. Where both of two files have too many bytes, the limit
-///   of the first one is told. A journal of which it was asked what it is found to be isn't refused
-///   if its first 402,653,184 bytes fix this. It is read no further than that.
+///   of the first one is told. If it was asked what a journal is found to be and the journal's first
+///   402,653,184 bytes fix that, the answer may come in place of the limit.
 /// - `WriteFault`: the sink to which the text goes failed. It has taken the text's first bytes, not
 ///   all of them and maybe none, and the other sink nothing.
 /// - `NoMemory`: no memory was found, and neither sink has taken anything.

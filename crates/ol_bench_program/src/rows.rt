@@ -492,7 +492,7 @@ static GRADE_ROWS: [Row; 6] = [
         value: Value::Texts {
             most: MOST_STUDENTS,
         },
-        help: "the files with the students' functions",
+        help: "the files with the students' functions, at most 1,000",
         ..FILE
     },
 ];

@@ -1,11 +1,12 @@
 -- What a part that is asked is found to be.
 use Rattle.std.proofs.Common.{◌≡◌, ℕ, suc, ◌+◌, ◌-◌, ◌*◌, ◌<◌, ◌≤◌, ◌⊎◌, inl, inr, List, ◌∷◌, [], ◌++◌, length, map}
-use Rattle.std.proofs.Common.{get_or, refl, sym, ap, subst, arith}
+use Rattle.std.proofs.Common.{Option, Some, None, get_or, refl, sym, ap, subst, arith}
+use Rattle.ol_net.specs.declared.parts.Kind.{Kind}
 use Rattle.ol_net.specs.declared.parts.NodeId.{NodeId}
 use Rattle.ol_net.specs.declared.parts.Rule.{Rule}
 use Rattle.ol_net.specs.Graph.{Graph}
 use Rattle.ol_net.specs.Nets.{slot, IsPrincipalOf}
-use Rattle.ol_net.specs.Numbered.{net_of}
+use Rattle.ol_net.specs.Numbered.{net_of, nodes_from}
 use Rattle.ol_net.specs.Pairs.{IsActive}
 use Rattle.ol_context.specs.Contexts.{Level, Context}
 use Rattle.ol_context.specs.Asked.{asked}
@@ -23,13 +24,10 @@ use Rattle.ol_demand.specs.Chains.{IsAtPair, Ends, left, undefined, budget}
 use Rattle.ol_demand.proofs.Questions.{port_is_last, levels_last}
 use Rattle.ol_boehm.specs.declared.chaining.End.{End}
 use Rattle.ol_boehm.specs.declared.chaining.End.TheVariants as code
-use Rattle.ol_boehm.specs.Asking.{IsPartFound}
+use Rattle.ol_boehm.specs.declared.asking.Reply.TheVariants as reply
+use Rattle.ol_boehm.specs.Asking.{OfLast, IsReply, IsPartFound}
 use Rattle.ol_boehm.specs.Chaining.{IsInPair, IsEndOf}
 use Rattle.ol_boehm.specs.Parts.{MeetsPair, Finds, rewrites, one_more, leaves, never, goes_on, spends}
-
--- what holds of each way to take the last of the frames as that of a part
-abbrev pub OfLast : List Frame → (List Frame → Subterm → Type 0) → Type 0
-OfLast F P = (front : List Frame) (s : Subterm) → F ≡ front ++ framed s 0 ∷ [] → P front s
 
 -- the end of its chain
 pub end_at : (vs : List Level) (fs : List listed.Frame) (at : ℕ) (f : listed.Frame) → at + 1 ≡ length fs →
@@ -55,6 +53,47 @@ met_step g h s n x vs r e t = record {
     go (inl e) = inl (ap (λ x. slot x 0) e)
     go (inr e) = inr (ap (λ x. slot x 0) e)
 
+few_from : (n : ℕ) (nodes : List (Option (Kind × ℕ))) → length (nodes_from n nodes) ≤ length nodes
+few_from n [] = omega arith
+few_from n (None ∷ nodes) = let h = few_from (suc n) nodes in omega (arith, h)
+few_from n (Some k ∷ nodes) = let h = few_from (suc n) nodes in omega (arith, h)
+
+pub few_live : (g : Graph) → live (net_of g) ≤ length g.nodes
+few_live g = few_from 0 g.nodes
+
+-- ---- asked once
+
+module _ (g : Graph) (F : List Frame) (lams steps : ℕ) (vs : List Level) where
+  pub spent_once : steps ≡ 0 → (x : NodeId) → IsInPair g x →
+      OfLast F (λ front s. IsEndOf g s.port (asked s.levels lams) vs (code.Met x)) →
+      IsReply g g F lams steps vs (reply.Found head.NoHead)
+  spent_once b x p d = (refl, tt, tt, λ front s q. subst (λ f. Finds front s f lams g 0 no_head g) (sym b) (go p.2.1 front s q))
+    where
+      at_pair : (y z : ℕ) → IsAtPair (net_of g) (slot x.0 0) y z p.0 →
+          OfLast F (λ front s. Finds front s 0 lams g 0 no_head g)
+      at_pair y z a front s q = spends ((d front s q).1 y z p.0 a)
+
+      go : IsActive (net_of g) x.0 p.2.0 p.0 ⊎ IsActive (net_of g) p.2.0 x.0 p.0 →
+          OfLast F (λ front s. Finds front s 0 lams g 0 no_head g)
+      go (inl a) = at_pair x.0 p.2.0 (record { active = a; principal = inl refl })
+      go (inr a) = at_pair p.2.0 x.0 (record { active = a; principal = inr refl })
+
+  pub never_once : live (net_of g) ≤ lams → OfLast F (λ front s. Ends (net_of g) s.port (asked s.levels lams) undefined) →
+      IsReply g g F lams steps vs (reply.Found head.NoHead)
+  never_once b d = (refl, tt, tt, λ front s q. never (d front s q) b)
+
+  pub long_once : OfLast F (λ front s. Ends (net_of g) s.port (asked s.levels lams) budget) →
+      IsReply g g F lams steps vs (reply.Found head.NoHead)
+  long_once d = (refl, tt, tt, λ front s q. goes_on (d front s q))
+
+  pub left_once : (a : Head) (q : ℕ) (X : Context) →
+      OfLast F (λ front s. Ends (net_of g) s.port (asked s.levels lams) (left q X)) →
+      OfLast F (λ front s. IsMatched (front ++ framed s 0 ∷ []) (length front) lams q X (answer_of vs a)) →
+      IsHeldHead vs a → IsKnownHead g.free F a → IsReply g g F lams steps vs (reply.Found a)
+  left_once a q X d m k w = (refl, k, w, λ front s z. leaves (d front s z) (m front s z))
+
+-- ---- asked until it is found
+
 -- whatever is found from here on was found from the start on
 abbrev pub Onward : Graph → List Frame → ℕ → (made lams : ℕ) → Graph → Type 0
 Onward g F fuel made lams h = (front : List Frame) (s : Subterm) → F ≡ front ++ framed s 0 ∷ [] →
@@ -65,9 +104,6 @@ less_one fuel made b = omega arith
 
 one_on : (made m : ℕ) → made + suc m ≡ made + 1 + m
 one_on made m = omega arith
-
-none_left : (fuel made : ℕ) → fuel ≤ made → fuel - made ≡ 0
-none_left fuel made b = omega arith
 
 pub started : (g : Graph) (F : List Frame) (fuel : ℕ) → Onward g F fuel 0 0 g
 started g F fuel front s z m a i r =
@@ -95,52 +131,15 @@ module _ (g h : Graph) (F : List Frame) (fuel made lams : ℕ) (o : Onward g F f
       let e : made + 0 ≡ made = omega arith in
       subst (λ c. Finds front s fuel 0 g c a h) e (o front s z 0 a h (d front s z))
 
-  module _ (within : made ≤ fuel) (few : length h.nodes ≤ length g.nodes + 4 * made) (free : h.free ≡ g.free)
-      (vs : List Level) where
-    lost : OfLast F (λ front s. Finds front s (fuel - made) lams h 0 no_head h) →
-        IsPartFound g h F fuel vs head.NoHead made
-    lost d = record {
-      finds = at_once no_head d;
-      within = within;
-      few = few;
-      free = free;
-      held = tt;
-      known = tt;
-    }
-
-    pub lost_spent : fuel ≤ made → (x : NodeId) → IsInPair h x →
-        OfLast F (λ front s. IsEndOf h s.port (asked s.levels lams) vs (code.Met x)) →
-        IsPartFound g h F fuel vs head.NoHead made
-    lost_spent b x p d = lost (λ front s q. subst (λ f. Finds front s f lams h 0 no_head h)
-        (sym (none_left fuel made b)) (go p.2.1 front s q))
-      where
-        at_pair : (y z : ℕ) → IsAtPair (net_of h) (slot x.0 0) y z p.0 →
-            OfLast F (λ front s. Finds front s 0 lams h 0 no_head h)
-        at_pair y z a front s q = spends ((d front s q).1 y z p.0 a)
-
-        go : IsActive (net_of h) x.0 p.2.0 p.0 ⊎ IsActive (net_of h) p.2.0 x.0 p.0 →
-            OfLast F (λ front s. Finds front s 0 lams h 0 no_head h)
-        go (inl a) = at_pair x.0 p.2.0 (record { active = a; principal = inl refl })
-        go (inr a) = at_pair p.2.0 x.0 (record { active = a; principal = inr refl })
-
-    pub lost_never : live (net_of h) ≤ lams →
-        OfLast F (λ front s. Ends (net_of h) s.port (asked s.levels lams) undefined) →
-        IsPartFound g h F fuel vs head.NoHead made
-    lost_never b d = lost (λ front s q. never (d front s q) b)
-
-    pub lost_long : OfLast F (λ front s. Ends (net_of h) s.port (asked s.levels lams) budget) →
-        IsPartFound g h F fuel vs head.NoHead made
-    lost_long d = lost (λ front s q. goes_on (d front s q))
-
-    pub found_left : (a : Head) (q : ℕ) (X : Context) →
-        OfLast F (λ front s. Ends (net_of h) s.port (asked s.levels lams) (left q X)) →
-        OfLast F (λ front s. IsMatched (front ++ framed s 0 ∷ []) (length front) lams q X (answer_of vs a)) →
-        IsHeldHead vs a → IsKnownHead h.free F a → IsPartFound g h F fuel vs a made
-    found_left a q X d m k w = record {
-      finds = at_once (answer_of vs a) (λ front s z. leaves (d front s z) (m front s z));
-      within = within;
-      few = few;
-      free = free;
-      held = k;
-      known = subst (λ n. IsKnownHead n F a) free w;
-    }
+  pub part_found : made ≤ fuel → length h.nodes ≤ length g.nodes + 4 * made → h.free ≡ g.free → (vs : List Level) →
+      (a : Head) → IsHeldHead vs a → IsKnownHead h.free F a →
+      OfLast F (λ front s. Finds front s (fuel - made) lams h 0 (answer_of vs a) h) →
+      IsPartFound g h F fuel vs a made
+  part_found within few free vs a held known d = record {
+    finds = at_once (answer_of vs a) d;
+    within = within;
+    few = few;
+    free = free;
+    held = held;
+    known = subst (λ n. IsKnownHead n F a) free known;
+  }

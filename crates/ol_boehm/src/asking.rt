@@ -10,7 +10,7 @@ ghost use Rattle.ol_readback.specs.Skipping.{AreParentsFirst};
 ghost use Rattle.ol_rules.specs.Steps.{StepsAt};
 ghost use Rattle.ol_boehm.specs.Parts.{HasDepth, IsLesser};
 ghost use Rattle.ol_boehm.specs.Chaining.{IsInPair};
-ghost use Rattle.ol_boehm.specs.Asking.{IsPartFound, HasRoom};
+ghost use Rattle.ol_boehm.specs.Asking.{HasRoom, IsPartFound, IsReply, KeepsUnlessFound};
 
 use crate::chaining::{End, end_of};
 use ol_context::Values;
@@ -60,6 +60,59 @@ fn lesser(a: u32, b: u32) -> u32
     if a <= b { a } else { b }
 }
 
+/// What comes of asking a part once.
+#[derive(Drop)]
+pub enum Reply {
+    /// The active pair that its chain met was rewritten.
+    Rewritten,
+    /// The chain broke off, and there are more abstractions to be asked for.
+    OneMore,
+    /// It is found to be this.
+    Found(Head),
+}
+
+// Asks the last of the frames once for so many abstractions. An active pair that its chain meets is
+// rewritten if a step is left.
+fn ask_once(
+    alloc: Global,
+    net: &mut Net,
+    values: &mut Values,
+    asked: &Asked<'_>,
+    lams: u32,
+    left: u32,
+) -> Result<Reply, NoMemory>
+    requires few { length net.old.nodes ≤ 2000000000 }
+    requires asked { IsLastAsked net.old.free values.old asked.now.frames.now.items
+        asked.now.skips.now.items asked.now.at }
+    ensures reply { IfOk result (IsReply net.old net.new
+        (frames_of values.old asked.now.frames.now.items) lams left values.new) }
+    ensures kept { IfOk result (KeepsUnlessFound values.old values.new) }
+    ensures extends { Extends values.old values.new }
+{
+    net.is_net();
+    let end = end_of(alloc, net, values, &asked.frames[asked.at as usize], lams)?;
+    match end {
+        End::Met(node) => {
+            if left == 0 {
+                return Ok(Reply::Found(Head::NoHead));
+            }
+            rewrite(net, node)?;
+            Ok(Reply::Rewritten)
+        }
+        End::Left { port, context } => {
+            let head = leave_by(alloc, values, asked, lams, port, &context)?;
+            Ok(Reply::Found(head))
+        }
+        End::Undefined => {
+            if lams >= net.nodes() {
+                return Ok(Reply::Found(Head::NoHead));
+            }
+            Ok(Reply::OneMore)
+        }
+        End::Budget => Ok(Reply::Found(Head::NoHead)),
+    }
+}
+
 // What the last of the frames is found to be within so many steps, and how many were made. The net
 // is what these leave.
 fn ask_part(
@@ -77,31 +130,14 @@ fn ask_part(
         values.new r.0 r.1) }
     ensures extends { Extends values.old values.new }
 {
-    let frame = &asked.frames[asked.at as usize];
     let mut lams: u32 = 0;
     let mut made: u32 = 0;
     loop {
-        net.is_net();
-        let end = end_of(alloc, net, values, frame, lams)?;
-        match end {
-            End::Met(node) => {
-                if made >= fuel {
-                    return Ok((Head::NoHead, made));
-                }
-                rewrite(net, node)?;
-                made += 1;
-            }
-            End::Left { port, context } => {
-                let head = leave_by(alloc, values, asked, lams, port, &context)?;
-                return Ok((head, made));
-            }
-            End::Undefined => {
-                if lams >= net.nodes() {
-                    return Ok((Head::NoHead, made));
-                }
-                lams += 1;
-            }
-            End::Budget => return Ok((Head::NoHead, made)),
+        let reply = ask_once(alloc, net, values, asked, lams, fuel - made)?;
+        match reply {
+            Reply::Rewritten => made += 1,
+            Reply::OneMore => lams += 1,
+            Reply::Found(head) => return Ok((head, made)),
         }
     }
 }

@@ -104,7 +104,7 @@ one_verdict t u NoStep NoStep f g = (λ m. refl, refl)
 
 -- ---- lines
 
-no_both : {line words : List ℕ} (t : Tree) (names : List (List ℕ)) → IsNoTermLine line words →
+pub no_both : {line words : List ℕ} (t : Tree) (names : List (List ℕ)) → IsNoTermLine line words →
     IsTermLine line t names → ⊥
 no_both t names (long l) is = let s = is.short in omega arith
 no_both t names (syntax_at s r) is = r.0 is.file.named is.file.text
@@ -119,7 +119,7 @@ no_both {line = line} t names (large {t = u} {names = others} s f h l) is =
     let w = is.within.0 in
     omega arith
 
-one_why : {line words others : List ℕ} → IsNoTermLine line words → IsNoTermLine line others → words ≡ others
+pub one_why : {line words others : List ℕ} → IsNoTermLine line words → IsNoTermLine line others → words ≡ others
 one_why (long l) (long k) = refl
 one_why (long l) (syntax_at s r) = absurd (omega arith)
 one_why (long l) (deep s d) = absurd (omega arith)

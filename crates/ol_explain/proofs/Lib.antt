@@ -17,3 +17,4 @@ pub mod Finds
 pub mod Lefts
 pub mod Below
 pub mod AsObject
+pub mod Pieces

@@ -1,5 +1,5 @@
 -- The weights after a run, found by a replay on a net whose ports have weights.
-use Rattle.std.proofs.Common.{◌≡◌, ℕ, suc, ◌+◌, max, Bool, true, false, List, [], ◌∷◌, ◌++◌, length, take, Option, None, Some, refl, sym, ap, ◌∙◌, subst, arith}
+use Rattle.std.proofs.Common.{◌≡◌, ℕ, suc, ◌+◌, max, Bool, true, false, List, [], ◌∷◌, ◌++◌, length, take, Option, None, Some, refl, ap, ◌∙◌, subst, arith}
 use Rattle.std.specs.Prelude.{slice_get, IfSome, IfNone}
 use Rattle.ol_net.specs.declared.parts.Rule.{Rule}
 use Rattle.ol_net.specs.Graph.{Graph}
@@ -7,7 +7,6 @@ use Rattle.ol_net.specs.Nets.{NamedNet, NamedPort, free, slot, IsNet, SameNet, n
 use Rattle.ol_net.specs.Numbered.{net_of}
 use Rattle.ol_rules.specs.declared.journal.NodeName.{NodeName}
 use Rattle.ol_rules.specs.declared.journal.Entry.{Entry}
-use Rattle.ol_rules.specs.Names.{comes_before}
 use Rattle.ol_rules.specs.Runs.{IsRun}
 use Rattle.ol_rules.specs.Runs as runs
 use Rattle.ol_rules.specs.UnderWay.{node_number}
@@ -33,7 +32,7 @@ use Rattle.ol_replay.specs.declared.replaying.Replay.{Replay}
 use Rattle.ol_replay.specs.Replays.{names_of, net_here, IsReplay}
 use Rattle.ol_replay.proofs.KeptRuns.{run_named}
 use Rattle.ol_explain.specs.declared.naming.Beside.{Beside}
-use Rattle.ol_explain.specs.Afters.{line_with, IsWeighedRun, ended, first, shown_text}
+use Rattle.ol_explain.specs.Afters.{IsWeighedRun, ended, first, shown_text}
 use Rattle.ol_explain.specs.Besides.{port_weight, weighted_by, beside_words, IsWeighed, IsBeside, IsShown}
 use Rattle.ol_explain.proofs.Joins.{step_at}
 

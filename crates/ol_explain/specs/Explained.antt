@@ -120,10 +120,10 @@ never_text (Init k) = codes "the net has no node " ++ decimal k
 never_text (Born ticket place) =
     codes "line " ++ decimal (ticket + 2) ++ codes " made no " ++ name_text (Born ticket place)
 
--- the name of a copy, and that the copies of its line are numbered otherwise
+-- the name of a copy, and that the copies of its line may be numbered otherwise
 abbrev pub copy_text : ℕ → ℕ → List ℕ
 copy_text ticket place = name_text (Born ticket place) ++ codes ": the copies of line "
-    ++ decimal (ticket + 2) ++ codes " are numbered otherwise"
+    ++ decimal (ticket + 2) ++ codes " may be numbered otherwise"
 
 -- by which line a link came, the first ones of the net or that of entry n, and what it weighs
 abbrev pub link_text : ℕ → ℕ → List ℕ

@@ -320,7 +320,7 @@ fn put_never(text: &mut String, name: NodeName) -> Result<(), NoMemory>
     }
 }
 
-// Appends the name of a copy, and that the copies of its line are numbered otherwise.
+// Appends the name of a copy, and that the copies of its line may be numbered otherwise.
 fn put_copy(text: &mut String, ticket: u32, place: u8) -> Result<(), NoMemory>
     ensures { OnOk result (string_bytes text.new
         ≡ string_bytes text.old ++ copy_text ticket place) }
@@ -328,7 +328,7 @@ fn put_copy(text: &mut String, ticket: u32, place: u8) -> Result<(), NoMemory>
     put_name(text, NodeName::Born { ticket, place })?;
     put(text, ": the copies of line ")?;
     put_long(text, ticket as u64 + 2)?;
-    put(text, " are numbered otherwise")
+    put(text, " may be numbered otherwise")
 }
 
 // Appends by which line a link came, and what it weighs.

@@ -11,8 +11,8 @@ use ol_subjects::{Answer, End, NetRead, Subject, read_subject};
 use ol_view::{Check, check};
 use std::alloc::Global;
 
-// The answer of these words and a number.
-fn line_of(alloc: Global, words: &str, number: u32, end: End) -> Result<Answer, NoMemory>
+/// The answer of these words and a number.
+pub fn line_of(alloc: Global, words: &str, number: u32, end: End) -> Result<Answer, NoMemory>
     ensures text { IfOk result (λ a. a.text.items ≡ line_with words.now number) }
     ensures end { IfOk result (λ a. a.end ≡ end) }
 {

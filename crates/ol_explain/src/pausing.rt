@@ -2,13 +2,14 @@
 
 ghost use Rattle.std.specs.Prelude.{◌≡◌, ◌+◌, ◌≤◌, length, IfOk};
 ghost use Rattle.ol_view.specs.Laws.{IsTable};
-ghost use Rattle.ol_explain.specs.Afters.{IsAfter, IsAfterOf, IsAfterWithWeights, IsPausedAnswer, line_with, shown_text};
+ghost use Rattle.ol_explain.specs.Afters.{IsAfter, IsAfterOf, IsAfterWithWeights, IsPausedAnswer, shown_text};
 ghost use Rattle.ol_explain.specs.Besides.{IsShown, beside_words};
 ghost use Rattle.ol_replay.specs.Replays.{IsReplay, names_of};
 ghost use Rattle.ol_subjects.specs.Subjects.{most_bytes};
 ghost use Rattle.ol_limits.specs.Limits.{most_fuel, most_nodes};
 
 use crate::following::{Stop, follow};
+use crate::judging::line_of;
 use crate::naming::{Beside, named_net};
 use crate::weighing::words_beside;
 use ol_memory::NoMemory;
@@ -16,19 +17,6 @@ use ol_net::Net;
 use ol_replay::Replay;
 use ol_subjects::{Answer, End, NetRead, Subject, put, put_number, read_subject};
 use std::alloc::Global;
-
-// The answer that there is nothing to show: these words and a number.
-fn nothing(alloc: Global, words: &str, number: u32) -> Result<Answer, NoMemory>
-    ensures text { IfOk result (λ a. a.text.items ≡ line_with words.now number) }
-    ensures end { IfOk result (λ a. a.end ≡ End.Nothing) }
-{
-    let mut text = Vec::new(alloc);
-    put(&mut text, words.as_bytes())?;
-    put_number(alloc, &mut text, number as u64)?;
-    put(&mut text, b"\n")?;
-    let end = End::Nothing;
-    Ok(Answer { text, end })
-}
 
 // The last net of a run, behind the number of its steps, and what stands beside its links.
 fn last_net(alloc: Global, replay: &Replay, beside: &Beside) -> Result<Vec<u8>, NoMemory>
@@ -77,7 +65,7 @@ fn of_net(
     let followed = follow(alloc, net, journal, lines - 1)?;
     match followed.stop {
         Stop::NoHeader => {
-            let answer = nothing(alloc, "bad text at line ", 1)?;
+            let answer = line_of(alloc, "bad text at line ", 1, End::Nothing)?;
             Ok(answer)
         }
         Stop::Good => {
@@ -86,17 +74,17 @@ fn of_net(
                 let answer = shown(alloc, net, &followed.replay, weights)?;
                 return Ok(answer);
             }
-            let answer = nothing(alloc, "the last line is line ", has)?;
+            let answer = line_of(alloc, "the last line is line ", has, End::Nothing)?;
             Ok(answer)
         }
         Stop::NoLine { .. } => {
             let line = followed.replay.run.journal.len() + 2;
-            let answer = nothing(alloc, "bad text at line ", line)?;
+            let answer = line_of(alloc, "bad text at line ", line, End::Nothing)?;
             Ok(answer)
         }
         Stop::Otherwise { .. } => {
             let bad = followed.replay.run.journal.len() + 2;
-            let answer = nothing(alloc, "not a run at line ", bad)?;
+            let answer = line_of(alloc, "not a run at line ", bad, End::Nothing)?;
             Ok(answer)
         }
     }

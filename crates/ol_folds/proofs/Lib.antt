@@ -5,3 +5,5 @@ pub mod Smaller
 pub mod Rows
 pub mod Passed
 pub mod Counting
+pub mod Complete
+pub mod LetsLeft

@@ -1,5 +1,5 @@
 -- Whether two trees are one.
-use Rattle.std.proofs.Common.{◌≡◌, ℕ, ◌==◌, Bool, true, false, ◌&&◌, refl, sym, ap, ◌∙◌, eqb-true, eq-eqb}
+use Rattle.std.proofs.Common.{◌≡◌, Bool, true, false, refl, sym, ap, ◌∙◌, eqb-true, eq-eqb}
 use Rattle.std.specs.Prelude.{◌↔◌}
 use Rattle.std.proofs.lemmas.Bool.{and_parts, and_from}
 use Rattle.ol_term.specs.Trees.{Tree, var, free, lam, app}
@@ -25,7 +25,7 @@ same_is (app f s) (app g t) h =
     let p = and_parts (is_same f g) (is_same s t) h in
     ap (λ (u : Tree). app u s) (same_is f g p.0) ∙ ap (λ (u : Tree). app g u) (same_is s t p.1)
 
-same_itself : (t : Tree) → is_same t t ≡ true
+pub same_itself : (t : Tree) → is_same t t ≡ true
 same_itself (var k) = eq-eqb k k refl
 same_itself (free k) = eq-eqb k k refl
 same_itself (lam t) = same_itself t

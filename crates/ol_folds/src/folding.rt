@@ -86,9 +86,10 @@ pub fn copy(alloc: Global, term: &Term) -> Result<Term, NoMemory>
     Ok(copy)
 }
 
-/// A term in which each part that is the value of a let is the let's name. Where it is that of
-/// several, the first one's name in the list is taken. The calls recurse as deep as the term is, and
-/// for each let. `NoMemory`: no memory was found.
+/// A term in which each abstraction or application that is the value of a let is the let's name. A
+/// variable or a free name stays what it is. If a part is the value of several, the first one's name
+/// in the list is taken. Parts of such a part aren't looked at. The calls recurse as deep as the
+/// term is, and for each let. `NoMemory`: no memory was found.
 pub fn fold(alloc: Global, lets: &Lets, term: &Term) -> Result<Term, NoMemory>
     ensures { IfOk result (λ t. tree_of t
         ≡ all_folded lets.now.first (trees_of lets.now.values.items) (tree_of term.now)) }
@@ -97,8 +98,9 @@ pub fn fold(alloc: Global, lets: &Lets, term: &Term) -> Result<Term, NoMemory>
     Ok(whole)
 }
 
-/// The same, but neither the application at an address nor what it stands in becomes a name.
-/// `NoMemory`: no memory was found.
+/// The same, if the address leads to an application, but neither this nor what it stands in becomes
+/// a name. Its function and its argument may. If the address ends at another part, this part stays
+/// as it is. `NoMemory`: no memory was found.
 pub fn fold_round(alloc: Global, lets: &Lets, term: &Term, at: &[u8]) -> Result<Term, NoMemory>
     ensures { IfOk result (λ t. tree_of t
         ≡ folded_round lets.now.first (trees_of lets.now.values.items) at.now

@@ -180,8 +180,9 @@ fn gather(
 /// The lets at the front of a term, of which there are `count` where the binders have these names,
 /// as far as the term behind them is one that steps are made from. Their names go behind the free
 /// names, the last let's first. A let counts if its value is closed, where those of the lets before
-/// it are put in, and if its name is no free name and no later let's. `NoMemory`: no memory was
-/// found.
+/// it are put in, and if its name is no free name and no later let's. The binders are meant to have
+/// the shape of the term (`Fits`). No clause needs it, but if they haven't, a name may stand for
+/// another part of the term. `NoMemory`: no memory was found.
 pub fn lets_of(
     alloc: Global,
     names: &mut Names,

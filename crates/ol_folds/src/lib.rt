@@ -13,5 +13,7 @@ mod lets;
 
 pub use folding::{fold, fold_round, prune};
 pub use fronts::front_lets;
-pub use laws::{folded_fits, lets_differ, no_lets_no_change, unfolded_is_term};
+pub use laws::{
+    folded_fits, lets_are_left, lets_differ, no_lets_no_change, nothing_is_left, unfolded_is_term,
+};
 pub use lets::{Lets, is_let_at, lets_of};

@@ -2,3 +2,9 @@ pub mod Spelled
 pub mod Walks
 pub mod Said
 pub mod Wholes
+pub mod Alone
+pub mod Bounded
+pub mod Commas
+pub mod Differing
+pub mod Twice
+pub mod OneAnswer

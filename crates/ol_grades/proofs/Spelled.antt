@@ -94,28 +94,38 @@ pub record IsTextOf (function line : List ℕ) : Type 0 where
   pub text : IsText (text_of function line) whole
   pub applied : IsApplied function line (number whole) (names_of whole)
 
-pub has_text : (function line : List ℕ) (f l : Named) → IsText function f → IsText line l → IsTextOf function line
-has_text function line f l p q =
-    let ks = p.tokens in
-    let js = q.tokens in
-    let h = applies (atom_brackets p.term) q.term in
-    let tokens : (open_bracket ∷ ks ++ (close_bracket ∷ [])) ++ js ≡ open_bracket ∷ (ks ++ (close_bracket ∷ js)) =
-    ap (λ x. open_bracket ∷ x) (append_assoc ks (close_bracket ∷ []) js) in
+-- the tokens of the application, in its text
+abbrev tokens_of : (function line : List Token) → List Token
+tokens_of function line = open_bracket ∷ (function ++ (close_bracket ∷ line))
+
+spelled_of : (function line : List ℕ) (ks js : List Token) → Spells false ks function → Spells false js line →
+    Spells false (tokens_of ks js) (text_of function line)
+spelled_of function line ks js p q =
     let bytes : 40 ∷ (function ++ (10 ∷ (41 ∷ (32 ∷ line)))) ≡ text_of function line =
     sym (append_assoc (40 ∷ function) (10 ∷ (41 ∷ (32 ∷ []))) line) in
-    let spelled : Spells false (open_bracket ∷ (ks ++ (close_bracket ∷ js))) (40 ∷ (function ++ (10 ∷ (41 ∷ (32 ∷ line))))) =
-    spells_one gap_none (λ e _. clash e) open_token (closed p.spelled (spaced space q.spelled)) in
+    let spelled : Spells false (tokens_of ks js) (40 ∷ (function ++ (10 ∷ (41 ∷ (32 ∷ line))))) =
+    spells_one gap_none (λ e _. clash e) open_token (closed p (spaced space q)) in
+    subst (Spells false (tokens_of ks js)) bytes spelled
+
+bracketed : (ks js : List Token) (t : Named) → IsTerm ((open_bracket ∷ ks ++ (close_bracket ∷ [])) ++ js) t →
+    IsTerm (tokens_of ks js) t
+bracketed ks js t h =
+    subst (λ x. IsTerm x t) (ap (λ x. open_bracket ∷ x) (append_assoc ks (close_bracket ∷ []) js)) h
+
+pub has_text : (function line : List ℕ) (f l : Named) → IsText function f → IsText line l → IsTextOf function line
+has_text function line f l p q =
+    let h = applies (atom_brackets p.term) q.term in
     record {
       whole = h.0;
       text = record {
-        tokens = open_bracket ∷ (ks ++ (close_bracket ∷ js));
-        spelled = subst (Spells false (open_bracket ∷ (ks ++ (close_bracket ∷ js)))) bytes spelled;
-        term = subst (λ x. IsTerm x h.0) tokens h.2;
+        tokens = tokens_of p.tokens q.tokens;
+        spelled = spelled_of function line p.tokens q.tokens p.spelled q.spelled;
+        term = bracketed p.tokens q.tokens h.0 h.2;
       };
       applied = record {
         of = f;
         text = p;
-        tokens = js;
+        tokens = q.tokens;
         spelled = q.spelled;
         whole = h.0;
         applied = h.1;
@@ -123,6 +133,31 @@ has_text function line f l p q =
         free_names = refl;
       };
     }
+
+-- and each term that is the function applied to the line's arguments is one of that text
+to_spine : {a : List Token} {f : Named} {b : List Token} {t : Named} → IsAtom a f → ToAtoms f b t → IsSpine (a ++ b) t
+to_spine i (one j) = spine_more (spine_one i) j
+to_spine {a = a} i (more {a = b} {b = c} {g = g} {t = t} h j) =
+    subst (λ ks. IsSpine ks (app g t)) (append_assoc a b c) (spine_more (to_spine i h) j)
+
+to_term : {a : List Token} {f : Named} {b : List Token} {t : Named} → IsAtom a f → ToArguments f b t → IsTerm (a ++ b) t
+to_term i (atoms h) = term_spine (to_spine i h)
+to_term i (body j) = term_both (spine_one i) j
+to_term {a = a} i (both {a = b} {b = c} {g = g} {t = t} h j) =
+    subst (λ ks. IsTerm ks (app g t)) (append_assoc a b c) (term_both (to_spine i h) j)
+
+pub application_file : {function line : List ℕ} {t : Tree} {names : List (List ℕ)} → IsApplied function line t names →
+    IsFileOf (text_of function line) t names
+application_file {function} {line} h = record {
+  named = h.whole;
+  text = record {
+    tokens = tokens_of h.text.tokens h.tokens;
+    spelled = spelled_of function line h.text.tokens h.tokens h.text.spelled h.spelled;
+    term = bracketed h.text.tokens h.tokens h.whole (to_term (atom_brackets h.text.term) h.applied);
+  };
+  tree = h.tree;
+  free_names = h.free_names;
+}
 
 -- so what that text reads as is the application
 pub is_applied : (function line : List ℕ) (t : Tree) (names : List (List ℕ)) → IsTextOf function line →

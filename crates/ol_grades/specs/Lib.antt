@@ -2,5 +2,6 @@
 pub mod Applied
 pub mod Reads
 pub mod Grades
+pub mod Laws
 -- What only contracts of private functions and proofs cite.
 pub mod Inside

@@ -36,6 +36,9 @@ token_lacks c out w (token_word {b = b} {w = bs} e i) = (
   word_lacks c out bs i,
 )
 
+pub name_lacks : (c : ℕ) → in_word (class_of c) ≡ false → (x : List ℕ) → IsName x → Lacks c x
+name_lacks c out x i = token_lacks c out refl i
+
 -- no name has a blank, a dot or a backslash
 pub record IsPlain (x : List ℕ) : Type 0 where
   pub blank : Lacks 32 x
@@ -56,9 +59,9 @@ slash_out = refl
 
 pub name_is_plain : (x : List ℕ) → IsName x → IsPlain x
 name_is_plain x i = record {
-  blank = token_lacks 32 blank_out refl i;
-  dot = token_lacks 46 dot_out refl i;
-  slash = token_lacks 92 slash_out refl i;
+  blank = name_lacks 32 blank_out x i;
+  dot = name_lacks 46 dot_out x i;
+  slash = name_lacks 92 slash_out x i;
 }
 
 pub free_is_plain : (names : List (List ℕ)) (k : ℕ) → AreNames names → IsPlain (slice_index_or names k [])

@@ -108,8 +108,10 @@ mark_is_under t at l =
     let r = stands false l in
     let p = part_is l in
     record {
+      before = text_before false t at;
       after = r.0;
       each = r.1;
+      carets = refl;
       itself = sym (ap (λ (u : Named). named_text false u) (itself l))
           ∙ ap (λ (u : Named). named_text false (replaced t at u)) p.2
           ∙ r.1 p.0 p.1

@@ -1,10 +1,11 @@
 //! Traces of small terms, whole and broken, and nets after some leads.
 
-ghost use Rattle.std.specs.Prelude.{◌≤◌};
+ghost use Rattle.std.specs.Prelude.{◌≤◌, length};
 
 use crate::small_nets::{Small, net_of};
+use ol_net::Net;
 use ol_rules::run;
-use ol_view::{after, check, show, trace_text};
+use ol_view::{Check, Checker, after, check, show, trace_text};
 use std::alloc::Global;
 use std::test::Fail;
 
@@ -38,10 +39,27 @@ fn traces_runs_and_shows_nets(rt: HostRuntime) -> Result<(), Fail> {
     Ok(())
 }
 
-/// What a text is found to be, against the net of (\x. x) (\y. y).
+/// What is found of a text that is fed byte by byte.
+fn found_by_bytes(alloc: Global, net: &Net, text: &[u8]) -> Result<Check, Fail>
+    requires { length net.now.nodes ≤ 100 }
+{
+    let mut checker = Checker::new(alloc, net)?;
+    for at in 0..text.len() {
+        if let Some(found) = checker.feed(&text[at..at + 1])? {
+            return Ok(found);
+        }
+    }
+    Ok(checker.finish())
+}
+
+/// What a text is found to be, whole and byte by byte, against the net of (\x. x) (\y. y).
 pub fn found(alloc: Global, text: &str) -> Result<String, Fail> {
     let net = net_of(alloc, Small::Once)?;
     let found = check(alloc, &net, text.as_bytes())?;
+    let fed = found_by_bytes(alloc, &net, text.as_bytes())?;
+    if fed != found {
+        return Err(Fail::from("it is found otherwise byte by byte"));
+    }
     Ok(format!(in alloc; "{found:?}")?)
 }
 
@@ -50,8 +68,7 @@ pub fn found(alloc: Global, text: &str) -> Result<String, Fail> {
 /// way round.
 #[test]
 fn finds_runs_and_bad_lines(rt: HostRuntime) -> Result<(), Fail> {
-    let rows = str::from_utf8(
-        b"Complete|ol trace 1\n0 1\n2 3\n4 1.1\n1.0 2.0\n;\
+    let rows = str::from_utf8(b"Complete|ol trace 1\n0 1\n2 3\n4 1.1\n1.0 2.0\n;\
         Run { k: 0 }|ol trace 1\n;\
         Run { k: 2 }|ol trace 1\n0 1\n2 3\n;\
         NotARun { line: 2 }|ol trace 1\n2 3\n;\
@@ -91,8 +108,7 @@ fn finds_runs_and_bad_lines(rt: HostRuntime) -> Result<(), Fail> {
         BadText { line: 2 }|ol trace 1\n3 2\n2 3\n;\
         BadText { line: 3 }|ol trace 1\n0 1\n3 2\n4 1.1\n1.0 2.0\n;\
         BadText { line: 3 }|ol trace 1\n0 1\n\n"
-            .as_slice(),
-    )
+        .as_slice())
     .ok()
     .ok_or("rows")?;
     for row in rows.split(';') {

@@ -88,7 +88,14 @@ fn written(alloc: Global, room: usize, failing: u64) -> Result<String, Fail>
 #[test]
 fn writes_whole_texts(rt: HostRuntime) -> Result<(), Fail> {
     let mut text = String::new(rt.alloc());
-    for (room, failing) in [(1024, 99), (10, 4), (1024, 0), (1024, 1), (1024, 3), (8, 99)] {
+    for (room, failing) in [
+        (1024, 99),
+        (10, 4),
+        (1024, 0),
+        (1024, 1),
+        (1024, 3),
+        (8, 99),
+    ] {
         let written = written(rt.alloc(), room, failing)?;
         text.push_str(&written)?;
     }
@@ -121,7 +128,10 @@ fn adapters_read_a_file_and_write(rt: HostRuntime) -> Result<(), Fail> {
     let gone = read_by_std(&rt, alloc, 6)?;
     let written = write_all(&mut StdSink::new(&rt), b"written\n");
     let told = format!(in alloc; "{whole} {short} {gone} {written:?}")?;
-    assert!(rt; told.as_bytes() == b"a file TooLong Fault All".as_slice(), "{told}");
+    assert!(rt;
+        told.as_bytes() == b"a file TooLong Fault All".as_slice(),
+        "{told}"
+    );
     Ok(())
 }
 

@@ -6,3 +6,8 @@ pub mod Words
 pub mod WeakHeads
 pub mod Returns
 pub mod Showable
+pub mod OneWalk
+pub mod LastLines
+pub mod Outcomes
+pub mod Unchanged
+pub mod Unfoldings

@@ -1,10 +1,11 @@
 -- The carets stand under the redex that comes next.
-use Rattle.std.proofs.Common.{◌≡◌, ℕ, zero, suc, ◌+◌, Bool, true, false, List, [], ◌∷◌, ◌++◌, take, codes, Option, Some, None, IsSome}
-use Rattle.std.proofs.Common.{refl, sym, ap, subst, eqb-true}
-use Rattle.std.specs.Prelude.{◌==◌, if◌then◌else◌, slice_get}
+use Rattle.std.proofs.Common.{◌≡◌, ℕ, zero, suc, ◌+◌, ◌-◌, ◌<◌, Bool, true, false, List, [], ◌∷◌, ◌++◌, take, codes, length}
+use Rattle.std.proofs.Common.{Option, Some, None, IsSome, refl, sym, ap, ◌∙◌, subst, eqb-true, arith}
+use Rattle.std.specs.Prelude.{◌==◌, if◌then◌else◌, slice_get, slice_index_or}
 use Rattle.std.specs.Option.{option_map}
+use Rattle.std.proofs.lemmas.Bool.{and_parts}
 use Rattle.ol_term.specs.Trees as tree
-use Rattle.ol_term.specs.Trees.{Tree}
+use Rattle.ol_term.specs.Trees.{Tree, is_named_below}
 use Rattle.ol_parse.specs.Grammar.{Named, var, lam, app}
 use Rattle.ol_beta.specs.Beta.{contracted, applied}
 use Rattle.ol_strategies.proofs.Nexts.{next_is_redex}
@@ -16,9 +17,14 @@ use Rattle.ol_named.proofs.MarksUnder.{mark_is_under}
 use Rattle.ol_binders.specs.Binders as binders
 use Rattle.ol_binders.specs.Binders.{Binders, Fits}
 use Rattle.ol_binders.specs.Naming as own
-use Rattle.ol_strategies.specs.declared.orders.Order.{Order}
-use Rattle.ol_steps.specs.Steps.{shown_term}
-use Rattle.ol_steps.specs.Laws.{IsRedex, MarksRedex, RedexIsMarked}
+use Rattle.ol_folds.specs.Folded.{value_at, or_name, all_folded, folded_round, folded_at, pruned}
+use Rattle.ol_folds.specs.Laws.{unfolded}
+use Rattle.ol_folds.proofs.Values.{leads_to}
+use Rattle.ol_folds.proofs.Unfolding.{unfolded_is_term, no_value_no_change, folded_fits}
+use Rattle.ol_steps.specs.declared.stepping.Shown.{Shown}
+use Rattle.ol_steps.specs.Steps.{Glossary, shown_term}
+use Rattle.ol_steps.specs.Laws.{IsRedex, MarksRedex, RedexIsMarked, StandsForAbstraction, IsFoldedRedex, FoldedRedexIsMarked}
+use Rattle.ol_steps.specs.Laws.{subterm_at, HasRedexAt, UnfoldsToNext, IsShownFor, PartIsSubterm}
 
 -- one move more
 pub take_on : (ms : List ℕ) (k m : ℕ) → slice_get ms k ≡ Some m → take (suc k) ms ≡ take k ms ++ m ∷ []
@@ -26,98 +32,166 @@ take_on [] k m h = absurd (cc)
 take_on (d ∷ ms) zero m h = let is : d ≡ m = cc in ap (λ (x : ℕ). x ∷ []) is
 take_on (d ∷ ms) (suc k) m h = ap (λ (bs : List ℕ). d ∷ bs) (take_on ms k m h)
 
--- an address leads to a redex
-abbrev Leads : Named → List ℕ → Type 0
-Leads u at = LeadsToApplication u at × IsRedex (part u at)
-
-under : {x : List ℕ} {t : Named} {at : List ℕ} (m : ℕ) → m ≡ 0 → Leads t at → Leads (lam x t) (m ∷ at)
-under {x} {t} {at} m e h = subst (λ (k : ℕ). Leads (lam x t) (k ∷ at)) (sym e) (into_body h.0, h.1)
-
-left : {f a : Named} {at : List ℕ} (m : ℕ) → m ≡ 1 → Leads f at → Leads (app f a) (m ∷ at)
-left {f} {a} {at} m e h = subst (λ (k : ℕ). Leads (app f a) (k ∷ at)) (sym e) (into_function h.0, h.1)
-
-right : {f a : Named} {at : List ℕ} (m : ℕ) → m ≡ 2 → Leads a at → Leads (app f a) (m ∷ at)
-right {f} {a} {at} m e h = subst (λ (k : ℕ). Leads (app f a) (k ∷ at)) (sym e) (into_argument h.0, h.1)
-
 map_some : (f : Tree → Tree) (o : Option Tree) → IsSome (option_map f o) → IsSome o
 map_some f None h = absurd (cc)
 map_some f (Some u) h = refl
 
--- a term with names has the shape of a tree
-abbrev Shapes : Tree → Named → Type 0
-Shapes (tree.var k) (var x) = Unit {0}
-Shapes (tree.free k) (var x) = Unit {0}
-Shapes (tree.lam t) (lam x u) = Shapes t u
-Shapes (tree.app f a) (app g b) = Shapes f g × Shapes a b
-Shapes _ _ = ⊥
+-- ---- a term with names is shown for a tree
 
-lettered_shapes : (names : List (List ℕ)) (n : ℕ) (t : Tree) → Shapes t (lettered names n t)
-lettered_shapes names n (tree.var k) = tt
-lettered_shapes names n (tree.free k) = tt
-lettered_shapes names n (tree.lam t) = lettered_shapes names (n + 1) t
-lettered_shapes names n (tree.app f a) = (lettered_shapes names n f, lettered_shapes names n a)
+abbrev Shows : List (List ℕ) → Tree → Named → Type 0
+Shows names (tree.var k) (var x) = Unit {0}
+Shows names (tree.free k) (var x) = x ≡ slice_index_or names k []
+Shows names (tree.lam t) (lam x u) = Shows names t u
+Shows names (tree.app f a) (app g b) = Shows names f g × Shows names a b
+Shows names _ _ = ⊥
 
-named_shapes : (names round : List (List ℕ)) (t : Tree) (s : Binders) → Fits t s → Shapes t (own.named names round t s)
-named_shapes names round (tree.var k) s h = tt
-named_shapes names round (tree.free k) s h = tt
-named_shapes names round (tree.lam t) binders.leaf h = absurd h
-named_shapes names round (tree.lam t) (binders.lam x s) h =
-    named_shapes names (own.primed (own.used 1 names round t) x ∷ round) t s h
-named_shapes names round (tree.lam t) (binders.app r s) h = absurd h
-named_shapes names round (tree.app f a) binders.leaf h = absurd h
-named_shapes names round (tree.app f a) (binders.lam x s) h = absurd h
-named_shapes names round (tree.app f a) (binders.app r s) h =
-    (named_shapes names round f r h.0, named_shapes names round a s h.1)
+lettered_shows : (names : List (List ℕ)) (n : ℕ) (t : Tree) → Shows names t (lettered names n t)
+lettered_shows names n (tree.var k) = tt
+lettered_shows names n (tree.free k) = refl
+lettered_shows names n (tree.lam t) = lettered_shows names (n + 1) t
+lettered_shows names n (tree.app f a) = (lettered_shows names n f, lettered_shows names n a)
 
--- a redex at the root
-root : (f : Tree) (g b : Named) (c : Tree) → Shapes f g → IsSome (applied f c) → Leads (app g b) []
-root (tree.var k) g b c s h = absurd (cc)
-root (tree.free k) g b c s h = absurd (cc)
-root (tree.lam t) (var x) b c s h = absurd s
-root (tree.lam t) (lam x u) b c s h = (here, (x, u, b, refl))
-root (tree.lam t) (app f g) b c s h = absurd s
-root (tree.app f g) u b c s h = absurd (cc)
+named_shows : (names round : List (List ℕ)) (t : Tree) (s : Binders) → Fits t s → Shows names t (own.named names round t s)
+named_shows names round (tree.var k) s h = tt
+named_shows names round (tree.free k) s h = refl
+named_shows names round (tree.lam t) binders.leaf h = absurd h
+named_shows names round (tree.lam t) (binders.lam x s) h =
+    named_shows names (own.primed (own.used 1 names round t) x ∷ round) t s h
+named_shows names round (tree.lam t) (binders.app r s) h = absurd h
+named_shows names round (tree.app f a) binders.leaf h = absurd h
+named_shows names round (tree.app f a) (binders.lam x s) h = absurd h
+named_shows names round (tree.app f a) (binders.app r s) h =
+    (named_shows names round f r h.0, named_shows names round a s h.1)
 
-body : (b : Bool) (m : ℕ) → (m == 0) ≡ b → (x : List ℕ) (u : Named) (at : List ℕ) (o : Option Tree) →
-    (IsSome o → Leads u at) → IsSome (if b then option_map tree.lam o else None) → Leads (lam x u) (m ∷ at)
-body true m e x u at o more h = under m (eqb-true m 0 e) (more (map_some tree.lam o h))
-body false m e x u at o more h = absurd (cc)
+-- ---- an address leads to an application of which something holds
 
-argument : (b : Bool) (m : ℕ) → (m == 2) ≡ b → (f : Tree) (g u : Named) (at : List ℕ) (o : Option Tree) →
-    (IsSome o → Leads u at) → IsSome (if b then option_map (tree.app f) o else None) → Leads (app g u) (m ∷ at)
-argument true m e f g u at o more h = right m (eqb-true m 2 e) (more (map_some (tree.app f) o h))
-argument false m e f g u at o more h = absurd (cc)
+abbrev Leads : (Named → Type 0) → Named → List ℕ → Type 0
+Leads R u at = LeadsToApplication u at × R (part u at)
 
-parts : (b : Bool) (m : ℕ) → (m == 1) ≡ b → (f a : Tree) (g u : Named) (at : List ℕ) (o q : Option Tree) →
-    (IsSome o → Leads g at) → (IsSome q → Leads u at) →
-    IsSome (if b then option_map (λ t. tree.app t a) o else if m == 2 then option_map (tree.app f) q else None) →
-    Leads (app g u) (m ∷ at)
-parts true m e f a g u at o q more rest h =
-    left m (eqb-true m 1 e) (more (map_some (λ (t : Tree). tree.app t a) o h))
-parts false m e f a g u at o q more rest h = argument (m == 2) m refl f g u at q rest h
+under : (R : Named → Type 0) (x : List ℕ) (t : Named) (at : List ℕ) (m : ℕ) → m ≡ 0 → Leads R t at →
+    Leads R (lam x t) (m ∷ at)
+under R x t at m e h = subst (λ (k : ℕ). Leads R (lam x t) (k ∷ at)) (sym e) (into_body h.0, h.1)
 
-leads : (t : Tree) (u : Named) (at : List ℕ) → Shapes t u → IsSome (contracted t at) → Leads u at
-leads (tree.var k) u at s h = absurd (cc)
-leads (tree.free k) u at s h = absurd (cc)
-leads (tree.lam t) u [] s h = absurd (cc)
-leads (tree.lam t) (var x) (m ∷ at) s h = absurd s
-leads (tree.lam t) (lam x u) (m ∷ at) s h =
-    body (m == 0) m refl x u at (contracted t at) (λ i. leads t u at s i) h
-leads (tree.lam t) (app g u) (m ∷ at) s h = absurd s
-leads (tree.app f a) (var x) at s h = absurd s
-leads (tree.app f a) (lam x u) at s h = absurd s
-leads (tree.app f a) (app g u) [] s h = root f g u a s.0 h
-leads (tree.app f a) (app g u) (m ∷ at) s h =
-    parts (m == 1) m refl f a g u at (contracted f at) (contracted a at) (λ i. leads f g at s.0 i)
-    (λ i. leads a u at s.1 i) h
+left : (R : Named → Type 0) (f a : Named) (at : List ℕ) (m : ℕ) → m ≡ 1 → Leads R f at → Leads R (app f a) (m ∷ at)
+left R f a at m e h = subst (λ (k : ℕ). Leads R (app f a) (k ∷ at)) (sym e) (into_function h.0, h.1)
 
-marked : (named : Bool) (names : List (List ℕ)) (t : Tree) (s : Binders) (at : List ℕ) → (named ≡ true → Fits t s) →
-    IsSome (contracted t at) → MarksRedex named names t s at (shown_term named names t s)
-marked true names t s at fits h =
-    let l = leads t (own.named names [] t s) at (named_shapes names [] t s (fits refl)) h in
+right : (R : Named → Type 0) (f a : Named) (at : List ℕ) (m : ℕ) → m ≡ 2 → Leads R a at → Leads R (app f a) (m ∷ at)
+right R f a at m e h = subst (λ (k : ℕ). Leads R (app f a) (k ∷ at)) (sym e) (into_argument h.0, h.1)
+
+-- ---- that of a redex does, where a tree is folded round it
+
+got_value : (vs : List Tree) (i : ℕ) (t : Tree) → i < length vs → slice_index_or vs i t ≡ t → slice_get vs i ≡ Some t
+got_value [] i t l e = absurd (omega (arith, l))
+got_value (v ∷ vs) zero t l e = ap (λ (u : Tree). Some u) e
+got_value (v ∷ vs) (suc i) t l e = got_value vs i t (omega (arith, l)) e
+
+module _ (g : Glossary) where
+  -- the function of the redex
+  function : (b : Tree) (o : Option ℕ) → value_at g.first g.values (tree.lam b) ≡ o → (f : Named) →
+      Shows g.names (or_name o (tree.lam (all_folded g.first g.values b))) f → StandsForAbstraction g f
+  function b None e (var x) s = absurd s
+  function b None e (lam x u) s = tt
+  function b None e (app f a) s = absurd s
+  function b (Some k) e (var x) s =
+      let l = leads_to g.first g.values (tree.lam b) k e in
+      let from = l.from in
+      let within = l.within in
+      let i : k ≡ g.first + (k - g.first) = omega (arith, from) in (
+        k - g.first,
+        b,
+        got_value g.values (k - g.first) (tree.lam b) (omega (arith, from, within)) (l.value (tree.lam b)),
+        s ∙ ap (λ (j : ℕ). slice_index_or g.names j []) i,
+      )
+  function b (Some k) e (lam x u) s = absurd s
+  function b (Some k) e (app f a) s = absurd s
+
+  root : (f c : Tree) (w : Named) →
+      Shows g.names (tree.app (all_folded g.first g.values f) (all_folded g.first g.values c)) w → IsSome (applied f c) →
+      Leads (IsFoldedRedex g) w []
+  root (tree.var k) c w s h = absurd (cc)
+  root (tree.free k) c w s h = absurd (cc)
+  root (tree.lam b) c (var x) s h = absurd s
+  root (tree.lam b) c (lam x u) s h = absurd s
+  root (tree.lam b) c (app f a) s h =
+      (here, (f, a, refl, function b (value_at g.first g.values (tree.lam b)) refl f s.0))
+  root (tree.app f a) c w s h = absurd (cc)
+
+  abbrev Found : Tree → Option Tree → List ℕ → Type 0
+  Found x o at = (w : Named) → Shows g.names x w → IsSome o → Leads (IsFoldedRedex g) w at
+
+  body : (b : Bool) (m : ℕ) → (m == 0) ≡ b → (x : Tree) (w : Named) (at : List ℕ) (o : Option Tree) → Found x o at →
+      Shows g.names (tree.lam x) w → IsSome (if b then option_map tree.lam o else None) →
+      Leads (IsFoldedRedex g) w (m ∷ at)
+  body b m e x (var y) at o more s h = absurd s
+  body true m e x (lam y u) at o more s h =
+      under (IsFoldedRedex g) y u at m (eqb-true m 0 e) (more u s (map_some tree.lam o h))
+  body false m e x (lam y u) at o more s h = absurd (cc)
+  body b m e x (app u v) at o more s h = absurd s
+
+  argument : (b : Bool) (m : ℕ) → (m == 2) ≡ b → (f y z : Tree) (w : Named) (at : List ℕ) (o : Option Tree) →
+      Found z o at → Shows g.names (tree.app y z) w → IsSome (if b then option_map (tree.app f) o else None) →
+      Leads (IsFoldedRedex g) w (m ∷ at)
+  argument b m e f y z (var x) at o more s h = absurd s
+  argument b m e f y z (lam x u) at o more s h = absurd s
+  argument true m e f y z (app u v) at o more s h =
+      right (IsFoldedRedex g) u v at m (eqb-true m 2 e) (more v s.1 (map_some (tree.app f) o h))
+  argument false m e f y z (app u v) at o more s h = absurd (cc)
+
+  function_part : (a : Tree) (m : ℕ) → m ≡ 1 → (x z : Tree) (w : Named) (at : List ℕ) (o : Option Tree) → Found x o at →
+      Shows g.names (tree.app x z) w → IsSome (option_map (λ t. tree.app t a) o) → Leads (IsFoldedRedex g) w (m ∷ at)
+  function_part a m e x z (var y) at o more s h = absurd s
+  function_part a m e x z (lam y u) at o more s h = absurd s
+  function_part a m e x z (app u v) at o more s h =
+      left (IsFoldedRedex g) u v at m e (more u s.0 (map_some (λ (t : Tree). tree.app t a) o h))
+
+  -- each part of an application, where x and y are the two folded round what is at the address, and w and z without
+  parts : (b : Bool) (m : ℕ) → (m == 1) ≡ b → (f a x z y v : Tree) (w : Named) (at : List ℕ) (o q : Option Tree) →
+      Found x o at → Found v q at → Shows g.names (if b then tree.app x z else tree.app y v) w →
+      IsSome (if b then option_map (λ t. tree.app t a) o else if m == 2 then option_map (tree.app f) q else None) →
+      Leads (IsFoldedRedex g) w (m ∷ at)
+  parts true m e f a x z y v w at o q more rest s h = function_part a m (eqb-true m 1 e) x z w at o more s h
+  parts false m e f a x z y v w at o q more rest s h = argument (m == 2) m refl f y v w at q rest s h
+
+  leads : (t : Tree) (at : List ℕ) (w : Named) → Shows g.names (folded_round g.first g.values at t) w →
+      IsSome (contracted t at) → Leads (IsFoldedRedex g) w at
+  leads (tree.var k) at w s h = absurd (cc)
+  leads (tree.free k) at w s h = absurd (cc)
+  leads (tree.lam t) [] w s h = absurd (cc)
+  leads (tree.lam t) (m ∷ at) w s h =
+      body (m == 0) m refl (folded_round g.first g.values at t) w at (contracted t at) (leads t at) s h
+  leads (tree.app f a) [] w s h = root f a w s h
+  leads (tree.app f a) (m ∷ at) w s h =
+      parts (m == 1) m refl f a (folded_round g.first g.values at f) (all_folded g.first g.values a)
+      (all_folded g.first g.values f) (folded_round g.first g.values at a) w at (contracted f at) (contracted a at)
+      (leads f at) (leads a at) s h
+
+-- ---- where it isn't folded
+
+abbrev without_lets : List (List ℕ) → Glossary
+without_lets names = record { names = names; first = 0; values = [] }
+
+is_redex : (names : List (List ℕ)) (u f a : Named) → u ≡ app f a → StandsForAbstraction (without_lets names) f → IsRedex u
+is_redex names u (var x) a e h = let none = h.2 in absurd (cc)
+is_redex names u (lam x t) a e h = (x, t, a, e)
+is_redex names u (app f c) a e h = absurd h
+
+plain : (names : List (List ℕ)) (t : Tree) (at : List ℕ) → IsSome (contracted t at) → (u : Named) → Shows names t u →
+    Leads IsRedex u at
+plain names t at h u s =
+    let l = leads (without_lets names) t at u
+    (subst (λ (x : Tree). Shows names x u) (sym (no_value_no_change 0 (Some at) t)) s) h in
+    (l.0, is_redex names (part u at) l.1.0 l.1.1 l.1.2 l.1.3)
+
+-- ---- what is marked
+
+marked : (R : Named → Type 0) (named : Bool) (names : List (List ℕ)) (t : Tree) (s : Binders) (at : List ℕ) →
+    (named ≡ true → Fits t s) → ((u : Named) → Shows names t u → Leads R u at) →
+    MarksRedex R named names t s at (shown_term named names t s)
+marked R true names t s at fits each =
+    let l = each (own.named names [] t s) (named_shows names [] t s (fits refl)) in
     record { line = refl; redex = l.1; marked = mark_is_under (own.named names [] t s) at l.0 }
-marked false names t s at fits h =
-    let l = leads t (lettered names 0 t) at (lettered_shapes names 0 t) h in
+marked R false names t s at fits each =
+    let l = each (lettered names 0 t) (lettered_shows names 0 t) in
     record {
       line = ap (λ (x : List ℕ). x ++ codes "\n") (sym (lettered_text names false 0 t));
       redex = l.1;
@@ -125,4 +199,128 @@ marked false names t s at fits h =
     }
 
 pub redex_is_marked : RedexIsMarked
-redex_is_marked order named names t s at fits e = marked named names t s at fits (next_is_redex order t at e)
+redex_is_marked order named names t s at fits e =
+    marked IsRedex named names t s at fits (plain names t at (next_is_redex order t at e))
+
+abbrev FoldedMarks : Shown → Glossary → Binders → List ℕ → Tree → Type 0
+FoldedMarks how g s at x =
+    MarksRedex (IsFoldedRedex g) how.named g.names x (pruned x s) at (shown_term how.named g.names x (pruned x s))
+
+pub folded_redex_is_marked : FoldedRedexIsMarked
+folded_redex_is_marked how g t s at fits e =
+    let x = folded_at g.first g.values (Some at) t in
+    subst (λ (o : Option (List ℕ)). FoldedMarks how g s at (folded_at g.first g.values o t)) (sym e)
+    (marked (IsFoldedRedex g) how.named g.names x (pruned x s) at
+    (λ is. folded_fits g.first g.values (Some at) t s (fits is))
+    (λ u shows. leads g t at u shows (next_is_redex how.order t at e)))
+
+-- ---- it is the one that comes next
+
+unfolds_parts : (n : ℕ) (vs : List Tree) (b : Bool) (m : ℕ) → (m == 1) ≡ b → (at : List ℕ) (f a x z y v : Tree) →
+    unfolded n vs (subterm_at x at) ≡ subterm_at f at → unfolded n vs (subterm_at v at) ≡ subterm_at a at →
+    unfolded n vs (subterm_at (if b then tree.app x z else tree.app y v) (m ∷ at)) ≡ subterm_at (tree.app f a) (m ∷ at)
+unfolds_parts n vs true m e at f a x z y v i j =
+    ap (λ (c : Bool). unfolded n vs (if c then subterm_at x at else subterm_at z at)) e ∙ i
+    ∙ sym (ap (λ (c : Bool). if c then subterm_at f at else subterm_at a at) e)
+unfolds_parts n vs false m e at f a x z y v i j =
+    ap (λ (c : Bool). unfolded n vs (if c then subterm_at y at else subterm_at v at)) e ∙ j
+    ∙ sym (ap (λ (c : Bool). if c then subterm_at f at else subterm_at a at) e)
+
+unfolds : (n : ℕ) (vs : List Tree) (at : List ℕ) (t : Tree) → is_named_below n t ≡ true →
+    unfolded n vs (subterm_at (folded_round n vs at t) at) ≡ subterm_at t at
+unfolds n vs at (tree.var k) h = refl
+unfolds n vs at (tree.free k) h = unfolded_is_term n vs None (tree.free k) h
+unfolds n vs [] (tree.lam t) h = unfolded_is_term n vs (Some []) (tree.lam t) h
+unfolds n vs (m ∷ at) (tree.lam t) h = unfolds n vs at t h
+unfolds n vs [] (tree.app f a) h = unfolded_is_term n vs (Some []) (tree.app f a) h
+unfolds n vs (m ∷ at) (tree.app f a) h =
+    let p = and_parts (is_named_below n f) (is_named_below n a) h in
+    unfolds_parts n vs (m == 1) m refl at f a (folded_round n vs at f) (all_folded n vs a) (all_folded n vs f)
+    (folded_round n vs at a) (unfolds n vs at f p.0) (unfolds n vs at a p.1)
+
+redex_root : (f a : Tree) → IsSome (applied f a) → HasRedexAt (tree.app f a) []
+redex_root (tree.var k) a h = absurd (cc)
+redex_root (tree.free k) a h = absurd (cc)
+redex_root (tree.lam b) a h = (b, a, refl)
+redex_root (tree.app f c) a h = absurd (cc)
+
+redex_body : (b : Bool) (t : Tree) (at : List ℕ) (o : Option Tree) → (IsSome o → HasRedexAt t at) →
+    IsSome (if b then option_map tree.lam o else None) → HasRedexAt t at
+redex_body true t at o more h = more (map_some tree.lam o h)
+redex_body false t at o more h = absurd (cc)
+
+redex_argument : (b : Bool) (f a : Tree) (at : List ℕ) (o : Option Tree) → (IsSome o → HasRedexAt a at) →
+    IsSome (if b then option_map (tree.app f) o else None) → HasRedexAt a at
+redex_argument true f a at o more h = more (map_some (tree.app f) o h)
+redex_argument false f a at o more h = absurd (cc)
+
+redex_parts : (b : Bool) (m : ℕ) → (m == 1) ≡ b → (f a : Tree) (at : List ℕ) (o q : Option Tree) →
+    (IsSome o → HasRedexAt f at) → (IsSome q → HasRedexAt a at) →
+    IsSome (if b then option_map (λ t. tree.app t a) o else if m == 2 then option_map (tree.app f) q else None) →
+    HasRedexAt (tree.app f a) (m ∷ at)
+redex_parts true m e f a at o q more rest h =
+    let r = more (map_some (λ (t : Tree). tree.app t a) o h) in
+    (r.0, r.1, ap (λ (c : Bool). if c then subterm_at f at else subterm_at a at) e ∙ r.2)
+redex_parts false m e f a at o q more rest h =
+    let r = redex_argument (m == 2) f a at q rest h in
+    (r.0, r.1, ap (λ (c : Bool). if c then subterm_at f at else subterm_at a at) e ∙ r.2)
+
+redex_at : (t : Tree) (at : List ℕ) → IsSome (contracted t at) → HasRedexAt t at
+redex_at (tree.var k) at h = absurd (cc)
+redex_at (tree.free k) at h = absurd (cc)
+redex_at (tree.lam t) [] h = absurd (cc)
+redex_at (tree.lam t) (m ∷ at) h = redex_body (m == 0) t at (contracted t at) (redex_at t at) h
+redex_at (tree.app f a) [] h = redex_root f a h
+redex_at (tree.app f a) (m ∷ at) h =
+    redex_parts (m == 1) m refl f a at (contracted f at) (contracted a at) (redex_at f at) (redex_at a at) h
+
+pub unfolds_to_next : UnfoldsToNext
+unfolds_to_next how g t at h e = (
+  ap (λ (o : Option (List ℕ)). unfolded g.first g.values (subterm_at (folded_at g.first g.values o t) at)) e
+      ∙ unfolds g.first g.values at t h,
+  redex_at t at (next_is_redex how.order t at e),
+)
+
+-- ---- what stands there is that subterm with names
+
+lettered_part : (names : List (List ℕ)) (t : Tree) (n : ℕ) (at : List ℕ) →
+    IsShownFor false names (subterm_at t at) (part (lettered names n t) at)
+lettered_part names (tree.var k) n at = (n, refl)
+lettered_part names (tree.free k) n at = (n, refl)
+lettered_part names (tree.lam t) n [] = (n, refl)
+lettered_part names (tree.lam t) n (m ∷ at) = lettered_part names t (n + 1) at
+lettered_part names (tree.app f a) n [] = (n, refl)
+lettered_part names (tree.app f a) n (m ∷ at) = go (m == 1) (lettered_part names f n at) (lettered_part names a n at)
+  where
+    go : (b : Bool) → IsShownFor false names (subterm_at f at) (part (lettered names n f) at) →
+        IsShownFor false names (subterm_at a at) (part (lettered names n a) at) →
+        IsShownFor false names (if b then subterm_at f at else subterm_at a at)
+        (if b then part (lettered names n f) at else part (lettered names n a) at)
+    go true i j = i
+    go false i j = j
+
+named_part : (names : List (List ℕ)) (t : Tree) (round : List (List ℕ)) (s : Binders) (at : List ℕ) → Fits t s →
+    IsShownFor true names (subterm_at t at) (part (own.named names round t s) at)
+named_part names (tree.var k) round s at h = (round, s, refl)
+named_part names (tree.free k) round s at h = (round, s, refl)
+named_part names (tree.lam t) round binders.leaf at h = absurd h
+named_part names (tree.lam t) round (binders.lam x s) [] h = (round, binders.lam x s, refl)
+named_part names (tree.lam t) round (binders.lam x s) (m ∷ at) h =
+    named_part names t (own.primed (own.used 1 names round t) x ∷ round) s at h
+named_part names (tree.lam t) round (binders.app r s) at h = absurd h
+named_part names (tree.app f a) round binders.leaf at h = absurd h
+named_part names (tree.app f a) round (binders.lam x s) at h = absurd h
+named_part names (tree.app f a) round (binders.app r s) [] h = (round, binders.app r s, refl)
+named_part names (tree.app f a) round (binders.app r s) (m ∷ at) h =
+    go (m == 1) (named_part names f round r at h.0) (named_part names a round s at h.1)
+  where
+    go : (b : Bool) → IsShownFor true names (subterm_at f at) (part (own.named names round f r) at) →
+        IsShownFor true names (subterm_at a at) (part (own.named names round a s) at) →
+        IsShownFor true names (if b then subterm_at f at else subterm_at a at)
+        (if b then part (own.named names round f r) at else part (own.named names round a s) at)
+    go true i j = i
+    go false i j = j
+
+pub part_is_subterm : PartIsSubterm
+part_is_subterm true names t s at fits = named_part names t [] s at (fits refl)
+part_is_subterm false names t s at fits = lettered_part names t 0 at

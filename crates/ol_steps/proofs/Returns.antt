@@ -1,17 +1,16 @@
 -- Where a term of a walk is an earlier one of it, the order has no end, and the first term hasn't got what it looks for.
-use Rattle.std.proofs.Common.{◌≡◌, ℕ, zero, suc, ◌+◌, ◌⊎◌, inl, inr, List, [], ◌∷◌, ◌++◌, length, Option, Some, None, IsSome}
-use Rattle.std.proofs.Common.{refl, sym, ap, ◌∙◌, subst, arith}
+use Rattle.std.proofs.Common.{◌≡◌, ℕ, zero, suc, ◌+◌, ◌⊎◌, inl, inr, List, [], ◌∷◌, length, Option, Some, None, IsSome}
+use Rattle.std.proofs.Common.{refl, sym, subst}
 use Rattle.std.specs.Prelude.{slice_get}
-use Rattle.std.proofs.lemmas.List.{length_push}
 use Rattle.ol_term.specs.Trees.{Tree}
 use Rattle.ol_beta.specs.Beta.{contracted}
-use Rattle.ol_beta.specs.Leftmost.{leftmost, IsNormal}
+use Rattle.ol_beta.specs.Leftmost.{leftmost}
 use Rattle.ol_law_edges.proofs.Lists.{got_append}
 use Rattle.ol_law_meaning.specs.Shows.{LeftmostReduces, HeadReduces, HasHeadRedex, ready, contract}
 use Rattle.ol_law_confluence.specs.Reductions.{HasNormalForm}
 use Rattle.ol_law_confluence.proofs.LeftmostEnds.{leftmost_finds}
 use Rattle.ol_law_confluence.proofs.HeadForms.{forever_none}
-use Rattle.ol_strategies.specs.Redexes.{next, head_redex}
+use Rattle.ol_strategies.specs.Redexes.{head_redex}
 use Rattle.ol_strategies.specs.Reductions.{IsStep, Leads}
 use Rattle.ol_strategies.specs.declared.orders.Order.{Order}
 use Rattle.ol_strategies.specs.declared.orders.Order.TheVariants as order

@@ -154,11 +154,14 @@ pub record IsWalked (how : Shown) (g : Glossary) (lets most : ℕ) (t : Tree) (s
   pub unfolding_is : u ≡ last_unfolding how.order (begun lets) (terms_of kept)
 
 pub walked_begin : (how : Shown) (g : Glossary) (lets most : ℕ) (t : Tree) (s : Binders) (kept : List Earlier)
-    (text : List ℕ) → kept ≡ [] → text ≡ [] → IsWithin t → is_below 0 t ≡ true → is_named_below g.first t ≡ true →
-    IsWalked how g lets most t s kept t s (begun lets) text
-walked_begin how g lets most t s kept text none empty within bound named =
-    subst (λ (kept : List Earlier). IsWalked how g lets most t s kept t s (begun lets) text) (sym none)
-    (subst (λ (text : List ℕ). IsWalked how g lets most t s [] t s (begun lets) text) (sym empty) (record {
+    (v : Tree) (w : Binders) (u : Unfolding) (text : List ℕ) → kept ≡ [] → text ≡ [] → v ≡ t → w ≡ s → u ≡ begun lets →
+    IsWithin t → is_below 0 t ≡ true → is_named_below g.first t ≡ true → IsWalked how g lets most t s kept v w u text
+walked_begin how g lets most t s kept v w u text none empty here own seen within bound named =
+    subst (λ (kept : List Earlier). IsWalked how g lets most t s kept v w u text) (sym none)
+    (subst (λ (text : List ℕ). IsWalked how g lets most t s [] v w u text) (sym empty)
+    (subst (λ (v : Tree). IsWalked how g lets most t s [] v w u []) (sym here)
+    (subst (λ (w : Binders). IsWalked how g lets most t s [] t w u []) (sym own)
+    (subst (λ (u : Unfolding). IsWalked how g lets most t s [] t s u []) (sym seen) (record {
       few = omega arith;
       within = within;
       bound = bound;
@@ -167,7 +170,7 @@ walked_begin how g lets most t s kept text none empty within bound named =
       text_is = refl;
       binders_are = refl;
       unfolding_is = refl;
-    }))
+    })))))
 
 module _ (how : Shown) (g : Glossary) (lets most : ℕ) (t : Tree) (s : Binders) (kept : List Earlier) (v : Tree)
     (w : Binders) (u : Unfolding) (text : List ℕ) (walked : IsWalked how g lets most t s kept v w u text) (made : ℕ)

@@ -1,10 +1,9 @@
 -- Where weak head reduction has no end, there is no weak head normal form.
-use Rattle.std.proofs.Common.{◌≡◌, ℕ, zero, suc, Bool, true, false, List, [], ◌∷◌, Option, Some, None, IsSome}
+use Rattle.std.proofs.Common.{◌≡◌, ℕ, zero, suc, Bool, false, List, [], ◌∷◌, Option, Some, None, IsSome}
 use Rattle.std.proofs.Common.{refl, sym, ap, ◌∙◌, subst}
 use Rattle.std.specs.Prelude.{if◌then◌else◌}
 use Rattle.std.specs.Option.{option_map}
 use Rattle.ol_term.specs.Trees.{Tree, var, free, lam, app}
-use Rattle.ol_beta.specs.Beta.{contracted, substituted}
 use Rattle.ol_beta.specs.Leftmost.{is_abstraction, under}
 use Rattle.ol_law_confluence.specs.Reductions.{WeakStep, weak_beta, weak_before, WeakReduces, weak_done, weak_step}
 use Rattle.ol_law_confluence.specs.Reductions.{Standard, to_var, to_free, to_lam, to_app}

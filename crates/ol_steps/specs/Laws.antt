@@ -1,6 +1,9 @@
--- What a term that comes back says of the first term, what carets stand under, and that what is printed is read again.
-use Rattle.std.specs.Prelude.{◌≡◌, ℕ, Bool, true, false, List, [], ◌++◌, codes, slice_get, Option, Some, IsSome}
-use Rattle.ol_term.specs.Trees.{Tree}
+-- What a term that comes back says of the first term, what carets stand under, that what is printed is read again, and
+-- that how terms are shown changes no end.
+use Rattle.std.specs.Prelude.{◌≡◌, ℕ, ◌+◌, ◌==◌, Bool, true, false, if◌then◌else◌, ◌⊎◌, List, [], ◌∷◌, ◌++◌, codes, length}
+use Rattle.std.specs.Prelude.{slice_get, slice_index_or, Option, Some, IsSome}
+use Rattle.ol_term.specs.Trees as tree
+use Rattle.ol_term.specs.Trees.{Tree, is_named_below}
 use Rattle.ol_law_meaning.specs.Shows.{BetaReduces}
 use Rattle.ol_law_confluence.specs.Reductions.{HasNormalForm, HasHeadNormalForm}
 use Rattle.ol_strategies.specs.Redexes.{next}
@@ -8,17 +11,22 @@ use Rattle.ol_strategies.specs.Reductions.{Leads}
 use Rattle.ol_strategies.specs.Ends.{IsWeakHeadNormal}
 use Rattle.ol_strategies.specs.declared.orders.Order.{Order}
 use Rattle.ol_strategies.specs.declared.orders.Order.TheVariants as order
-use Rattle.ol_parse.specs.Grammar.{Named, lam, app}
-use Rattle.ol_parse.specs.Texts.{IsText}
+use Rattle.ol_subjects.specs.declared.answers.End.{End}
+use Rattle.ol_parse.specs.Grammar.{Named, var, lam, app}
+use Rattle.ol_parse.specs.Texts.{IsLine, IsText}
 use Rattle.ol_parse.specs.Numbered.{names_of, number, numbered}
 use Rattle.ol_named.specs.NamedTexts.{named_text}
+use Rattle.ol_named.specs.Lettered.{lettered}
 use Rattle.ol_named.specs.Marks.{part}
 use Rattle.ol_named.specs.Laws.{IsMarked}
 use Rattle.ol_binders.specs.Binders.{Binders, binders_of, Fits}
 use Rattle.ol_binders.specs.Naming.{named}
+use Rattle.ol_folds.specs.Fronts.{BeginsWithLets}
 use Rattle.ol_folds.specs.Folded.{folded_at, pruned}
 use Rattle.ol_folds.specs.Laws.{unfolded}
-use Rattle.ol_steps.specs.Steps.{Walk, Glossary, glossary, last_binders, shown_term, term_line}
+use Rattle.ol_steps.specs.declared.stepping.Shown.{Shown}
+use Rattle.ol_steps.specs.Steps.{Walk, Glossary, glossary, last_binders, shown_term, shown_tree, term_line}
+use Rattle.ol_steps.specs.Steps.{begun, last_unfolding, IsStepsOf}
 
 -- beta reduction of a term comes to a weak head normal form
 pub record HasWeakHeadNormalForm (t : Tree) : Type 0 where
@@ -52,18 +60,64 @@ ReturnHasNone = (order : Order) (t v : Tree) (terms : List Tree) (k : ℕ) → W
 abbrev pub IsRedex : Named → Type 0
 IsRedex u = (binder : List ℕ) × (body : Named) × (argument : Named) × (u ≡ app (lam binder body) argument)
 
--- a term with names stands in the term's line, and the carets stand under the redex at an address of it
-pub record MarksRedex (own : Bool) (names : List (List ℕ)) (t : Tree) (s : Binders) (at : List ℕ) (u : Named)
-    : Type 0 where
+-- A term with names stands in the term's line, and the carets stand under a redex at an address of it. What a redex is
+-- differs with how the term is shown.
+pub record MarksRedex (IsOne : Named → Type 0) (own : Bool) (names : List (List ℕ)) (t : Tree) (s : Binders)
+    (at : List ℕ) (u : Named) : Type 0 where
   pub line : term_line own names t s ≡ named_text false u ++ codes "\n"
-  pub redex : IsRedex (part u at)
+  pub redex : IsOne (part u at)
   pub marked : IsMarked u at
 
 -- the carets stand under the redex that an order contracts next
 abbrev pub RedexIsMarked : Type 0
 RedexIsMarked = (order : Order) (own : Bool) (names : List (List ℕ)) (t : Tree) (s : Binders) (at : List ℕ) →
     (own ≡ true → Fits t s) → next order t ≡ Some at →
-    MarksRedex own names t s at (shown_term own names t s)
+    MarksRedex IsRedex own names t s at (shown_term own names t s)
+
+-- an abstraction, or the name of a value that is one
+abbrev pub StandsForAbstraction : Glossary → Named → Type 0
+StandsForAbstraction g (var x) = (k : ℕ) × (body : Tree) × (slice_get g.values k ≡ Some (tree.lam body))
+    × (x ≡ slice_index_or g.names (g.first + k) [])
+StandsForAbstraction g (lam x t) = Unit {0}
+StandsForAbstraction g (app f a) = ⊥
+
+-- a redex where parts are written by names: such a function that is applied to an argument
+abbrev pub IsFoldedRedex : Glossary → Named → Type 0
+IsFoldedRedex g u = (function : Named) × (argument : Named) × (u ≡ app function argument) × StandsForAbstraction g function
+
+-- the carets stand under it, where the tree is folded that has the redex
+abbrev pub FoldedRedexIsMarked : Type 0
+FoldedRedexIsMarked = (how : Shown) (g : Glossary) (t : Tree) (s : Binders) (at : List ℕ) →
+    (how.named ≡ true → Fits t s) → next how.order t ≡ Some at →
+    MarksRedex (IsFoldedRedex g) how.named g.names (shown_tree how g t) (pruned (shown_tree how g t) s) at
+    (shown_term how.named g.names (shown_tree how g t) (pruned (shown_tree how g t) s))
+
+-- The subterm of a tree at an address. Its moves are those of `part`.
+abbrev pub subterm_at : Tree → List ℕ → Tree
+subterm_at (tree.lam t) (m ∷ at) = subterm_at t at
+subterm_at (tree.app f a) (m ∷ at) = if m == 1 then subterm_at f at else subterm_at a at
+subterm_at t at = t
+
+-- a term with names is this tree, below some binders whose names are given
+abbrev pub IsShownFor : Bool → List (List ℕ) → Tree → Named → Type 0
+IsShownFor true names t u = (round : List (List ℕ)) × (s : Binders) × (u ≡ named names round t s)
+IsShownFor false names t u = (round : ℕ) × (u ≡ lettered names round t)
+
+-- what stands at an address of a term as it is shown is the tree's subterm there
+abbrev pub PartIsSubterm : Type 0
+PartIsSubterm = (own : Bool) (names : List (List ℕ)) (t : Tree) (s : Binders) (at : List ℕ) → (own ≡ true → Fits t s) →
+    IsShownFor own names (subterm_at t at) (part (shown_term own names t s) at)
+
+-- an abstraction that is applied to an argument stands there
+abbrev pub HasRedexAt : Tree → List ℕ → Type 0
+HasRedexAt t at = (body : Tree) × (argument : Tree) × (subterm_at t at ≡ tree.app (tree.lam body) argument)
+
+-- Where the values are put in the places of their names, what stands in the folded tree at the address of the redex that
+-- comes next is that redex.
+abbrev pub UnfoldsToNext : Type 0
+UnfoldsToNext = (how : Shown) (g : Glossary) (t : Tree) (at : List ℕ) → is_named_below g.first t ≡ true →
+    next how.order t ≡ Some at →
+    (unfolded g.first g.values (subterm_at (shown_tree how g t) at) ≡ subterm_at t at) × HasRedexAt t at
 
 -- A tree whose binders have these names: they have its shape, and what is printed is read again, as a term of the same
 -- tree. So no binder takes what isn't its own.
@@ -91,3 +145,29 @@ FoldedReadsAgain = (order : Order) (at : Option (List ℕ)) (n : ℕ) (bytes : L
     (terms : List Tree) → IsText bytes source → Walk order (number source) terms v →
     (u : Named) × ReadsFolded (glossary (names_of source) n (number source) (binders_of source)) at v
     (last_binders order (binders_of source) terms) u
+
+-- each step is counted, also one that only unfolds a let
+abbrev pub EachStepCounts : Type 0
+EachStepCounts = (order : Order) (lets : ℕ) (terms : List Tree) →
+    (last_unfolding order (begun lets) terms).made ≡ length terms
+
+-- the last line of a text: no line feed is in it but its last byte, and before it stands nothing or the end of a line
+pub record HasLastLine (text line : List ℕ) : Type 0 where
+  pub before : List ℕ
+  pub words : List ℕ
+  pub text_is : text ≡ before ++ line
+  pub line_is : line ≡ words ++ codes "\n"
+  pub one : IsLine words
+  pub whole : (before ≡ []) ⊎ ((lines : List ℕ) × (before ≡ lines ++ codes "\n"))
+
+-- however the terms of an order are shown, the answers to a file end alike: by one end, and with one last line
+abbrev pub ShowingChangesNoEnd : Type 0
+ShowingChangesNoEnd = (bytes : List ℕ) (how other : Shown) (most : ℕ) (text more : List ℕ) (e f : End) →
+    how.order ≡ other.order → IsStepsOf bytes how most text e → IsStepsOf bytes other most more f →
+    (e ≡ f) × ((line : List ℕ) × HasLastLine text line × HasLastLine more line)
+
+-- if no let stands at the front of a file, the answer with folding is that without
+abbrev pub NoLetSameAnswer : Type 0
+NoLetSameAnswer = (bytes : List ℕ) (how : Shown) (most : ℕ) (text more : List ℕ) (e f : End) → BeginsWithLets bytes 0 →
+    IsStepsOf bytes (record how { folded = true }) most text e →
+    IsStepsOf bytes (record how { folded = false }) most more f → (text ≡ more) × (e ≡ f)

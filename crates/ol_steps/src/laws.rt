@@ -1,7 +1,8 @@
-//! Laws of terms that come back, of carets and of names: no code, only what follows from the
-//! definitions.
+//! Laws of terms that come back, of carets, of names and of the end of an answer: no code, only
+//! what follows from the definitions.
 
-ghost use Rattle.ol_steps.specs.Laws.{FoldedReadsAgain, ReadsAgain, RedexIsMarked, ReturnIsEndless, ReturnHasNone};
+ghost use Rattle.ol_steps.specs.Laws.{EachStepCounts, FoldedReadsAgain, FoldedRedexIsMarked, NoLetSameAnswer, PartIsSubterm, ReadsAgain, RedexIsMarked, ReturnIsEndless, ReturnHasNone, ShowingChangesNoEnd, UnfoldsToNext};
+ghost use Rattle.ol_steps.specs.Unfoldings.{LetsAreUnfolded, NoValueIsShown};
 
 /// Where a term of an order's walk is that of an earlier step, the order has no end: each term that
 /// it leads to from the first has a next redex. So the first term has no normal form, if the order
@@ -12,11 +13,23 @@ pub fn returns_are_endless()
     ensures none { ReturnHasNone }
 {}
 
-/// The carets stand under the text of the redex that an order contracts next. The subterm at its
-/// address is an abstraction that is applied to an argument. Whatever application stands there in
-/// its place, its text stands in the term's line behind the same bytes and before the same bytes.
+/// If a term isn't folded, the carets stand under the text of the redex that an order contracts
+/// next. The subterm at its address is an abstraction that is applied to an argument. In the line
+/// below a space stands for each byte before its text, and a caret for each byte of its text.
+/// Whatever application stands there in its place, its text stands in the term's line behind the
+/// same bytes and before the same bytes.
 pub fn redexes_are_marked()
     ensures { RedexIsMarked }
+{}
+
+/// If a term is folded, the carets stand under the text of the subterm at the address of the redex
+/// that an order contracts next. What is applied there to an argument is an abstraction, or the
+/// name of a let whose value is one. What stands there is the subterm of the folded term, with
+/// names. If the values are put in the places of their names, it is the redex itself.
+pub fn folded_redexes_are_marked()
+    ensures marked { FoldedRedexIsMarked }
+    ensures part { PartIsSubterm }
+    ensures unfolded { UnfoldsToNext }
 {}
 
 /// What is printed of each term of a walk, if the binders keep the names that they have in the
@@ -33,4 +46,36 @@ pub fn names_are_read_again()
 /// the walk. So no binder takes the name of a let.
 pub fn folds_are_read_again()
     ensures { FoldedReadsAgain }
+{}
+
+/// Each step is counted, also one that only unfolds a let. So the numbers of steps are those of the
+/// order.
+pub fn each_step_counts()
+    ensures { EachStepCounts }
+{}
+
+/// Let two answers to a file be of one order, by at most as many steps. They have one end and one
+/// last line, whatever names are printed, with or without carets, folded or not.
+pub fn showing_changes_no_end()
+    ensures { ShowingChangesNoEnd }
+{}
+
+/// If no let stands at the front of a file, the answer with folding has the text and the end of the
+/// answer without.
+pub fn no_let_same_answer()
+    ensures { NoLetSameAnswer }
+{}
+
+/// The steps of a walk that only unfold a let contract the redexes of the lets at the front of the
+/// text, each at most once. The names of the binders of these redexes, and those of the lets that
+/// are left at the front, are together the names of all. It is so in each order, and whatever names
+/// the binders have, so also if each has its own.
+pub fn lets_are_unfolded()
+    ensures { LetsAreUnfolded }
+{}
+
+/// No part of a term that is shown is the value of a let that counts, but for the redex that comes
+/// next and what this stands in.
+pub fn no_value_is_shown()
+    ensures { NoValueIsShown }
 {}

@@ -5,7 +5,8 @@
 //! - `finding`: whether a term is that of an earlier step
 //! - `showing`: terms as they are shown, and lets that are unfolded
 //! - `lines`: the lines of an answer
-//! - `laws`: what a term that comes back says, what carets stand under, what is read again
+//! - `laws`: what a term that comes back says, what carets stand under, what is read again, and
+//!   that how terms are shown changes no end
 #![tactic(auto)]
 
 mod earlier;
@@ -16,6 +17,8 @@ mod showing;
 mod stepping;
 
 pub use laws::{
-    folds_are_read_again, names_are_read_again, redexes_are_marked, returns_are_endless,
+    each_step_counts, folded_redexes_are_marked, folds_are_read_again, lets_are_unfolded,
+    names_are_read_again, no_let_same_answer, no_value_is_shown, redexes_are_marked,
+    returns_are_endless, showing_changes_no_end,
 };
 pub use stepping::{Shown, is_within, steps};

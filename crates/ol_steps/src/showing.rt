@@ -9,7 +9,7 @@ ghost use Rattle.ol_binders.specs.Trees.{binders_in};
 ghost use Rattle.ol_folds.specs.Kept.{trees_of};
 ghost use Rattle.ol_folds.specs.Folded.{folded_at, pruned};
 ghost use Rattle.ol_steps.specs.Kept.{glossary_of};
-ghost use Rattle.ol_steps.specs.Steps.{lines_of_step, shown_line, step_lines, unfold_line, unfolding_after, unfolds};
+ghost use Rattle.ol_steps.specs.Steps.{begun, lines_of_step, shown_line, step_lines, unfold_line, unfolding_after, unfolds};
 
 use crate::lines::{moves_of, put_redex, put_term};
 use crate::stepping::Shown;
@@ -30,6 +30,42 @@ pub struct Unfolding {
     pub hidden: u32,
     /// How many steps were made.
     pub made: u32,
+}
+
+/// What is shown of terms: how, the names that are printed, and the values of those of lets.
+#[derive(Drop)]
+pub struct View {
+    pub how: Shown,
+    pub names: Names,
+    pub lets: Lets,
+}
+
+/// A term of a walk: the names of its binders, and how far lets are unfolded before it.
+#[derive(Drop)]
+pub struct Place {
+    pub term: Term,
+    pub binders: BinderTree,
+    pub seen: Unfolding,
+}
+
+impl Place {
+    /// The first term of a walk, where so many lets are at the front.
+    pub fn first(term: Term, binders: BinderTree, lets: u32) -> Place
+        ensures term { result.term ≡ term }
+        ensures binders { result.binders ≡ binders }
+        ensures seen { result.seen ≡ begun lets }
+    {
+        let seen = Unfolding {
+            left: lets,
+            hidden: 0,
+            made: 0,
+        };
+        Place {
+            term,
+            binders,
+            seen,
+        }
+    }
 }
 
 // The line for lets that were unfolded since a term was shown.
@@ -79,26 +115,23 @@ fn folded(
 pub fn put_shown(
     alloc: Global,
     text: &mut Vec<u8>,
-    term: &Term,
-    binders: &BinderTree,
-    names: &Names,
-    lets: &Lets,
-    how: Shown,
+    view: &View,
+    here: &Place,
     redex: &Option<Address>,
-    seen: Unfolding,
 ) -> Result<(), NoMemory>
-    requires bound { is_below 0 (tree_of term.now) ≡ true }
-    requires named { is_named_below lets.now.first (tree_of term.now) ≡ true }
-    requires within { IsWithin (tree_of term.now) }
-    requires names { length names.now ≡ lets.now.first + length lets.now.values.items }
-    requires redex { redex.now ≡ next how.order (tree_of term.now) }
-    ensures { OnOk result (text.new.items ≡ text.old.items ++ (unfold_line seen ++ shown_line how
-        (glossary_of names.now lets.now) (tree_of term.now) (binders_in binders.now))) }
+    requires bound { is_below 0 (tree_of here.now.term) ≡ true }
+    requires named { is_named_below view.now.lets.first (tree_of here.now.term) ≡ true }
+    requires within { IsWithin (tree_of here.now.term) }
+    requires names { length view.now.names ≡ view.now.lets.first + length view.now.lets.values.items }
+    requires redex { redex.now ≡ next view.now.how.order (tree_of here.now.term) }
+    ensures { OnOk result (text.new.items ≡ text.old.items ++ (unfold_line here.now.seen
+        ++ shown_line view.now.how (glossary_of view.now.names view.now.lets)
+        (tree_of here.now.term) (binders_in here.now.binders))) }
 {
-    put_unfolded(alloc, text, seen)?;
-    let whole = folded(alloc, lets, term, redex)?;
-    let left = prune(alloc, &whole, binders)?;
-    put_term(alloc, text, &whole, &left, names, how.named)?;
+    put_unfolded(alloc, text, here.seen)?;
+    let whole = folded(alloc, &view.lets, &here.term, redex)?;
+    let left = prune(alloc, &whole, &here.binders)?;
+    put_term(alloc, text, &whole, &left, &view.names, view.how.named)?;
     Ok(())
 }
 
@@ -106,28 +139,25 @@ pub fn put_shown(
 pub fn put_step(
     alloc: Global,
     text: &mut Vec<u8>,
-    term: &Term,
-    binders: &BinderTree,
-    names: &Names,
-    lets: &Lets,
-    how: Shown,
+    view: &View,
+    here: &Place,
     redex: &Option<Address>,
-    seen: Unfolding,
 ) -> Result<(), NoMemory>
-    requires bound { is_below 0 (tree_of term.now) ≡ true }
-    requires named { is_named_below lets.now.first (tree_of term.now) ≡ true }
-    requires within { IsWithin (tree_of term.now) }
-    requires names { length names.now ≡ lets.now.first + length lets.now.values.items }
-    requires redex { redex.now ≡ next how.order (tree_of term.now) }
-    ensures { OnOk result (text.new.items ≡ text.old.items ++ (unfold_line seen ++ step_lines how
-        (glossary_of names.now lets.now) (tree_of term.now) (binders_in binders.now))) }
+    requires bound { is_below 0 (tree_of here.now.term) ≡ true }
+    requires named { is_named_below view.now.lets.first (tree_of here.now.term) ≡ true }
+    requires within { IsWithin (tree_of here.now.term) }
+    requires names { length view.now.names ≡ view.now.lets.first + length view.now.lets.values.items }
+    requires redex { redex.now ≡ next view.now.how.order (tree_of here.now.term) }
+    ensures { OnOk result (text.new.items ≡ text.old.items ++ (unfold_line here.now.seen
+        ++ step_lines view.now.how (glossary_of view.now.names view.now.lets)
+        (tree_of here.now.term) (binders_in here.now.binders))) }
 {
-    put_unfolded(alloc, text, seen)?;
-    let whole = folded(alloc, lets, term, redex)?;
-    let left = prune(alloc, &whole, binders)?;
-    put_term(alloc, text, &whole, &left, names, how.named)?;
+    put_unfolded(alloc, text, here.seen)?;
+    let whole = folded(alloc, &view.lets, &here.term, redex)?;
+    let left = prune(alloc, &whole, &here.binders)?;
+    put_term(alloc, text, &whole, &left, &view.names, view.how.named)?;
     if let Some(at) = redex {
-        put_redex(alloc, text, &whole, &left, names, how, at)?;
+        put_redex(alloc, text, &whole, &left, &view.names, view.how, at)?;
     }
     Ok(())
 }
@@ -149,33 +179,31 @@ fn unfolds(alloc: Global, left: u32, redex: &Option<Address>) -> Result<bool, No
 pub fn put_made(
     alloc: Global,
     text: &mut Vec<u8>,
-    term: &Term,
-    binders: &BinderTree,
-    names: &Names,
-    lets: &Lets,
-    how: Shown,
+    view: &View,
+    here: &Place,
     redex: &Option<Address>,
-    seen: Unfolding,
 ) -> Result<Unfolding, NoMemory>
-    requires bound { is_below 0 (tree_of term.now) ≡ true }
-    requires named { is_named_below lets.now.first (tree_of term.now) ≡ true }
-    requires within { IsWithin (tree_of term.now) }
-    requires names { length names.now ≡ lets.now.first + length lets.now.values.items }
-    requires redex { redex.now ≡ next how.order (tree_of term.now) }
-    requires few { seen.made + 1 < 2 ^ 32 }
-    requires hidden { seen.hidden ≤ seen.made }
-    ensures text { OnOk result (text.new.items ≡ text.old.items ++ lines_of_step how
-        (glossary_of names.now lets.now) seen (tree_of term.now) (binders_in binders.now)) }
-    ensures seen { IfOk result (λ u. u ≡ unfolding_after how.order seen (tree_of term.now)) }
+    requires bound { is_below 0 (tree_of here.now.term) ≡ true }
+    requires named { is_named_below view.now.lets.first (tree_of here.now.term) ≡ true }
+    requires within { IsWithin (tree_of here.now.term) }
+    requires names { length view.now.names ≡ view.now.lets.first + length view.now.lets.values.items }
+    requires redex { redex.now ≡ next view.now.how.order (tree_of here.now.term) }
+    requires few { here.now.seen.made + 1 < 2 ^ 32 }
+    requires hidden { here.now.seen.hidden ≤ here.now.seen.made }
+    ensures text { OnOk result (text.new.items ≡ text.old.items ++ lines_of_step view.now.how
+        (glossary_of view.now.names view.now.lets) here.now.seen (tree_of here.now.term)
+        (binders_in here.now.binders)) }
+    ensures seen { IfOk result (λ u. u
+        ≡ unfolding_after view.now.how.order here.now.seen (tree_of here.now.term)) }
 {
-    let made = seen.made + 1;
-    let left = seen.left;
+    let made = here.seen.made + 1;
+    let left = here.seen.left;
     if unfolds(alloc, left, redex)? {
-        let hidden = seen.hidden + 1;
+        let hidden = here.seen.hidden + 1;
         let left = left.saturating_sub(1);
         return Ok(Unfolding { left, hidden, made });
     }
-    put_step(alloc, text, term, binders, names, lets, how, redex, seen)?;
+    put_step(alloc, text, view, here, redex)?;
     let hidden = 0;
     Ok(Unfolding { left, hidden, made })
 }

@@ -1,10 +1,13 @@
 //! The terms of a file's reduction, one after another.
 
-ghost use Rattle.std.specs.Prelude.{◌≡◌, ℕ, List, ◌+◌, ◌<◌, ◌≤◌, ◌^◌, ◌↔◌, ◌||◌, length, true, IfOk, IsTrue};
+ghost use Rattle.std.specs.Prelude.{◌≡◌, ℕ, List, ◌+◌, ◌++◌, ◌<◌, ◌≤◌, ◌^◌, ◌↔◌, ◌||◌, codes, length, true, None, IfOk, IsTrue, OnOk};
 ghost use Rattle.ol_term.specs.declared.translations.Translation.TheVariants.{Two};
 ghost use Rattle.ol_term.specs.Trees.{tree_of, is_below, is_named_below, term_size, depth};
 ghost use Rattle.ol_beta.specs.Beta.{IsWithin};
 ghost use Rattle.ol_limits.specs.Limits.{most_term_bytes};
+ghost use Rattle.ol_strategies.specs.Redexes.{next};
+ghost use Rattle.ol_strategies.specs.Ends.{IsEnd};
+ghost use Rattle.ol_strategies.specs.declared.orders.Reached.{Reached};
 ghost use Rattle.ol_subjects.specs.Subjects.{IsTerm};
 ghost use Rattle.ol_parse.specs.Grammar.{Named};
 ghost use Rattle.ol_parse.specs.Texts.{IsText};
@@ -12,12 +15,12 @@ ghost use Rattle.ol_binders.specs.Binders.{binders_of};
 ghost use Rattle.ol_binders.specs.Contraction.{contracted};
 ghost use Rattle.ol_binders.specs.Trees.{binders_in};
 ghost use Rattle.ol_steps.specs.Kept.{glossary_of};
-ghost use Rattle.ol_steps.specs.Steps.{glossary, past_line, HasLets, Tells, IsSource, IsStepsOf};
+ghost use Rattle.ol_steps.specs.Steps.{glossary, last_line, lines_of_step, past_line, reached_end, reached_words, return_line, shown_line, step_lines, unfold_line, unfolding_after, HasLets, Tells, IsSource, IsStepsOf};
 
 use crate::earlier::Earlier;
 use crate::finding::step_of;
 use crate::lines::{moves_of, past_line, put_last, reached_end, reached_words, return_line};
-use crate::showing::{Unfolding, put_made, put_shown, put_step};
+use crate::showing::{Place, View, put_made, put_shown, put_step};
 use ol_beta::{Address, BetaFault, beta};
 use ol_binders::{BinderTree, contract};
 use ol_folds::{Lets, front_lets, lets_of};
@@ -69,79 +72,190 @@ fn contracted(
     Ok(after)
 }
 
+// The last lines, where the term of a step is that of an earlier one.
+fn put_return(
+    alloc: Global,
+    text: &mut Vec<u8>,
+    view: &View,
+    here: &Place,
+    redex: &Option<Address>,
+    made: usize,
+    earlier: usize,
+) -> Result<(), NoMemory>
+    requires bound { is_below 0 (tree_of here.now.term) ≡ true }
+    requires named { is_named_below view.now.lets.first (tree_of here.now.term) ≡ true }
+    requires within { IsWithin (tree_of here.now.term) }
+    requires names { length view.now.names ≡ view.now.lets.first + length view.now.lets.values.items }
+    requires redex { redex.now ≡ next view.now.how.order (tree_of here.now.term) }
+    ensures { OnOk result (text.new.items ≡ (text.old.items ++ (unfold_line here.now.seen
+        ++ shown_line view.now.how (glossary_of view.now.names view.now.lets)
+        (tree_of here.now.term) (binders_in here.now.binders)))
+        ++ return_line view.now.how.order made earlier) }
+{
+    put_shown(alloc, text, view, here, redex)?;
+    let line = return_line(alloc, view.how.order, made, earlier)?;
+    put(text, &line)?;
+    Ok(())
+}
+
+// The last lines, where the order has no redex in a term.
+fn put_end(
+    alloc: Global,
+    text: &mut Vec<u8>,
+    view: &View,
+    here: &Place,
+    redex: &Option<Address>,
+    made: usize,
+) -> Result<End, NoMemory>
+    requires bound { is_below 0 (tree_of here.now.term) ≡ true }
+    requires named { is_named_below view.now.lets.first (tree_of here.now.term) ≡ true }
+    requires within { IsWithin (tree_of here.now.term) }
+    requires names { length view.now.names ≡ view.now.lets.first + length view.now.lets.values.items }
+    requires redex { redex.now ≡ next view.now.how.order (tree_of here.now.term) }
+    requires none { redex.now ≡ None }
+    ensures { IfOk result (λ e. (word : Reached)
+        × IsEnd view.now.how.order (tree_of here.now.term) word × (e ≡ reached_end word)
+        × (text.new.items ≡ (text.old.items ++ (unfold_line here.now.seen
+        ++ shown_line view.now.how (glossary_of view.now.names view.now.lets)
+        (tree_of here.now.term) (binders_in here.now.binders)))
+        ++ last_line (reached_words word) made)) }
+{
+    put_shown(alloc, text, view, here, redex)?;
+    let word = reached(view.how.order, &here.term);
+    put_last(alloc, text, reached_words(word).as_bytes(), made)?;
+    Ok(reached_end(word))
+}
+
+// The last lines, where all steps were made.
+fn put_left(
+    alloc: Global,
+    text: &mut Vec<u8>,
+    view: &View,
+    here: &Place,
+    redex: &Option<Address>,
+    made: usize,
+) -> Result<(), NoMemory>
+    requires bound { is_below 0 (tree_of here.now.term) ≡ true }
+    requires named { is_named_below view.now.lets.first (tree_of here.now.term) ≡ true }
+    requires within { IsWithin (tree_of here.now.term) }
+    requires names { length view.now.names ≡ view.now.lets.first + length view.now.lets.values.items }
+    requires redex { redex.now ≡ next view.now.how.order (tree_of here.now.term) }
+    ensures { OnOk result (text.new.items ≡ (text.old.items ++ (unfold_line here.now.seen
+        ++ step_lines view.now.how (glossary_of view.now.names view.now.lets)
+        (tree_of here.now.term) (binders_in here.now.binders)))
+        ++ last_line (codes "a redex is left") made) }
+{
+    put_step(alloc, text, view, here, redex)?;
+    put_last(alloc, text, b"a redex is left", made)
+}
+
+// The last lines, where the next step gives a term of this size and depth, which is out of bounds.
+fn put_past(
+    alloc: Global,
+    text: &mut Vec<u8>,
+    view: &View,
+    here: &Place,
+    redex: &Option<Address>,
+    made: usize,
+    size: u64,
+    depth: u64,
+) -> Result<(), NoMemory>
+    requires bound { is_below 0 (tree_of here.now.term) ≡ true }
+    requires named { is_named_below view.now.lets.first (tree_of here.now.term) ≡ true }
+    requires within { IsWithin (tree_of here.now.term) }
+    requires names { length view.now.names ≡ view.now.lets.first + length view.now.lets.values.items }
+    requires redex { redex.now ≡ next view.now.how.order (tree_of here.now.term) }
+    ensures { OnOk result (text.new.items ≡ (text.old.items ++ (unfold_line here.now.seen
+        ++ step_lines view.now.how (glossary_of view.now.names view.now.lets)
+        (tree_of here.now.term) (binders_in here.now.binders)))
+        ++ past_line made size depth) }
+{
+    put_step(alloc, text, view, here, redex)?;
+    let line = past_line(alloc, made, size, depth)?;
+    put(text, &line)?;
+    Ok(())
+}
+
+// The lines of a step that is made, and where it leads to.
+fn step_on(
+    alloc: Global,
+    text: &mut Vec<u8>,
+    view: &View,
+    here: &Place,
+    redex: &Option<Address>,
+    at: &Address,
+    after: Term,
+) -> Result<Place, NoMemory>
+    requires bound { is_below 0 (tree_of here.now.term) ≡ true }
+    requires named { is_named_below view.now.lets.first (tree_of here.now.term) ≡ true }
+    requires within { IsWithin (tree_of here.now.term) }
+    requires names { length view.now.names ≡ view.now.lets.first + length view.now.lets.values.items }
+    requires redex { redex.now ≡ next view.now.how.order (tree_of here.now.term) }
+    requires few { here.now.seen.made + 1 < 2 ^ 32 }
+    requires hidden { here.now.seen.hidden ≤ here.now.seen.made }
+    ensures text { OnOk result (text.new.items ≡ text.old.items ++ lines_of_step view.now.how
+        (glossary_of view.now.names view.now.lets) here.now.seen (tree_of here.now.term)
+        (binders_in here.now.binders)) }
+    ensures term { IfOk result (λ p. p.term ≡ after) }
+    ensures binders { IfOk result (λ p. binders_in p.binders
+        ≡ contracted (tree_of here.now.term) (binders_in here.now.binders) at.now) }
+    ensures seen { IfOk result (λ p. p.seen
+        ≡ unfolding_after view.now.how.order here.now.seen (tree_of here.now.term)) }
+{
+    let seen = put_made(alloc, text, view, here, redex)?;
+    let binders = contracted(alloc, &here.term, &here.binders, at)?;
+    Ok(Place {
+        term: after,
+        binders,
+        seen,
+    })
+}
+
 // The terms from one that is within bounds, by at most so many steps.
 fn walk(
     alloc: Global,
+    view: &View,
     term: Term,
-    own: BinderTree,
-    names: &Names,
-    lets: &Lets,
+    binders: BinderTree,
     count: u32,
-    how: Shown,
     most: u32,
 ) -> Result<Answer, NoMemory>
     requires bound { is_below 0 (tree_of term) ≡ true }
-    requires named { is_named_below lets.now.first (tree_of term) ≡ true }
+    requires named { is_named_below view.now.lets.first (tree_of term) ≡ true }
     requires within { IsWithin (tree_of term) }
-    requires names { length names.now ≡ lets.now.first + length lets.now.values.items }
-    ensures { IfOk result (λ a. Tells how (glossary_of names.now lets.now) count most
-        (tree_of term) (binders_in own) a.text.items a.end) }
+    requires names { length view.now.names ≡ view.now.lets.first + length view.now.lets.values.items }
+    ensures { IfOk result (λ a. Tells view.now.how (glossary_of view.now.names view.now.lets) count
+        most (tree_of term) (binders_in binders) a.text.items a.end) }
 {
     let mut text = Vec::new(alloc);
     let mut kept: Vec<Earlier> = Vec::new(alloc);
-    let mut here = term;
-    let mut binders = own;
-    let mut seen = Unfolding {
-        left: count,
-        hidden: 0,
-        made: 0,
-    };
+    let mut here = Place::first(term, binders, count);
     loop {
         let made = kept.len();
-        let next = redex(alloc, how.order, &here)?;
-        if let Some(earlier) = step_of(&kept, &here) {
-            put_shown(
-                alloc, &mut text, &here, &binders, names, lets, how, &next, seen,
-            )?;
-            let line = return_line(alloc, how.order, made, earlier)?;
-            put(&mut text, &line)?;
+        let next = redex(alloc, view.how.order, &here.term)?;
+        if let Some(earlier) = step_of(&kept, &here.term) {
+            put_return(alloc, &mut text, view, &here, &next, made, earlier)?;
             let end = End::No;
             return Ok(Answer { text, end });
         }
         let Some(at) = &next else {
-            put_shown(
-                alloc, &mut text, &here, &binders, names, lets, how, &next, seen,
-            )?;
-            let word = reached(how.order, &here);
-            put_last(alloc, &mut text, reached_words(word).as_bytes(), made)?;
-            let end = reached_end(word);
+            let end = put_end(alloc, &mut text, view, &here, &next, made)?;
             return Ok(Answer { text, end });
         };
         if made == most as usize {
-            put_step(
-                alloc, &mut text, &here, &binders, names, lets, how, &next, seen,
-            )?;
-            put_last(alloc, &mut text, b"a redex is left", made)?;
+            put_left(alloc, &mut text, view, &here, &next, made)?;
             let end = End::No;
             return Ok(Answer { text, end });
         }
-        match beta(alloc, &here, at) {
+        match beta(alloc, &here.term, at) {
             Ok(after) => {
-                seen = put_made(
-                    alloc, &mut text, &here, &binders, names, lets, how, &next, seen,
-                )?;
-                let left = contracted(alloc, &here, &binders, at)?;
-                binders = left;
-                let before = mem::replace(&mut here, after);
-                kept.push(Earlier::of(before))?;
+                let behind = step_on(alloc, &mut text, view, &here, &next, at, after)?;
+                let before = mem::replace(&mut here, behind);
+                kept.push(Earlier::of(before.term))?;
             }
             Err(fault) => match fault {
                 BetaFault::Past { size, depth } => {
-                    put_step(
-                        alloc, &mut text, &here, &binders, names, lets, how, &next, seen,
-                    )?;
-                    let line = past_line(alloc, made + 1, size, depth)?;
-                    put(&mut text, &line)?;
+                    put_past(alloc, &mut text, view, &here, &next, made + 1, size, depth)?;
                     let end = End::No;
                     return Ok(Answer { text, end });
                 }
@@ -200,7 +314,8 @@ fn of_small(
 {
     let mut names = file.names;
     let lets = lets_of(alloc, &mut names, count, &own, &file.term)?;
-    let answer = walk(alloc, file.term, own, &names, &lets, count, how, most)?;
+    let view = View { how, names, lets };
+    let answer = walk(alloc, &view, file.term, own, count, most)?;
     Ok(answer)
 }
 
@@ -257,17 +372,20 @@ fn of_text(
 
 /// The terms of reduction in an order, one under another, each with the address of the redex that
 /// comes next, by at most `most` steps. If the redex is to be marked, a line between the two has
-/// carets under its text, without brackets round it (`redexes_are_marked`). If binders are to keep
-/// their names, each has the one that it has in the file, with as few primes as keep it from every
-/// free name and every binder round it that is used in its body. The file has a term that `ol`
-/// takes by translation 2, in at most 1,048,576 bytes. Step 0 is the term itself.
+/// carets under its text, without brackets round it. Law `redexes_are_marked` says so of terms that
+/// aren't folded, and `folded_redexes_are_marked` of those that are. If binders are to keep their
+/// names, each has the one that it has in the file, with as few primes as keep it from every free
+/// name and every binder round it that is used in its body. The file has a term that `ol` takes by
+/// translation 2, in at most 1,048,576 bytes. Step 0 is the term itself.
 ///
-/// If terms are to be folded, each part that is the value of a let at the front of the file is
-/// written by its name, but for the redex that comes next and what this stands in. Where it is that
-/// of several, the last one's name is taken. A let counts if its value is closed, where those of
-/// the lets before it are put in, and its name is no free name and no later let's. Steps one after
-/// another that only unfold a let are one line, which says how many they are, and the step whose
-/// term comes next. Steps are counted as ever.
+/// If terms are to be folded, each abstraction or application that is the value of a let at the
+/// front of the file is written by its name. The redex that comes next isn't, nor is what it stands
+/// in, but its function and its argument may be. If a part is the value of several, the last one's
+/// name is taken. A let counts if its value is closed, where those of the lets before it are put in,
+/// and its name is no free name and no later let's. Steps one after another that only unfold a let
+/// are one line, which says how many they are, and the step whose term comes next. Steps are counted
+/// as ever (`each_step_counts`), and the end and the last line are those without folding
+/// (`showing_changes_no_end`).
 ///
 /// - `Yes`: the last term is what the order ends in, and the last line has the order's word for it:
 ///   a normal form, for leftmost and applicative order; a head normal form; a weak head normal form;

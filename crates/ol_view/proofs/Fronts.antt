@@ -6,7 +6,7 @@ use Rattle.std.specs.Option.{is_some}
 use Rattle.std.proofs.lemmas.List.{append-nil, drop_at, take-append-drop, take_more}
 use Rattle.std.specs.Prelude.{IfSome, IfNone, IsSomeAnd}
 use Rattle.ol_net.specs.Graph.{Graph}
-use Rattle.ol_net.specs.Nets.{NamedNet, IsNet}
+use Rattle.ol_net.specs.Nets.{NamedNet, IsNet, net_under}
 use Rattle.ol_net.specs.Numbered.{net_of}
 use Rattle.ol_net.specs.Pairs.{IsComplete, HasActive}
 use Rattle.ol_rules.specs.declared.journal.NodeName.{NodeName}
@@ -22,10 +22,10 @@ use Rattle.ol_view.specs.declared.line_reading.Line.{Line}
 use Rattle.ol_view.specs.declared.feeding.Checker.{Checker}
 use Rattle.ol_view.specs.Forms.{header_of, line_of, BeginsWithEntry}
 use Rattle.ol_view.specs.LineReading.{front_entry, TellsOf}
-use Rattle.ol_view.specs.Checks.{start_net_of_graph, HasNoLine, IsFound, OnlyIsFound}
+use Rattle.ol_view.specs.Checks.{start_net_of_graph, BeginsWithRun, HasNoLine, IsFound, OnlyIsFound}
 use Rattle.ol_view.specs.Standing.{BeginsWithTold}
-use Rattle.ol_view.specs.Feeding.{IsFixed, HasNoFeed, IsWholeLine, IsCopied, AreReplayed}
-use Rattle.ol_view.specs.Feeding.{first, then, AreLinesReplayed, IsReplayedTo, IsFed, bad_at}
+use Rattle.ol_view.specs.Feeding.{IsFixed, HasNoFeed, IsOpenLine, IsWholeLine, IsCopied, AreReplayed}
+use Rattle.ol_view.specs.Feeding.{first, then, AreLinesReplayed, IsReplayedTo, IsFed, IsRunSoFar, behind_run, bad_at}
 use Rattle.ol_view.proofs.AtPlaces.{line_is_read}
 use Rattle.ol_view.proofs.Entries.{Read, none_read}
 use Rattle.ol_view.proofs.Finding as finding
@@ -260,6 +260,18 @@ module _ (net : Graph) (text : List ℕ) (c : Checker) (r : IsReplayedTo net tex
         go (b ∷ bs) e =
             let p = ap length (parts more) in let q = length-append r.lines (line ++ more) in
             let s = length-append line more in let t = ap length e in omega arith
+
+    -- the lines that have ended are the trace of a run
+    pub run_so_far : IsOpenLine line → IsRunSoFar start text
+    run_so_far o =
+        let w = way [] in
+        let last : NamedNet NodeName = net_under w.m (net_of c.replay.net) in
+        let b : BeginsWithRun form start (text ++ []) w.journal w.waves last (drop at (text ++ [])) =
+        finding.begins_here form net (text ++ []) c.replay.net c.replay.numbers.bases.items c.replay.weights.items
+        c.entries at w in
+        behind_run (subst (λ bs. BeginsWithRun form start bs w.journal w.waves last line) (append-nil text)
+        (subst (λ rest. BeginsWithRun form start (text ++ []) w.journal w.waves last rest)
+        (here [] ∙ append-nil line) b)) o
 
     no_line_at : (more : List ℕ) → line ≢ [] → HasNoLine form (line ++ more) →
         IsFound start (text ++ more) (BadText (c.entries + 2))

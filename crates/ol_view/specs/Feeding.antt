@@ -6,14 +6,15 @@ use Rattle.ol_net.specs.Graph.{Graph}
 use Rattle.ol_net.specs.Nets.{NamedNet, IsNet}
 use Rattle.ol_net.specs.Numbered.{net_of}
 use Rattle.ol_rules.specs.declared.journal.NodeName.{NodeName}
+use Rattle.ol_rules.specs.declared.journal.Entry.{Entry}
 use Rattle.ol_diamond.specs.PortWeights.{WeighsEntry}
 use Rattle.ol_view.specs.declared.answers.Check.{Check}
 use Rattle.ol_view.specs.declared.answers.Check.TheVariants.{BadText}
 use Rattle.ol_view.specs.declared.forms.Form.{Form}
 use Rattle.ol_view.specs.declared.line_reading.Line.{Line}
 use Rattle.ol_view.specs.declared.feeding.Checker.{Checker}
-use Rattle.ol_view.specs.Checks.{start_net_of_graph, OnlyIsFound}
-use Rattle.ol_view.specs.Forms.{header_of}
+use Rattle.ol_view.specs.Checks.{start_net_of_graph, IsRunTold, BeginsWithRun, OnlyIsFound}
+use Rattle.ol_view.specs.Forms.{header_of, text_of}
 use Rattle.ol_view.specs.LineReading.{TellsOf}
 use Rattle.ol_view.specs.Standing.{BeginsWithTold}
 use Rattle.ol_limits.specs.Limits.{most_fuel}
@@ -93,3 +94,27 @@ IsAnswered net text (Some check) c = IsFixed (start_net_of_graph net) text check
 abbrev pub bad_at : Option Form → ℕ → Check
 bad_at None n = BadText 1
 bad_at (Some form) n = BadText (n + 2)
+
+-- ---- runs
+
+-- As far as its lines have ended, the text is the trace of a run from the net: none has ended yet, or those that have are
+-- such a trace. What is behind them is the front of a line.
+pub data IsRunSoFar (net : NamedNet NodeName) (text : List ℕ) : Type 0 where
+  in_first_line : IsOpenLine text → IsRunSoFar net text
+  behind_run : {form : Form} {journal : List Entry} {waves : List ℕ} {last : NamedNet NodeName}
+      {rest : List ℕ} → BeginsWithRun form net text journal waves last rest → IsOpenLine rest →
+      IsRunSoFar net text
+
+-- What was fed and has no answer yet is a run, as far as its lines have ended.
+abbrev pub FedIsARun : Type 0
+FedIsARun = (net : Graph) (text : List ℕ) (c : Checker) → IsFed net text c →
+    IsRunSoFar (start_net_of_graph net) text
+
+-- No answer is fixed by the front of the trace of a run, nor by the whole of it.
+abbrev pub RunIsNotAnswered : Type 0
+RunIsNotAnswered = (net : Graph) (front more : List ℕ) (form : Form) (journal : List Entry)
+    (waves : List ℕ) (last : NamedNet NodeName) (check : Check) → IsNet (net_of net) →
+    length net.nodes ≤ 1000000 → length journal ≤ most_fuel →
+    IsRunTold form (start_net_of_graph net) journal waves last →
+    front ++ more ≡ text_of form journal waves →
+    IsFixed (start_net_of_graph net) front check → ⊥

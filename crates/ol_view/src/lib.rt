@@ -12,7 +12,7 @@
 //! - `checking`: trace texts, read and replayed
 //! - `answers`: what the calls of this crate answer
 //! - `pieces`: bytes at the end of a text
-//! - `laws`: the law of shown nets
+//! - `laws`: the laws of shown nets, and of texts that are fed piece by piece
 #![tactic(auto)]
 
 mod answers;
@@ -32,7 +32,7 @@ pub use answers::{After, Check};
 pub use checking::check;
 pub use feeding::{Checker, is_so};
 pub use forms::Form;
-pub use laws::equal_nets_are_shown_alike;
+pub use laws::{equal_nets_are_shown_alike, fed_is_a_run};
 pub use leading::after;
 pub use line_reading::{Line, RULES};
 pub use showing::show;

@@ -1,187 +1,63 @@
-use Rattle.std.proofs.Common.{◌≡◌, ℕ, ◌+◌, ◌<◌, List, length, map, refl, sym, ◌∙◌, subst, arith}
+use Rattle.std.proofs.Common.{◌≡◌, ℕ, ◌+◌, ◌-◌, ◌*◌, ◌≤◌, List, length, refl, sym, ap, ◌∙◌, subst, subst₂, arith}
 use Rattle.std.proofs.lemmas.Result.{err_from_is_err_and}
+use Rattle.ol_net.specs.Graph.{Graph}
 use Rattle.ol_context.specs.Contexts.{Level}
-use Rattle.ol_context.specs.Asked.{asked}
-use Rattle.ol_context.specs.Shapes.{AreHeld, Extends, value, context_of}
-use Rattle.ol_readback.specs.Frames.{Frame, frames_of, ParentsFirst}
-use Rattle.ol_readback.specs.Heads.{answer_of, IsMatched}
-use Rattle.ol_readback.proofs.FrameLists.{frames_more, held_frames_more, held_this, port_this, count_frames}
-use Rattle.ol_rules.proofs.OnTheWay.{step_few}
-use Rattle.ol_demand.proofs.Questions.{matched_last, known_head}
-use Rattle.ol_boehm.specs.Chaining.{IsEndOf, IsHeldEnd, KeepsFirst}
-use Rattle.ol_boehm.specs.declared.chaining.End.TheVariants as end
-use Rattle.ol_boehm.proofs.Asked.{end_at, met_step, started, on_step, on_more, lost_spent, lost_never, lost_long, found_left}
+use Rattle.ol_context.specs.Shapes.{Extends}
+use Rattle.ol_readback.specs.Askers.{IsLastAsked}
+use Rattle.ol_readback.specs.Frames.{frames_of}
+use Rattle.ol_boehm.specs.Asking.{IsPartFound, IsReply, KeepsUnlessFound}
+use Rattle.ol_boehm.specs.declared.asking.Reply.{Reply}
+use Rattle.ol_boehm.specs.declared.asking.Reply.TheVariants as reply
+use Rattle.ol_boehm.proofs.Asked.{Onward, few_live, started, on_step, on_more, part_found}
 use Rattle.ol_boehm.proofs.asking.ask_part.Goals as goal
 
-last_below : (i n : ℕ) → i + 1 ≡ n → i < n
-last_below i n e = omega arith
+-- what a reply tells, where the values are as they were at the start
+told : (g h : Graph) (fs : List _) (vs us : List Level) (lams left : ℕ) (news : List Level) (r s : Reply) → vs ≡ us →
+    r ≡ s → IsReply g h (frames_of vs fs) lams left news r → IsReply g h (frames_of us fs) lams left news s
+told g h fs vs us lams left news r s v e h' =
+    subst₂ (λ vs r. IsReply g h (frames_of vs fs) lams left news r) v e h'
 
-pub index-frame-requires : goal.index-frame-requires
-index-frame-requires c = subst (λ (n : ℕ). c.args.asked.now.at < n) (sym c.args.asked.now.frames.now.ok.0)
-    (last_below c.args.asked.now.at (length c.args.asked.now.frames.now.items) c.requires.asked.last)
+pub ask_once-requires-clause-few : goal.ask_once-requires-clause-few
+ask_once-requires-clause-few c =
+    let f = c.loop-reply.invariant.few in
+    let r = c.requires.room in
+    let b = c.loop-reply.invariant.within in
+    omega (arith, f, r, b)
 
-pub end_of-requires-clause-port : goal.end_of-requires-clause-port
-end_of-requires-clause-port c =
-    let p = port_this c.args.net.now.free c.args.asked.now.frames.now.items c.args.asked.now.at
-    c.index-frame.result.now c.requires.asked.list.ports (omega (arith, c.requires.asked.last)) c.index-frame.ensures in
-    omega (arith, p, c.loop-end.invariant.free)
+pub ask_once-requires-clause-asked : goal.ask_once-requires-clause-asked
+ask_once-requires-clause-asked c =
+    let i = c.loop-reply.invariant in
+    let a = c.args.asked.now in
+    subst₂ (λ free vs. IsLastAsked free vs a.frames.now.items a.skips.now.items a.at) (sym i.free) (sym i.same)
+    c.requires.asked
 
-pub end_of-requires-clause-held : goal.end_of-requires-clause-held
-end_of-requires-clause-held c =
-    subst (λ (vs : List Level). AreHeld vs c.index-frame.result.now.levels) (sym c.loop-end.invariant.same)
-    (held_this c.args.values.now c.args.asked.now.frames.now.items c.args.asked.now.at
-    c.index-frame.result.now c.requires.asked.list.held (omega (arith, c.requires.asked.last)) c.index-frame.ensures)
-
-pub returns-in_err-end-clause-found : goal.returns-in_err-end-clause-found
-returns-in_err-end-clause-found c =
+pub returns-in_err-reply-clause-found : goal.returns-in_err-reply-clause-found
+returns-in_err-reply-clause-found c =
     let p = err_from_is_err_and c.from_residual.result c.from_residual.ensures.1 in rw p.1 tt
 
-pub returns-in_err-end-clause-extends : goal.returns-in_err-end-clause-extends
-returns-in_err-end-clause-extends c =
-    subst (λ (vs : List Level). Extends vs c.end_of.new.values) c.loop-end.invariant.same c.end_of.ensures.extends
+pub returns-in_err-reply-clause-extends : goal.returns-in_err-reply-clause-extends
+returns-in_err-reply-clause-extends c =
+    subst (λ (vs : List Level). Extends vs c.ask_once.new.values) c.loop-reply.invariant.same c.ask_once.ensures.extends
 
-pub rewrite-requires-clause-few : goal.rewrite-requires-clause-few
-rewrite-requires-clause-few c =
-    let f = c.loop-end.invariant.few in
-    let r = c.requires.room in
-    let b = c.loop-end.invariant.within in
-    omega arith
+pub returns-in-Found-clause-extends : goal.returns-in-Found-clause-extends
+returns-in-Found-clause-extends c =
+    subst (λ (vs : List Level). Extends vs c.ask_once.new.values) c.loop-reply.invariant.same c.ask_once.ensures.extends
 
-pub rewrite-requires-clause-pair : goal.rewrite-requires-clause-pair
-rewrite-requires-clause-pair c =
-    (subst (λ e. IsEndOf c.loop-end.net c.index-frame.result.now.port
-    (asked (map (value c.loop-end.values) c.index-frame.result.now.levels) c.loop-end.lams) c.end_of.new.values e)
-    c.in-Met.is c.in_ok-end.ensures.ends).0
-
-pub returns-in_err-rewrite-in-Met-clause-found : goal.returns-in_err-rewrite-in-Met-clause-found
-returns-in_err-rewrite-in-Met-clause-found c =
-    let p = err_from_is_err_and c.from_residual-in_err-rewrite-in-Met.result c.from_residual-in_err-rewrite-in-Met.ensures.1 in
-    rw p.1 tt
-
-pub returns-in_err-rewrite-in-Met-clause-extends : goal.returns-in_err-rewrite-in-Met-clause-extends
-returns-in_err-rewrite-in-Met-clause-extends c =
-    subst (λ (vs : List Level). Extends vs c.end_of.new.values) c.loop-end.invariant.same c.end_of.ensures.extends
-
-pub returns-then-made-fuel-clause-extends : goal.returns-then-made-fuel-clause-extends
-returns-then-made-fuel-clause-extends c =
-    subst (λ (vs : List Level). Extends vs c.end_of.new.values) c.loop-end.invariant.same c.end_of.ensures.extends
-
-pub returns-then-made-fuel-clause-found : goal.returns-then-made-fuel-clause-found
-returns-then-made-fuel-clause-found c =
-    let i = c.loop-end.invariant in
-    let ends = subst (λ (vs : List Level). IsEndOf c.loop-end.net c.index-frame.result.now.port
-    (asked (map (value vs) c.index-frame.result.now.levels) c.loop-end.lams) c.end_of.new.values c.in_ok-end.end)
-    i.same c.in_ok-end.ensures.ends in
-    let at = end_at c.args.values.now c.args.asked.now.frames.now.items c.args.asked.now.at c.index-frame.result.now
-    c.requires.asked.last c.index-frame.ensures c.loop-end.net c.loop-end.lams c.end_of.new.values c.in_ok-end.end
-    (end.Met c.in-Met.node) ends c.in-Met.is in
-    let pair = (subst (λ e. IsEndOf c.loop-end.net c.index-frame.result.now.port
-    (asked (map (value c.loop-end.values) c.index-frame.result.now.levels) c.loop-end.lams) c.end_of.new.values e)
-    c.in-Met.is c.in_ok-end.ensures.ends).0 in
-    lost_spent c.args.net.now c.loop-end.net (frames_of c.args.values.now c.args.asked.now.frames.now.items) c.args.fuel
-    c.loop-end.made c.loop-end.lams i.onward i.within i.few i.free c.end_of.new.values c.if-made-fuel.true
-    c.in-Met.node pair at
-
-pub leave_by-requires-clause-at : goal.leave_by-requires-clause-at
-leave_by-requires-clause-at c = last_below c.args.asked.now.at (length c.args.asked.now.frames.now.items)
-    c.requires.asked.last
-
-pub leave_by-requires-clause-skips : goal.leave_by-requires-clause-skips
-leave_by-requires-clause-skips c = c.requires.asked.skipped
-
-pub leave_by-requires-clause-context : goal.leave_by-requires-clause-context
-leave_by-requires-clause-context c = subst (λ e. IsHeldEnd c.end_of.new.values e) c.in-Left.is c.in_ok-end.ensures.held
-
-pub leave_by-requires-clause-parents : goal.leave_by-requires-clause-parents
-leave_by-requires-clause-parents c =
-    let x = subst (λ (vs : List Level). Extends vs c.end_of.new.values) c.loop-end.invariant.same c.end_of.ensures.extends in
-    subst ParentsFirst (sym (frames_more c.args.values.now c.end_of.new.values c.args.asked.now.frames.now.items x
-    c.requires.asked.list.held)) c.requires.asked.list.parents
-
-pub leave_by-requires-clause-frames : goal.leave_by-requires-clause-frames
-leave_by-requires-clause-frames c =
-    let x = subst (λ (vs : List Level). Extends vs c.end_of.new.values) c.loop-end.invariant.same c.end_of.ensures.extends in
-    held_frames_more c.args.values.now c.end_of.new.values c.args.asked.now.frames.now.items x c.requires.asked.list.held
-
-pub returns-in_err-head-in-Left-clause-found : goal.returns-in_err-head-in-Left-clause-found
-returns-in_err-head-in-Left-clause-found c =
-    let p = err_from_is_err_and c.from_residual-in_err-head-in-Left.result c.from_residual-in_err-head-in-Left.ensures.1 in
-    rw p.1 tt
-
-pub returns-in_err-head-in-Left-clause-extends : goal.returns-in_err-head-in-Left-clause-extends
-returns-in_err-head-in-Left-clause-extends c =
-    subst (λ (vs : List Level). Extends vs c.end_of.new.values) c.loop-end.invariant.same c.end_of.ensures.extends
-
-pub returns-in-Left-clause-extends : goal.returns-in-Left-clause-extends
-returns-in-Left-clause-extends c =
-    subst (λ (vs : List Level). Extends vs c.end_of.new.values) c.loop-end.invariant.same c.end_of.ensures.extends
-
-pub returns-in-Left-clause-found : goal.returns-in-Left-clause-found
-returns-in-Left-clause-found c =
-    let i = c.loop-end.invariant in
-    let vs = c.args.values.now in
-    let us = c.end_of.new.values in
+pub returns-in-Found-clause-found : goal.returns-in-Found-clause-found
+returns-in-Found-clause-found c =
+    let i = c.loop-reply.invariant in
     let fs = c.args.asked.now.frames.now.items in
-    let f = c.index-frame.result.now in
-    let ends = subst (λ (vs : List Level). IsEndOf c.loop-end.net c.index-frame.result.now.port
-    (asked (map (value vs) c.index-frame.result.now.levels) c.loop-end.lams) c.end_of.new.values c.in_ok-end.end)
-    i.same c.in_ok-end.ensures.ends in
-    let at = end_at vs fs c.args.asked.now.at f
-    c.requires.asked.last c.index-frame.ensures c.loop-end.net c.loop-end.lams us c.in_ok-end.end
-    (end.Left c.in-Left.port c.in-Left.context) ends c.in-Left.is in
-    let x = subst (λ (vs : List Level). Extends vs c.end_of.new.values) i.same c.end_of.ensures.extends in
-    let a = answer_of us c.in_ok-head-in-Left.head in
-    let m = subst (λ (F : List Frame). IsMatched F c.args.asked.now.at c.loop-end.lams
-    c.in-Left.port (context_of us c.in-Left.context) a)
-    (frames_more vs us fs x c.requires.asked.list.held) c.in_ok-head-in-Left.ensures.answer in
-    let n = count_frames vs fs in
-    let here = subst (λ e. IsEndOf c.loop-end.net f.port (asked (map (value vs) f.levels) c.loop-end.lams) us e)
-    c.in-Left.is ends in
-    let known = known_head c.loop-end.net c.is_net.ensures.net (frames_of vs fs) c.args.asked.now.at
-    c.loop-end.lams c.in-Left.port (context_of us c.in-Left.context) f.port _ us c.in_ok-head-in-Left.head
-    c.requires.asked.list.parents (omega (arith, c.requires.asked.last)) here m in
-    found_left c.args.net.now c.loop-end.net (frames_of vs fs) c.args.fuel
-    c.loop-end.made c.loop-end.lams i.onward i.within i.few i.free us c.in_ok-head-in-Left.head c.in-Left.port
-    (context_of us c.in-Left.context) at
-    (λ front s z. matched_last vs fs c.args.asked.now.at f c.requires.asked.last c.index-frame.ensures front s z
-    c.loop-end.lams c.in-Left.port (context_of us c.in-Left.context) a m)
-    c.in_ok-head-in-Left.ensures.held known
+    let vs = c.args.values.now in
+    let t = told c.loop-reply.net c.ask_once.new.net fs c.loop-reply.values vs c.loop-reply.lams
+    (c.args.fuel - c.loop-reply.made) c.ask_once.new.values c.in_ok-reply.reply (reply.Found c.in-Found.head) i.same
+    c.in-Found.is c.in_ok-reply.ensures.reply in
+    subst (λ h. IsPartFound c.args.net.now h (frames_of vs fs) c.args.fuel c.ask_once.new.values c.in-Found.head
+    c.loop-reply.made) (sym t.0)
+    (part_found c.args.net.now c.loop-reply.net (frames_of vs fs) c.args.fuel c.loop-reply.made c.loop-reply.lams
+    i.onward i.within i.few i.free c.ask_once.new.values c.in-Found.head t.1 t.2 t.3)
 
-pub returns-then-lams-nodes-clause-extends : goal.returns-then-lams-nodes-clause-extends
-returns-then-lams-nodes-clause-extends c =
-    subst (λ (vs : List Level). Extends vs c.end_of.new.values) c.loop-end.invariant.same c.end_of.ensures.extends
-
-pub returns-then-lams-nodes-clause-found : goal.returns-then-lams-nodes-clause-found
-returns-then-lams-nodes-clause-found c =
-    let i = c.loop-end.invariant in
-    let ends = subst (λ (vs : List Level). IsEndOf c.loop-end.net c.index-frame.result.now.port
-    (asked (map (value vs) c.index-frame.result.now.levels) c.loop-end.lams) c.end_of.new.values c.in_ok-end.end)
-    i.same c.in_ok-end.ensures.ends in
-    let at = end_at c.args.values.now c.args.asked.now.frames.now.items c.args.asked.now.at c.index-frame.result.now
-    c.requires.asked.last c.index-frame.ensures c.loop-end.net c.loop-end.lams c.end_of.new.values c.in_ok-end.end
-    end.Undefined ends c.in-Undefined.is in
-    lost_never c.args.net.now c.loop-end.net (frames_of c.args.values.now c.args.asked.now.frames.now.items) c.args.fuel
-    c.loop-end.made c.loop-end.lams i.onward i.within i.few i.free c.end_of.new.values
-    (omega (arith, c.if-lams-nodes.true, c.nodes.ensures.nodes)) at
-
-pub returns-in-Budget-clause-extends : goal.returns-in-Budget-clause-extends
-returns-in-Budget-clause-extends c =
-    subst (λ (vs : List Level). Extends vs c.end_of.new.values) c.loop-end.invariant.same c.end_of.ensures.extends
-
-pub returns-in-Budget-clause-found : goal.returns-in-Budget-clause-found
-returns-in-Budget-clause-found c =
-    let i = c.loop-end.invariant in
-    let ends = subst (λ (vs : List Level). IsEndOf c.loop-end.net c.index-frame.result.now.port
-    (asked (map (value vs) c.index-frame.result.now.levels) c.loop-end.lams) c.end_of.new.values c.in_ok-end.end)
-    i.same c.in_ok-end.ensures.ends in
-    let at = end_at c.args.values.now c.args.asked.now.frames.now.items c.args.asked.now.at c.index-frame.result.now
-    c.requires.asked.last c.index-frame.ensures c.loop-end.net c.loop-end.lams c.end_of.new.values c.in_ok-end.end
-    end.Budget ends c.in-Budget.is in
-    lost_long c.args.net.now c.loop-end.net (frames_of c.args.values.now c.args.asked.now.frames.now.items) c.args.fuel
-    c.loop-end.made c.loop-end.lams i.onward i.within i.few i.free c.end_of.new.values at
-
-pub loop-end-init : goal.loop-end-init
-loop-end-init c = record {
+pub loop-reply-init : goal.loop-reply-init
+loop-reply-init c = record {
   same = refl;
   within = omega arith;
   few = omega arith;
@@ -189,49 +65,54 @@ loop-end-init c = record {
   onward = started c.args.net.now (frames_of c.args.values.now c.args.asked.now.frames.now.items) c.args.fuel;
 }
 
-pub loop-end-preserved-in-Met : goal.loop-end-preserved-in-Met
-loop-end-preserved-in-Met c =
-    let i = c.loop-end.invariant in
-    let ends = subst (λ (vs : List Level). IsEndOf c.loop-end.net c.index-frame.result.now.port
-    (asked (map (value vs) c.index-frame.result.now.levels) c.loop-end.lams) c.end_of.new.values c.in_ok-end.end)
-    i.same c.in_ok-end.ensures.ends in
-    let at = end_at c.args.values.now c.args.asked.now.frames.now.items c.args.asked.now.at c.index-frame.result.now
-    c.requires.asked.last c.index-frame.ensures c.loop-end.net c.loop-end.lams c.end_of.new.values c.in_ok-end.end
-    (end.Met c.in-Met.node) ends c.in-Met.is in
-    let t = c.in_ok-rewrite-in-Met.ensures.steps in
-    let kept = subst (λ e. KeepsFirst c.loop-end.values c.end_of.new.values c.end_of.new.values e) c.in-Met.is
-    c.in_ok-end.ensures.kept in
-    let few = step_few c.loop-end.net c.rewrite.new.net c.in-Met.node.0 t.0 t.1 in
-    let b : c.loop-end.made < c.args.fuel = omega (arith, c.if-made-fuel.false) in
+pub loop-reply-preserved-in-Rewritten : goal.loop-reply-preserved-in-Rewritten
+loop-reply-preserved-in-Rewritten c =
+    let i = c.loop-reply.invariant in
+    let fs = c.args.asked.now.frames.now.items in
+    let vs = c.args.values.now in
+    let t = told c.loop-reply.net c.ask_once.new.net fs c.loop-reply.values vs c.loop-reply.lams
+    (c.args.fuel - c.loop-reply.made) c.ask_once.new.values c.in_ok-reply.reply reply.Rewritten i.same
+    c.in-Rewritten.is c.in_ok-reply.ensures.reply in
+    let kept = subst (λ r. KeepsUnlessFound c.loop-reply.values c.ask_once.new.values r) c.in-Rewritten.is
+    c.in_ok-reply.ensures.kept in
     record {
       same = kept ∙ i.same;
-      within = omega arith;
-      few = let f = i.few in omega arith;
-      free = t.1.step.rewrites.free_ports ∙ i.free;
-      onward = on_step c.args.net.now c.loop-end.net
-          (frames_of c.args.values.now c.args.asked.now.frames.now.items) c.args.fuel c.loop-end.made c.loop-end.lams
-          i.onward c.rewrite.new.net b
-          (λ front s z. met_step c.loop-end.net c.rewrite.new.net s c.loop-end.lams c.in-Met.node c.end_of.new.values
-          t.0 (at front s z) t.1);
+      within = omega (arith, t.0);
+      few = let f = i.few in omega (arith, f, t.1);
+      free = t.2 ∙ i.free;
+      onward = on_step c.args.net.now c.loop-reply.net (frames_of vs fs) c.args.fuel c.loop-reply.made c.loop-reply.lams
+          i.onward c.ask_once.new.net (omega (arith, t.0)) t.3;
     }
 
-pub loop-end-preserved : goal.loop-end-preserved
-loop-end-preserved c =
-    let i = c.loop-end.invariant in
-    let ends = subst (λ (vs : List Level). IsEndOf c.loop-end.net c.index-frame.result.now.port
-    (asked (map (value vs) c.index-frame.result.now.levels) c.loop-end.lams) c.end_of.new.values c.in_ok-end.end)
-    i.same c.in_ok-end.ensures.ends in
-    let at = end_at c.args.values.now c.args.asked.now.frames.now.items c.args.asked.now.at c.index-frame.result.now
-    c.requires.asked.last c.index-frame.ensures c.loop-end.net c.loop-end.lams c.end_of.new.values c.in_ok-end.end
-    end.Undefined ends c.in-Undefined.is in
-    let kept = subst (λ e. KeepsFirst c.loop-end.values c.end_of.new.values c.end_of.new.values e) c.in-Undefined.is
-    c.in_ok-end.ensures.kept in
+pub loop-reply-preserved : goal.loop-reply-preserved
+loop-reply-preserved c =
+    let i = c.loop-reply.invariant in
+    let fs = c.args.asked.now.frames.now.items in
+    let vs = c.args.values.now in
+    let t = told c.loop-reply.net c.ask_once.new.net fs c.loop-reply.values vs c.loop-reply.lams
+    (c.args.fuel - c.loop-reply.made) c.ask_once.new.values c.in_ok-reply.reply reply.OneMore i.same
+    c.in-OneMore.is c.in_ok-reply.ensures.reply in
+    let kept = subst (λ r. KeepsUnlessFound c.loop-reply.values c.ask_once.new.values r) c.in-OneMore.is
+    c.in_ok-reply.ensures.kept in
     record {
       same = kept ∙ i.same;
       within = i.within;
-      few = i.few;
-      free = i.free;
-      onward = on_more c.args.net.now c.loop-end.net
-          (frames_of c.args.values.now c.args.asked.now.frames.now.items) c.args.fuel c.loop-end.made c.loop-end.lams
-          i.onward (omega (arith, c.if-lams-nodes.false, c.nodes.ensures.nodes)) at;
+      few = subst (λ (h : Graph). length h.nodes ≤ length c.args.net.now.nodes + 4 * c.loop-reply.made) (sym t.0) i.few;
+      free = ap (λ (h : Graph). h.free) t.0 ∙ i.free;
+      onward = subst (λ h. Onward c.args.net.now (frames_of vs fs) c.args.fuel c.loop-reply.made (c.loop-reply.lams + 1) h)
+          (sym t.0)
+          (on_more c.args.net.now c.loop-reply.net (frames_of vs fs) c.args.fuel c.loop-reply.made c.loop-reply.lams
+          i.onward t.1 t.2);
     }
+
+pub overflow_add-lams : goal.overflow_add-lams
+overflow_add-lams c =
+    let i = c.loop-reply.invariant in
+    let t = subst (λ r. IsReply c.loop-reply.net c.ask_once.new.net
+    (frames_of c.loop-reply.values c.args.asked.now.frames.now.items) c.loop-reply.lams (c.args.fuel - c.loop-reply.made)
+    c.ask_once.new.values r) c.in-OneMore.is c.in_ok-reply.ensures.reply in
+    let l = few_live c.loop-reply.net in
+    let f = i.few in
+    let w = i.within in
+    let r = c.requires.room in
+    omega (arith, t.1, l, f, w, r)

@@ -1,26 +1,12 @@
 -- The words of a cause are put piece by piece.
-use Rattle.std.proofs.Common.{rules, ◌≡◌, ℕ, List, ◌++◌, OnOk, sym, ap, ◌∙◌, subst}
+use Rattle.std.proofs.Common.{◌≡◌, ◌++◌, OnOk, sym, ap, ◌∙◌, subst}
 use Rattle.std.specs.Prelude.{string_bytes, codes}
 use Rattle.std.specs.Fmt.{decimal}
-use Rattle.std.proofs.lemmas.List.{append_assoc}
 use Rattle.ol_view.specs.TraceTexts.{name_text}
 use Rattle.ol_view.specs.RuleNames.{rule_text}
 use Rattle.ol_explain.specs.Explained.{copy_text, link_text, cause_words}
+use Rattle.ol_explain.proofs.Pieces.{two, three, four, five}
 use Rattle.ol_explain.proofs.causes.put_cause.Goals as goal
-
-two : (b0 b1 w n : List ℕ) → b1 ≡ b0 ++ w → b1 ++ n ≡ b0 ++ (w ++ n)
-two b0 b1 w n e = search (rules, append_assoc)
-
-four : (b0 b1 b2 b3 a1 a2 a3 a4 : List ℕ) → b1 ≡ b0 ++ a1 → b2 ≡ b1 ++ a2 → b3 ≡ b2 ++ a3 →
-    b3 ++ a4 ≡ b0 ++ (a1 ++ a2 ++ a3 ++ a4)
-four b0 b1 b2 b3 a1 a2 a3 a4 e1 e2 e3 = search (rules, append_assoc)
-
-five : (b0 b1 b2 b3 b4 a1 a2 a3 a4 a5 : List ℕ) → b1 ≡ b0 ++ a1 → b2 ≡ b1 ++ a2 → b3 ≡ b2 ++ a3 → b4 ≡ b3 ++ a4 →
-    b4 ++ a5 ≡ b0 ++ (a1 ++ a2 ++ a3 ++ a4 ++ a5)
-five b0 b1 b2 b3 b4 a1 a2 a3 a4 a5 e1 e2 e3 e4 = search (rules, append_assoc)
-
-three : (b0 b1 b2 a1 a2 a3 : List ℕ) → b1 ≡ b0 ++ a1 → b2 ≡ b1 ++ a2 → b2 ++ a3 ≡ b0 ++ (a1 ++ a2 ++ a3)
-three b0 b1 b2 a1 a2 a3 e1 e2 = search (rules, append_assoc)
 
 pub returns-in_ok-put-in-FacesCopy : goal.returns-in_ok-put-in-FacesCopy
 returns-in_ok-put-in-FacesCopy c =

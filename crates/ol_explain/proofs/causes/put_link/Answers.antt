@@ -1,16 +1,9 @@
-use Rattle.std.proofs.Common.{rules, ◌≡◌, ◌≢◌, ℕ, zero, suc, ◌+◌, List, ◌++◌, OnOk, refl, sym, ap, ◌∙◌, subst, arith}
+use Rattle.std.proofs.Common.{◌≡◌, ◌≢◌, ℕ, zero, suc, ◌+◌, ◌++◌, OnOk, refl, sym, ap, ◌∙◌, subst, arith}
 use Rattle.std.specs.Prelude.{string_bytes, codes}
 use Rattle.std.specs.Fmt.{decimal}
-use Rattle.std.proofs.lemmas.List.{append_assoc}
 use Rattle.ol_explain.specs.Explained.{link_text}
+use Rattle.ol_explain.proofs.Pieces.{two, four}
 use Rattle.ol_explain.proofs.causes.put_link.Goals as goal
-
-two : (b0 b1 w n : List ℕ) → b1 ≡ b0 ++ w → b1 ++ n ≡ b0 ++ (w ++ n)
-two b0 b1 w n e = search (rules, append_assoc)
-
-four : (b0 b1 b2 b3 a1 a2 a3 a4 : List ℕ) → b1 ≡ b0 ++ a1 → b2 ≡ b1 ++ a2 → b3 ≡ b2 ++ a3 →
-    b3 ++ a4 ≡ b0 ++ (a1 ++ a2 ++ a3 ++ a4)
-four b0 b1 b2 b3 a1 a2 a3 a4 e1 e2 e3 = search (rules, append_assoc)
 
 by_line : (n weight : ℕ) → n ≢ 0 →
     codes "line " ++ decimal (n + 1) ++ codes " made the link, of weight " ++ decimal weight ≡ link_text n weight

@@ -1,12 +1,9 @@
-use Rattle.std.proofs.Common.{rules, ◌≡◌, ℕ, List, ◌++◌, OnOk, sym, ap, ◌∙◌, subst}
+use Rattle.std.proofs.Common.{◌≡◌, ◌++◌, OnOk, sym, ap, ◌∙◌, subst}
 use Rattle.std.specs.Prelude.{string_bytes, codes}
 use Rattle.std.specs.Fmt.{decimal}
-use Rattle.std.proofs.lemmas.List.{append_assoc}
 use Rattle.ol_explain.specs.Explained.{never_text}
+use Rattle.ol_explain.proofs.Pieces.{two}
 use Rattle.ol_explain.proofs.causes.put_never.Goals as goal
-
-two : (b0 b1 w n : List ℕ) → b1 ≡ b0 ++ w → b1 ++ n ≡ b0 ++ (w ++ n)
-two b0 b1 w n e = search (rules, append_assoc)
 
 pub returns-in_ok-put-in-Init : goal.returns-in_ok-put-in-Init
 returns-in_ok-put-in-Init c =

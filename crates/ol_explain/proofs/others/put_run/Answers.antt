@@ -1,13 +1,10 @@
-use Rattle.std.proofs.Common.{rules, ◌≡◌, ℕ, List, [], ◌++◌, OnOk, if◌then◌else◌, ap, ◌∙◌, subst}
+use Rattle.std.proofs.Common.{◌≡◌, [], ◌++◌, OnOk, if◌then◌else◌, ap, ◌∙◌, subst}
 use Rattle.std.specs.Prelude.{codes}
 use Rattle.std.specs.Fmt.{decimal}
-use Rattle.std.proofs.lemmas.List.{append_assoc}
 use Rattle.ol_explain.specs.Afters.{line_with}
 use Rattle.ol_explain.specs.Others.{translation_number}
+use Rattle.ol_explain.proofs.Pieces.{three}
 use Rattle.ol_explain.proofs.others.put_run.Goals as goal
-
-three : (b0 b1 b2 a1 a2 a3 : List ℕ) → b1 ≡ b0 ++ a1 → b2 ≡ b1 ++ a2 → b2 ++ a3 ≡ b0 ++ (a1 ++ a2 ++ a3)
-three b0 b1 b2 a1 a2 a3 e1 e2 = search (rules, append_assoc)
 
 pub returns : goal.returns
 returns c =

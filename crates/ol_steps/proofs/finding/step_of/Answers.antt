@@ -1,4 +1,4 @@
-use Rattle.std.proofs.Common.{length, arith}
+use Rattle.std.proofs.Common.{arith}
 use Rattle.std.proofs.lemmas.Option.{slice_get_within}
 use Rattle.ol_term.specs.Trees.{tree_of}
 use Rattle.ol_steps.specs.Kept.{terms_of}

@@ -1,0 +1,54 @@
+-- Which lets the steps of a walk only unfold, and that no value of one is left in a term that is shown.
+use Rattle.std.specs.Prelude.{◌≡◌, ℕ, ◌+◌, ◌≤◌, if◌then◌else◌, List, [], ◌∷◌, ◌++◌, length, slice_get, IsPermutation}
+use Rattle.std.specs.Prelude.{Option, None, Some, option_to_list}
+use Rattle.ol_term.specs.Trees.{Tree}
+use Rattle.ol_strategies.specs.Redexes.{next}
+use Rattle.ol_strategies.specs.declared.orders.Order.{Order}
+use Rattle.ol_parse.specs.Grammar.{Named}
+use Rattle.ol_parse.specs.Texts.{IsText}
+use Rattle.ol_parse.specs.Numbered.{names_of, number}
+use Rattle.ol_binders.specs.Binders.{Binders, binders_of, Fits}
+use Rattle.ol_folds.specs.Fronts.{BeginsWithLets}
+use Rattle.ol_folds.specs.Lets.{let_names, is_let_at}
+use Rattle.ol_folds.specs.Laws.{subterm_along, IsOffTheWay, redex_binder}
+use Rattle.ol_steps.specs.Steps.{Walk, glossary, shown_tree, next_binders, last_binders, begun, unfolding_after, last_unfolding}
+use Rattle.ol_steps.specs.declared.stepping.Shown.{Shown}
+use Rattle.ol_steps.specs.declared.showing.Unfolding.{Unfolding}
+
+-- the name of the binder of a step's redex, if the step only unfolds a let, where so many at the front are left
+abbrev pub let_of_step : ℕ → Option (List ℕ) → Binders → List (List ℕ)
+let_of_step left None s = []
+let_of_step left (Some at) s = if is_let_at left at then option_to_list (redex_binder s at) else []
+
+-- the names of the lets that steps from these terms only unfold, one after another
+abbrev pub lets_unfolded : Order → Unfolding → Binders → List Tree → List (List ℕ)
+lets_unfolded order u s [] = []
+lets_unfolded order u s (t ∷ terms) = let_of_step u.left (next order t) s
+    ++ lets_unfolded order (unfolding_after order u t) (next_binders order t s) terms
+
+-- the names of the lets that are left at the front behind the steps from these terms
+abbrev pub lets_left : Order → ℕ → Binders → List Tree → List (List ℕ)
+lets_left order n s terms = let_names (last_unfolding order (begun n) terms).left (last_binders order s terms)
+
+-- The lets that steps from these terms unfolded, and those that are left at the front, are the lets at the front of the
+-- first term: each once, by the names that its binders have.
+pub record UnfoldsLets (order : Order) (n : ℕ) (s : Binders) (terms : List Tree) : Type 0 where
+  pub each_once : IsPermutation (let_names n s) (lets_unfolded order (begun n) s terms ++ lets_left order n s terms)
+  -- as many are left as the count says
+  pub left : length (lets_left order n s terms) ≡ (last_unfolding order (begun n) terms).left
+  -- at most as many are told to be unfolded as aren't left
+  pub hidden : (last_unfolding order (begun n) terms).hidden + (last_unfolding order (begun n) terms).left ≤ n
+
+-- it is so with each walk from the term of a text, whatever names its binders have
+abbrev pub LetsAreUnfolded : Type 0
+LetsAreUnfolded = (order : Order) (bytes : List ℕ) (n : ℕ) (source : Named) (s : Binders) (v : Tree) (terms : List Tree) →
+    IsText bytes source → BeginsWithLets bytes n → Fits (number source) s → Walk order (number source) terms v →
+    UnfoldsLets order n s terms
+
+-- no subterm of a term that is shown is the value of a let that counts, but for the redex that comes next and what this
+-- stands in
+abbrev pub NoValueIsShown : Type 0
+NoValueIsShown = (how : Shown) (n : ℕ) (source : Named) (v value : Tree) (at : List ℕ) (k : ℕ) →
+    slice_get (glossary (names_of source) n (number source) (binders_of source)).values k ≡ Some value →
+    IsOffTheWay (next how.order v) at →
+    subterm_along (shown_tree how (glossary (names_of source) n (number source) (binders_of source)) v) at ≡ Some value → ⊥
