@@ -87,9 +87,9 @@ pub fn copy(alloc: Global, term: &Term) -> Result<Term, NoMemory>
 }
 
 /// A term in which each abstraction or application that is the value of a let is the let's name. A
-/// variable or a free name stays what it is. If a part is the value of several, the first one's name
-/// in the list is taken. Parts of such a part aren't looked at. The calls recurse as deep as the
-/// term is, and for each let. `NoMemory`: no memory was found.
+/// variable or a free name stays what it is. If a part is the value of several, the first one's
+/// name in the list is taken. Parts of such a part aren't looked at. The calls recurse as deep as
+/// the term is, and for each let. `NoMemory`: no memory was found.
 pub fn fold(alloc: Global, lets: &Lets, term: &Term) -> Result<Term, NoMemory>
     ensures { IfOk result (λ t. tree_of t
         ≡ all_folded lets.now.first (trees_of lets.now.values.items) (tree_of term.now)) }

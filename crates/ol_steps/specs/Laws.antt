@@ -83,7 +83,8 @@ StandsForAbstraction g (app f a) = ⊥
 
 -- a redex where parts are written by names: such a function that is applied to an argument
 abbrev pub IsFoldedRedex : Glossary → Named → Type 0
-IsFoldedRedex g u = (function : Named) × (argument : Named) × (u ≡ app function argument) × StandsForAbstraction g function
+IsFoldedRedex g u = (function : Named) × (argument : Named) × (u ≡ app function argument)
+    × StandsForAbstraction g function
 
 -- the carets stand under it, where the tree is folded that has the redex
 abbrev pub FoldedRedexIsMarked : Type 0
@@ -112,8 +113,8 @@ PartIsSubterm = (own : Bool) (names : List (List ℕ)) (t : Tree) (s : Binders) 
 abbrev pub HasRedexAt : Tree → List ℕ → Type 0
 HasRedexAt t at = (body : Tree) × (argument : Tree) × (subterm_at t at ≡ tree.app (tree.lam body) argument)
 
--- Where the values are put in the places of their names, what stands in the folded tree at the address of the redex that
--- comes next is that redex.
+-- Where the values are put in the places of their names, what stands in the folded tree at the address of the redex
+-- that comes next is that redex.
 abbrev pub UnfoldsToNext : Type 0
 UnfoldsToNext = (how : Shown) (g : Glossary) (t : Tree) (at : List ℕ) → is_named_below g.first t ≡ true →
     next how.order t ≡ Some at →

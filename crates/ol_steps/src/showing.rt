@@ -122,7 +122,8 @@ pub fn put_shown(
     requires bound { is_below 0 (tree_of here.now.term) ≡ true }
     requires named { is_named_below view.now.lets.first (tree_of here.now.term) ≡ true }
     requires within { IsWithin (tree_of here.now.term) }
-    requires names { length view.now.names ≡ view.now.lets.first + length view.now.lets.values.items }
+    requires names { length view.now.names
+        ≡ view.now.lets.first + length view.now.lets.values.items }
     requires redex { redex.now ≡ next view.now.how.order (tree_of here.now.term) }
     ensures { OnOk result (text.new.items ≡ text.old.items ++ (unfold_line here.now.seen
         ++ shown_line view.now.how (glossary_of view.now.names view.now.lets)
@@ -146,7 +147,8 @@ pub fn put_step(
     requires bound { is_below 0 (tree_of here.now.term) ≡ true }
     requires named { is_named_below view.now.lets.first (tree_of here.now.term) ≡ true }
     requires within { IsWithin (tree_of here.now.term) }
-    requires names { length view.now.names ≡ view.now.lets.first + length view.now.lets.values.items }
+    requires names { length view.now.names
+        ≡ view.now.lets.first + length view.now.lets.values.items }
     requires redex { redex.now ≡ next view.now.how.order (tree_of here.now.term) }
     ensures { OnOk result (text.new.items ≡ text.old.items ++ (unfold_line here.now.seen
         ++ step_lines view.now.how (glossary_of view.now.names view.now.lets)
@@ -186,7 +188,8 @@ pub fn put_made(
     requires bound { is_below 0 (tree_of here.now.term) ≡ true }
     requires named { is_named_below view.now.lets.first (tree_of here.now.term) ≡ true }
     requires within { IsWithin (tree_of here.now.term) }
-    requires names { length view.now.names ≡ view.now.lets.first + length view.now.lets.values.items }
+    requires names { length view.now.names
+        ≡ view.now.lets.first + length view.now.lets.values.items }
     requires redex { redex.now ≡ next view.now.how.order (tree_of here.now.term) }
     requires few { here.now.seen.made + 1 < 2 ^ 32 }
     requires hidden { here.now.seen.hidden ≤ here.now.seen.made }

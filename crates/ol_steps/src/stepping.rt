@@ -85,7 +85,8 @@ fn put_return(
     requires bound { is_below 0 (tree_of here.now.term) ≡ true }
     requires named { is_named_below view.now.lets.first (tree_of here.now.term) ≡ true }
     requires within { IsWithin (tree_of here.now.term) }
-    requires names { length view.now.names ≡ view.now.lets.first + length view.now.lets.values.items }
+    requires names { length view.now.names
+        ≡ view.now.lets.first + length view.now.lets.values.items }
     requires redex { redex.now ≡ next view.now.how.order (tree_of here.now.term) }
     ensures { OnOk result (text.new.items ≡ (text.old.items ++ (unfold_line here.now.seen
         ++ shown_line view.now.how (glossary_of view.now.names view.now.lets)
@@ -110,7 +111,8 @@ fn put_end(
     requires bound { is_below 0 (tree_of here.now.term) ≡ true }
     requires named { is_named_below view.now.lets.first (tree_of here.now.term) ≡ true }
     requires within { IsWithin (tree_of here.now.term) }
-    requires names { length view.now.names ≡ view.now.lets.first + length view.now.lets.values.items }
+    requires names { length view.now.names
+        ≡ view.now.lets.first + length view.now.lets.values.items }
     requires redex { redex.now ≡ next view.now.how.order (tree_of here.now.term) }
     requires none { redex.now ≡ None }
     ensures { IfOk result (λ e. (word : Reached)
@@ -138,7 +140,8 @@ fn put_left(
     requires bound { is_below 0 (tree_of here.now.term) ≡ true }
     requires named { is_named_below view.now.lets.first (tree_of here.now.term) ≡ true }
     requires within { IsWithin (tree_of here.now.term) }
-    requires names { length view.now.names ≡ view.now.lets.first + length view.now.lets.values.items }
+    requires names { length view.now.names
+        ≡ view.now.lets.first + length view.now.lets.values.items }
     requires redex { redex.now ≡ next view.now.how.order (tree_of here.now.term) }
     ensures { OnOk result (text.new.items ≡ (text.old.items ++ (unfold_line here.now.seen
         ++ step_lines view.now.how (glossary_of view.now.names view.now.lets)
@@ -163,7 +166,8 @@ fn put_past(
     requires bound { is_below 0 (tree_of here.now.term) ≡ true }
     requires named { is_named_below view.now.lets.first (tree_of here.now.term) ≡ true }
     requires within { IsWithin (tree_of here.now.term) }
-    requires names { length view.now.names ≡ view.now.lets.first + length view.now.lets.values.items }
+    requires names { length view.now.names
+        ≡ view.now.lets.first + length view.now.lets.values.items }
     requires redex { redex.now ≡ next view.now.how.order (tree_of here.now.term) }
     ensures { OnOk result (text.new.items ≡ (text.old.items ++ (unfold_line here.now.seen
         ++ step_lines view.now.how (glossary_of view.now.names view.now.lets)
@@ -189,7 +193,8 @@ fn step_on(
     requires bound { is_below 0 (tree_of here.now.term) ≡ true }
     requires named { is_named_below view.now.lets.first (tree_of here.now.term) ≡ true }
     requires within { IsWithin (tree_of here.now.term) }
-    requires names { length view.now.names ≡ view.now.lets.first + length view.now.lets.values.items }
+    requires names { length view.now.names
+        ≡ view.now.lets.first + length view.now.lets.values.items }
     requires redex { redex.now ≡ next view.now.how.order (tree_of here.now.term) }
     requires few { here.now.seen.made + 1 < 2 ^ 32 }
     requires hidden { here.now.seen.hidden ≤ here.now.seen.made }
@@ -223,7 +228,8 @@ fn walk(
     requires bound { is_below 0 (tree_of term) ≡ true }
     requires named { is_named_below view.now.lets.first (tree_of term) ≡ true }
     requires within { IsWithin (tree_of term) }
-    requires names { length view.now.names ≡ view.now.lets.first + length view.now.lets.values.items }
+    requires names { length view.now.names
+        ≡ view.now.lets.first + length view.now.lets.values.items }
     ensures { IfOk result (λ a. Tells view.now.how (glossary_of view.now.names view.now.lets) count
         most (tree_of term) (binders_in binders) a.text.items a.end) }
 {
@@ -381,10 +387,10 @@ fn of_text(
 /// If terms are to be folded, each abstraction or application that is the value of a let at the
 /// front of the file is written by its name. The redex that comes next isn't, nor is what it stands
 /// in, but its function and its argument may be. If a part is the value of several, the last one's
-/// name is taken. A let counts if its value is closed, where those of the lets before it are put in,
-/// and its name is no free name and no later let's. Steps one after another that only unfold a let
-/// are one line, which says how many they are, and the step whose term comes next. Steps are counted
-/// as ever (`each_step_counts`), and the end and the last line are those without folding
+/// name is taken. A let counts if its value is closed, where those of the lets before it are put
+/// in, and its name is no free name and no later let's. Steps one after another that only unfold a
+/// let are one line, which says how many they are, and the step whose term comes next. Steps are
+/// counted as ever (`each_step_counts`), and the end and the last line are those without folding
 /// (`showing_changes_no_end`).
 ///
 /// - `Yes`: the last term is what the order ends in, and the last line has the order's word for it:
