@@ -91,6 +91,16 @@ fn layout_of(found: &ArgMatches) -> Layout {
     }
 }
 
+// How far each way of reducing is followed.
+fn bounds_of(found: &ArgMatches, fuel: Fuel, heads: Heads) -> Bounds {
+    Bounds {
+        fuel,
+        heads,
+        steps: number_of(found, "most", 0, MOST_STEPS, 1_000),
+        moves: number_of(found, "moves", 0, MOST_MOVES, PLAIN_MOVES),
+    }
+}
+
 // Which ways of reducing have a column.
 fn columns_of(found: &ArgMatches) -> Columns {
     Columns {
@@ -138,6 +148,16 @@ fn reduction_of(found: &ArgMatches) -> Reduction {
     }
 }
 
+// How steps are shown.
+fn shown_of(found: &ArgMatches) -> Shown {
+    Shown {
+        order: reduction_of(found),
+        marked: found.get_flag("mark"),
+        named: found.get_flag("names"),
+        folded: found.get_flag("fold"),
+    }
+}
+
 fn order_of(found: &ArgMatches) -> Order {
     match found.get_str("order") {
         Some("demand") => Order::Demand,
@@ -167,22 +187,12 @@ fn on_one(name: &str, found: &ArgMatches) -> OnOne
     let heads = Heads::of(number_of(found, "heads", 1, MOST_HEADS, PLAIN_HEADS));
     match name {
         "steps" => OnOne::Steps {
-            how: Shown {
-                order: reduction_of(found),
-                marked: found.get_flag("mark"),
-                named: found.get_flag("names"),
-                folded: found.get_flag("fold"),
-            },
+            how: shown_of(found),
             most: number_of(found, "most", 0, MOST_STEPS, 100),
         },
         "counts" => OnOne::Counts {
             subject,
-            bounds: Bounds {
-                fuel,
-                heads,
-                steps: number_of(found, "most", 0, MOST_STEPS, 1_000),
-                moves: number_of(found, "moves", 0, MOST_MOVES, PLAIN_MOVES),
-            },
+            bounds: bounds_of(found, fuel, heads),
             columns: columns_of(found),
             layout: layout_of(found),
         },
