@@ -70,7 +70,9 @@ fn a_text_is_read(rt: HostRuntime) -> Result<(), Fail> {
 #[test]
 fn other_texts_are_dead_somewhere(rt: HostRuntime) -> Result<(), Fail> {
     let mut out = Vec::new(rt.alloc());
-    for text in b";in;\\x.;(x));x \xCEy;let x = y in;let let = y in y;x 'y".split(|byte| *byte == b';') {
+    for text in b";in;\\x.;(x));x \xCEy;let x = y in;let let = y in y;x 'y".split(|byte| *byte
+        == b';')
+    {
         if text.len() < 100 {
             let read = read(rt.alloc(), text)?;
             out.extend_from_slice(&read)?;

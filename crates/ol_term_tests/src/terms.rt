@@ -95,7 +95,10 @@ fn compared(alloc: Global) -> Result<String, Fail> {
 #[test]
 fn terms_are_compared_as_trees(rt: HostRuntime) -> Result<(), Fail> {
     let text = compared(rt.alloc())?;
-    assert!(rt; text.as_bytes() == b"5 3 true false false".as_slice(), "{text}");
+    assert!(rt;
+        text.as_bytes() == b"5 3 true false false".as_slice(),
+        "{text}"
+    );
     Ok(())
 }
 
