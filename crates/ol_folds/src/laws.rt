@@ -26,9 +26,8 @@ pub fn lets_differ()
     ensures values { ValuesAreClosed }
 {}
 
-/// No subterm of a folded term is one of the values that is closed, but for the redex at the address
-/// that is given, and what this redex stands in. If no address is given, none is, nor is the term
-/// itself.
+/// No subterm of a folded term is a value that is closed, but for the redex at the address that is
+/// given and what this stands in. If no address is given, no subterm is one.
 pub fn nothing_is_left()
     ensures { NothingIsLeft }
 {}

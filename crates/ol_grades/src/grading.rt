@@ -450,8 +450,8 @@ fn graded_on(
 /// - `can't be read`, `limit bytes 1048576`: there is no text of his, for this reason.
 ///
 /// A head is told by its binders, its variable and an underscore for each argument, as `\a b. a _`.
-/// In both heads a letter is the same binder: none is a free name of one of the two trees. So two
-/// heads that differ have different texts: no line tells one text twice (law `no_head_twice`).
+/// In both heads a letter is the same binder: none is a free name of one of the two trees. So the
+/// two heads that a line tells have different texts (law `no_head_twice`).
 ///
 /// Where two trees are equal, each place of both has a head, so the two terms have one normal form,
 /// up to names of binders, and are convertible. Where they are different, the terms aren't

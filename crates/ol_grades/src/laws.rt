@@ -3,7 +3,7 @@
 ghost use Rattle.ol_grades.specs.Laws.{HeadsDiffer, NoHeadTwice, OneGrading};
 
 /// If a student's tree isn't the solution's, the texts of what both have at the place that is told
-/// differ. So no line about a student tells one text twice, as `expected HEAD, got HEAD` would.
+/// differ. So no line about a student has one text behind `expected` and behind `got`.
 pub fn no_head_twice()
     ensures heads { HeadsDiffer }
     ensures lines { NoHeadTwice }

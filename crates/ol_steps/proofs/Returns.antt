@@ -1,6 +1,6 @@
 -- Where a term of a walk is an earlier one of it, the order has no end, and the first term hasn't got what it looks for.
 use Rattle.std.proofs.Common.{◌≡◌, ℕ, zero, suc, ◌+◌, ◌⊎◌, inl, inr, List, [], ◌∷◌, length, Option, Some, None, IsSome}
-use Rattle.std.proofs.Common.{refl, sym, subst}
+use Rattle.std.proofs.Common.{◌++◌, length-append, refl, sym, subst, arith}
 use Rattle.std.specs.Prelude.{slice_get}
 use Rattle.ol_term.specs.Trees.{Tree}
 use Rattle.ol_beta.specs.Beta.{contracted}
@@ -26,11 +26,14 @@ leads_on : (o : Order) (n : ℕ) (t u v : Tree) → Leads o n t u → IsStep o u
 leads_on o zero t u v e s = (v, subst (λ (x : Tree). IsStep o x v) (sym e) s, refl)
 leads_on o (suc n) t u v l s = (l.0, l.1, leads_on o n l.0 u v l.2 s)
 
+pub walk_counts : {o : Order} {t v : Tree} {terms : List Tree} → Walk o t terms v → Leads o (length terms) t v
+walk_counts starts = refl
+walk_counts {o} {t} (goes {terms = terms} {u = u} {v = v} w new s within) =
+    let many : suc (length terms) ≡ length (terms ++ u ∷ []) = omega (arith, length-append terms (u ∷ [])) in
+    subst (λ (n : ℕ). Leads o n t v) many (leads_on o (length terms) t u v (walk_counts w) s)
+
 walk_leads : {o : Order} {t v : Tree} {terms : List Tree} → Walk o t terms v → (n : ℕ) × Leads o n t v
-walk_leads starts = (0, refl)
-walk_leads {o} {t} (goes {u = u} {v = v} w new s within) =
-    let l = walk_leads w in
-    (suc l.0, leads_on o l.0 t u v l.1 s)
+walk_leads {terms = terms} w = (length terms, walk_counts w)
 
 -- so many steps to a term, and one or more from there
 abbrev Between : Order → Tree → Tree → Tree → Type 0

@@ -30,9 +30,12 @@ use Rattle.ol_steps.specs.Laws.{EachStepCounts, HasLastLine, ShowingChangesNoEnd
 use Rattle.ol_steps.proofs.Walks.{counts}
 use Rattle.ol_steps.proofs.LastLines.{OneLine, syntax_one, deep_one, large_one, past_one, only_line}
 use Rattle.ol_steps.proofs.Outcomes.{Told, told, agree}
+use Rattle.ol_steps.proofs.Returns.{walk_counts}
+use Rattle.ol_strategies.specs.Reductions.{Leads}
 
 pub each_counts : EachStepCounts
-each_counts order lets terms = (counts order lets terms).made
+each_counts order lets t v terms walk =
+    subst (λ (n : ℕ). Leads order n t v) (sym (counts order lets terms).made) (walk_counts walk)
 
 -- ---- refusals
 

@@ -19,7 +19,7 @@ use Rattle.ol_folds.proofs.Complete.{nothing_is_left}
 use Rattle.ol_folds.proofs.LetsLeft.{let_goes, lets_stay, text_has_lets}
 use Rattle.ol_folds.proofs.Rows.{values_are_closed}
 use Rattle.ol_steps.specs.Steps.{Walk, starts, goes, unfolds, binders_after, next_binders, last_binders, begun, unfolding_after, last_unfolding}
-use Rattle.ol_steps.specs.Unfoldings.{let_of_step, lets_unfolded, LetsAreUnfolded, NoValueIsShown}
+use Rattle.ol_steps.specs.Unfoldings.{let_of_step, lets_unfolded, EndsInUnfoldings, no_step, another_step, one_more, LetsAreUnfolded, NoValueIsShown}
 use Rattle.ol_steps.specs.declared.showing.Unfolding.{Unfolding}
 
 -- ---- one term more
@@ -123,6 +123,31 @@ step_at n all gone u t s at fits h redex = go (is_let_at u.left at) refl
     go true i = one_unfolded n all gone u t s at fits h i
     go false i = one_else n all gone u t s at fits h redex i
 
+-- ---- steps in a row
+
+-- behind a step that unfolds a let or doesn't
+abbrev behind_step : Unfolding → Bool → Unfolding
+behind_step x b = if b then record { left = x.left - 1; hidden = x.hidden + 1; made = x.made + 1 }
+    else record { left = x.left; hidden = 0; made = x.made + 1 }
+
+row_by : (order : Order) (n : ℕ) (terms : List Tree) (u : Tree) (x : Unfolding) (b : Bool) →
+    x ≡ last_unfolding order (begun n) terms → unfolds x.left (next order u) ≡ b →
+    EndsInUnfoldings order n terms x.hidden →
+    EndsInUnfoldings order n (terms ++ u ∷ []) (behind_step x b).hidden
+row_by order n terms u x true is e h =
+    one_more terms u h (subst (λ (y : Unfolding). unfolds y.left (next order u) ≡ true) is e)
+row_by order n terms u x false is e h =
+    another_step terms u (subst (λ (y : Unfolding). unfolds y.left (next order u) ≡ false) is e)
+
+in_a_row : (order : Order) (n : ℕ) {t v : Tree} {terms : List Tree} → Walk order t terms v →
+    EndsInUnfoldings order n terms (last_unfolding order (begun n) terms).hidden
+in_a_row order n starts = no_step
+in_a_row order n (goes {terms = terms} {u = u} walk new step within) =
+    subst (λ (w : Unfolding). EndsInUnfoldings order n (terms ++ u ∷ []) w.hidden)
+    (sym (unfolding_on order (begun n) terms u))
+    (row_by order n terms u (last_unfolding order (begun n) terms)
+    (unfolds (last_unfolding order (begun n) terms).left (next order u)) refl refl (in_a_row order n walk))
+
 -- ---- a walk
 
 some_is : (o : Option Tree) (v : Tree) → o ≡ Some v → IsSome o
@@ -165,7 +190,7 @@ along order n t s h e (goes {terms = terms} {u = u} {v = v} walk new step within
 pub lets_are_unfolded : LetsAreUnfolded
 lets_are_unfolded order bytes n source s v terms text begins fits walk =
     let h = (along order n (number source) s fits (text_has_lets bytes n source s text begins fits) walk).1 in
-    record { each_once = h.each_once; left = h.left; hidden = h.hidden }
+    record { each_once = h.each_once; left = h.left; in_a_row = in_a_row order n walk; hidden = h.hidden }
 
 -- ---- no value is left
 

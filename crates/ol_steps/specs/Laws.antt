@@ -147,10 +147,11 @@ FoldedReadsAgain = (order : Order) (at : Option (List ℕ)) (n : ℕ) (bytes : L
     (u : Named) × ReadsFolded (glossary (names_of source) n (number source) (binders_of source)) at v
     (last_binders order (binders_of source) terms) u
 
--- each step is counted, also one that only unfolds a let
+-- The count of a walk's steps is that of the order's steps from its first term to its last: each counts, also one that
+-- only unfolds a let.
 abbrev pub EachStepCounts : Type 0
-EachStepCounts = (order : Order) (lets : ℕ) (terms : List Tree) →
-    (last_unfolding order (begun lets) terms).made ≡ length terms
+EachStepCounts = (order : Order) (lets : ℕ) (t v : Tree) (terms : List Tree) → Walk order t terms v →
+    Leads order (last_unfolding order (begun lets) terms).made t v
 
 -- the last line of a text: no line feed is in it but its last byte, and before it stands nothing or the end of a line
 pub record HasLastLine (text line : List ℕ) : Type 0 where

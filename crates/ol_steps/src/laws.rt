@@ -24,8 +24,9 @@ pub fn redexes_are_marked()
 
 /// If a term is folded, the carets stand under the text of the subterm at the address of the redex
 /// that an order contracts next. What is applied there to an argument is an abstraction, or the
-/// name of a let whose value is one. What stands there is the subterm of the folded term, with
-/// names. If the values are put in the places of their names, it is the redex itself.
+/// name of a let whose value is one. What stands there is the subterm of the folded term, as it is
+/// written below some binders. If the values are put in the places of their names, this subterm is
+/// the redex itself.
 pub fn folded_redexes_are_marked()
     ensures marked { FoldedRedexIsMarked }
     ensures part { PartIsSubterm }
@@ -48,8 +49,8 @@ pub fn folds_are_read_again()
     ensures { FoldedReadsAgain }
 {}
 
-/// Each step is counted, also one that only unfolds a let. So the numbers of steps are those of the
-/// order.
+/// Each step of a walk is counted, also one that only unfolds a let. So the numbers of steps are
+/// those of the order.
 pub fn each_step_counts()
     ensures { EachStepCounts }
 {}
@@ -69,7 +70,8 @@ pub fn no_let_same_answer()
 /// The steps of a walk that only unfold a let contract the redexes of the lets at the front of the
 /// text, each at most once. The names of the binders of these redexes, and those of the lets that
 /// are left at the front, are together the names of all. It is so in each order, and whatever names
-/// the binders have, so also if each has its own.
+/// the binders have, so also if each has its own. A line that comes next tells how many of the last
+/// steps in a row only unfold a let.
 pub fn lets_are_unfolded()
     ensures { LetsAreUnfolded }
 {}

@@ -388,9 +388,10 @@ fn of_text(
 /// front of the file is written by its name. The redex that comes next isn't, nor is what it stands
 /// in, but its function and its argument may be. If a part is the value of several, the last one's
 /// name is taken. A let counts if its value is closed, where those of the lets before it are put
-/// in, and its name is no free name and no later let's. Steps one after another that only unfold a
-/// let are one line, which says how many they are, and the step whose term comes next. Steps are
-/// counted as ever (`each_step_counts`), and the end and the last line are those without folding
+/// in, and its name is no free name and no later let's. If a let gives a term that is out of the
+/// bounds below, none behind it counts. Steps one after another that only unfold a let are one line,
+/// which says how many they are, and the step whose term comes next. Steps are counted as ever
+/// (`each_step_counts`), and the end and the last line are those without folding
 /// (`showing_changes_no_end`).
 ///
 /// - `Yes`: the last term is what the order ends in, and the last line has the order's word for it:

@@ -98,7 +98,7 @@ bad_at (Some form) n = BadText (n + 2)
 -- ---- runs
 
 -- As far as its lines have ended, the text is the trace of a run from the net: none has ended yet, or those that have are
--- such a trace. What is behind them is the front of a line.
+-- such a trace. What is behind them is a line that isn't ended.
 pub data IsRunSoFar (net : NamedNet NodeName) (text : List ℕ) : Type 0 where
   in_first_line : IsOpenLine text → IsRunSoFar net text
   behind_run : {form : Form} {journal : List Entry} {waves : List ℕ} {last : NamedNet NodeName}
@@ -110,7 +110,7 @@ abbrev pub FedIsARun : Type 0
 FedIsARun = (net : Graph) (text : List ℕ) (c : Checker) → IsFed net text c →
     IsRunSoFar (start_net_of_graph net) text
 
--- No answer is fixed by the front of the trace of a run, nor by the whole of it.
+-- No answer is fixed by the front of the trace of a run of at most 8,000,000 entries, nor by the whole of it.
 abbrev pub RunIsNotAnswered : Type 0
 RunIsNotAnswered = (net : Graph) (front more : List ℕ) (form : Form) (journal : List Entry)
     (waves : List ℕ) (last : NamedNet NodeName) (check : Check) → IsNet (net_of net) →

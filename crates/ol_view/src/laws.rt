@@ -12,8 +12,8 @@ pub fn equal_nets_are_shown_alike()
 {}
 
 /// While a checker has told no answer, what it was fed is the trace of a run, as far as its lines
-/// have ended. The line that isn't ended may be bad already. No answer is fixed by the front of the
-/// trace of a run, or by the whole, so `feed` tells none of it.
+/// have ended. The line that isn't ended may be bad already. If a run has at most 8,000,000 entries,
+/// no answer is fixed by the front of its trace, or by the whole, so `feed` tells none of it.
 pub fn fed_is_a_run()
     ensures run { FedIsARun }
     ensures not_answered { RunIsNotAnswered }
