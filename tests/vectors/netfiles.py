@@ -16,7 +16,7 @@ Net = collections.namedtuple("Net", "free nodes linked counts pairs")
 
 PORT = r"(?:f[0-9]+|[0-9]+\.[0-2])"
 NODE = "(?:(?:" + "|".join(kind for kind in SLOTS if kind != "eraser") + ") [0-9]+|eraser -)"
-FREE_LINE = re.compile("free [0-9]{1,7}")
+FREE_LINE = re.compile("free 0*[0-9]{1,7}")
 FILE_LINE = re.compile(f"node {NODE}|link {PORT} {PORT}")
 STEP_LINE, NODES_LINE = re.compile("step [0-9]+"), re.compile("nodes [0-9]+")
 VIEW_LINE = re.compile(f"f[0-9]+ {PORT}|[0-9]+ {NODE}(?: {PORT}){{1,3}}")

@@ -293,7 +293,7 @@ static STEPS_ROWS: [Row; 8] = [
     },
     Row {
         id: "fold",
-        help: "parts that are a let of the file are written by its name",
+        help: "parts that are the value of a let at the front are written by its name",
         ..FLAG
     },
     STEPS,
@@ -413,7 +413,7 @@ static TREE_ROWS: [Row; 6] = [
             most: MOST_HEADS,
         },
         need: Need::Always,
-        help: "how deep a part may be to be asked, where the root is of depth 0",
+        help: "parts of a depth below this are asked; the root is of depth 0",
         ..FLAG
     },
     TRANSLATION,

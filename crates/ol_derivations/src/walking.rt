@@ -113,9 +113,11 @@ fn no_derivation(alloc: Global) -> Result<Answer, NoMemory>
 ///
 /// Each term behind the first gets a line: `one beta step, at A`, where A is the first address in
 /// preorder at which contraction of the term before gives it, with `, leftmost` where that is the
-/// leftmost redex; else `the same term`, up to names of binders; else `not convertible`, where
-/// leftmost reduction of both ends in different normal forms, by at most 1,000 steps each; else `no
-/// beta step of line M`, where M is the line of the term before. So does each line without a term
+/// leftmost redex; else `the same term`, up to names of binders; else `K steps`, if K steps of
+/// whatever redexes lead there and no fewer do, 2 to 5, and the search for them isn't cut off; else
+/// `not convertible`, where leftmost reduction of both ends in different normal forms, by at most
+/// 1,000 steps each; else `no beta step of line M`, where M is the line of the term before. So does
+/// each line without a term
 /// from which beta steps are made: `syntax, column C`, with the first byte, counted from 1, from
 /// which on it isn't in the grammar; `limit bytes 1048576`; `limit depth 1000`; or `limit size
 /// 100000`. The term behind such a line is judged by the last term before it.
