@@ -199,6 +199,16 @@ def tried_together(rt, crate, edits):
     return refused, alone
 
 
+def tried_alone(rt, crate, paths):
+    """Tries edits by `rt`'s own way, one after another, which tells an edit that can't be put in, too: whether it was refused, and what to say."""
+    flags = ["--jobs", "1"]
+    if "must_fail_all" in rt:
+        return rt["must_fail_all"](crate, paths, flags)
+    # (later kits have a call for one edit, which gives a word for what came of it)
+    found = [rt["must_fail"](crate, path, flags) for path in paths]
+    return [(kind in (rt["REFUSED"], rt["AT_LIMIT"]), text) for kind, text in found]
+
+
 def tried(rt, crate, paths):
     """Tries all edits of a crate: for each whether it was refused, and what to say."""
     edits = [read(crate, path) for path in paths]
@@ -207,8 +217,7 @@ def tried(rt, crate, paths):
     print(f"must-fail {crate.name}: {len(refused)} refused together, {len(alone)} to be tried by themselves, "
           f"{time.monotonic() - begun:.0f} s", flush=True)
     found = [(True, f"must-fail {crate.name}/{name}: refused: {why[:160]}") for name, why in sorted(refused.items())]
-    # (by `rt`'s own way, which tells an edit that can't be put in, too)
-    return found + rt["must_fail_all"](crate, [it.path for it in alone], ["--jobs", "1"])
+    return found + tried_alone(rt, crate, [it.path for it in alone])
 
 
 def lanes():
