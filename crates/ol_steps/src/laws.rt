@@ -44,7 +44,7 @@ pub fn names_are_read_again()
 /// What is printed of a term of a walk whose parts are written by the names of lets, if the binders
 /// keep the names that they have in the file, is read again, with the free names of the source and
 /// those of the lets. If the lets' values are put in the places of their names, it is the term of
-/// the walk. So no binder takes the name of a let.
+/// the walk. So no binder captures the name of a let.
 pub fn folds_are_read_again()
     ensures { FoldedReadsAgain }
 {}

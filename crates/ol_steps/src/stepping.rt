@@ -376,8 +376,9 @@ fn of_text(
     Ok(answer)
 }
 
-/// The terms of reduction in an order, one under another, each with the address of the redex that
-/// comes next, by at most `most` steps. If the redex is to be marked, a line between the two has
+/// The terms of reduction in an order, one under another, by at most `most` steps. Each has the
+/// address of the redex that comes next, but for one that is that of an earlier step. If the redex
+/// is to be marked, a line between the two has
 /// carets under its text, without brackets round it. Law `redexes_are_marked` says so of terms that
 /// aren't folded, and `folded_redexes_are_marked` of those that are. If binders are to keep their
 /// names, each has the one that it has in the file, with as few primes as keep it from every free
