@@ -5,7 +5,7 @@
 
 Lines and columns are counted from 1. A column is a character: λ, two bytes, is one. Where the text ended too early,
 the caret stands behind what is there. NAME is the file that `ol` read: `-` can't be read again, since standard input is
-the answer here. The status is 2 where a place is shown, 1 where NAME can't be read or isn't said, else 0.
+the answer here. The status is 2 where a place is shown, 1 where NAME isn't said or, for a place, can't be read, else 0.
 """
 import codecs
 import re
