@@ -39,10 +39,10 @@ fn terms_come_back(rt: HostRuntime) -> Result<(), Fail> {
 #[test]
 fn binders_have_their_names(rt: HostRuntime) -> Result<(), Fail> {
     let primed = b"(\\f y y. f y y') y|Yes: (\\f y y. f y y') y\n  at .\n\
-        \\y'' y''. y y'' y'\nnormal after 1 steps\n!";
+        \\y'' y''. y y'' y'\nnormal after 1 step\n!";
     assert_one(&rt, rt.alloc(), steps(Order::Leftmost, true, false), primed)?;
-    let letter = b"let a = \\x. x in \\y. y a|Yes: 1 lets unfolded: step 1\n\
-        \\b. b a\nnormal after 1 steps\n!";
+    let letter = b"let a = \\x. x in \\y. y a|Yes: 1 let unfolded: step 1\n\
+        \\b. b a\nnormal after 1 step\n!";
     assert_one(&rt, rt.alloc(), steps(Order::Leftmost, false, true), letter)
 }
 
@@ -50,22 +50,22 @@ fn binders_have_their_names(rt: HostRuntime) -> Result<(), Fail> {
 /// value. A part that is the redex is written out, also where its term comes back.
 #[test]
 fn parts_are_names_of_lets(rt: HostRuntime) -> Result<(), Fail> {
-    let open = b"let k = \\x. y in k z|Yes: 1 lets unfolded: step 1\n\
+    let open = b"let k = \\x. y in k z|Yes: 1 let unfolded: step 1\n\
         (\\x. y) z\n  at .\ny\nhead normal after 2 steps\n!";
     assert_one(&rt, rt.alloc(), steps(Order::Head, true, true), open)?;
     let later = b"let x = \\a. a in let x = \\b. b b in x (\\c. c)|Yes: 2 lets unfolded: step 2\n\
         x (\\c. c)\n  at .\n(\\c. c) (\\c. c)\n  at .\n\\c. c\nvalue after 4 steps\n!";
     assert_one(&rt, rt.alloc(), steps(Order::Value, true, true), later)?;
     let inner = b"let id = \\x. x in let k = (let l = \\a b. a in l) in k id|\
-        Yes: (\\id'. (\\k. k id') (id (\\a b. a))) id\n  at 102\n1 lets unfolded: step 2\n\
-        (\\id. (\\a b. a) id) id\n  at 10\n1 lets unfolded: step 4\n\\b. id\nnormal after 4 steps\n!";
+        Yes: (\\id'. (\\k. k id') (id (\\a b. a))) id\n  at 102\n1 let unfolded: step 2\n\
+        (\\id. (\\a b. a) id) id\n  at 10\n1 let unfolded: step 4\n\\b. id\nnormal after 4 steps\n!";
     assert_one(
         &rt,
         rt.alloc(),
         steps(Order::Applicative, true, true),
         inner,
     )?;
-    let back = b"let w = (\\x. x x) (\\x. x x) in f w w|No: 1 lets unfolded: step 1\n\
+    let back = b"let w = (\\x. x x) (\\x. x x) in f w w|No: 1 let unfolded: step 1\n\
         f ((\\x. x x) (\\x. x x)) w\n  at 12\nf ((\\x. x x) (\\x. x x)) w\n\
         step 2 is step 1 again: no normal form\n!";
     assert_one(&rt, rt.alloc(), steps(Order::Leftmost, true, true), back)

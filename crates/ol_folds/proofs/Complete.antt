@@ -16,7 +16,7 @@ clash e = absurd (cc)
 no_tree : (v : Tree) → None ≡ Some v → ⊥
 no_tree v e = absurd (cc)
 
-tree_is : (t v : Tree) → Some t ≡ Some v → t ≡ v
+pub tree_is : (t v : Tree) → Some t ≡ Some v → t ≡ v
 tree_is t v e = cc
 
 below_none : (k : ℕ) → nat_lt k 0 ≡ true → ⊥
@@ -72,7 +72,7 @@ part_is_none n vs k v t u e named is h =
     (not_named (value_at n vs t) u (subst (λ (x : Tree). is_named_below 0 x ≡ true) (sym h) named)))
 
 -- the whole tree is the subterm at the empty address
-root_is : (u v : Tree) → subterm_along u [] ≡ Some v → u ≡ v
+pub root_is : (u v : Tree) → subterm_along u [] ≡ Some v → u ≡ v
 root_is (var j) v e = tree_is (var j) v e
 root_is (free j) v e = tree_is (free j) v e
 root_is (lam t) v e = tree_is (lam t) v e

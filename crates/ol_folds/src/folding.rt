@@ -52,7 +52,8 @@ fn application(alloc: Global, function: Term, argument: Term) -> Result<Term, No
 // A term with these values written by their numbers.
 fn fold_part(alloc: Global, first: u32, values: &[Term], term: &Term) -> Result<Term, NoMemory>
     requires few { first + length values.now < 2 ^ 32 }
-    ensures { IfOk result (λ t. tree_of t ≡ all_folded first (trees_of values.now) (tree_of term.now)) }
+    ensures { IfOk result (λ t.
+        tree_of t ≡ all_folded first (trees_of values.now) (tree_of term.now)) }
 {
     match term {
         Term::Var(k) => Ok(Term::Var(*k)),

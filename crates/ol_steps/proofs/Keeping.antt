@@ -7,6 +7,7 @@ use Rattle.std.proofs.lemmas.Bool.{cases_lt}
 use Rattle.std.proofs.lemmas.List.{map-append}
 use Rattle.std.proofs.lemmas.Option.{slice_get-map, slice_get_read}
 use Rattle.ol_term.specs.Trees.{Tree, tree_of}
+use Rattle.ol_folds.proofs.Complete.{tree_is}
 use Rattle.ol_steps.specs.declared.earlier.Earlier.{Earlier}
 use Rattle.ol_steps.specs.Kept.{terms_of}
 
@@ -25,9 +26,6 @@ got_kept kept k e l is =
     slice_get-map (λ (e : Earlier). tree_of e.term) kept k
     ∙ ap (λ (o : Option Earlier). option_map (λ (e : Earlier). tree_of e.term) o)
     (slice_get_read kept (length kept) k e refl l is)
-
-tree_is : (x y : Tree) → Some x ≡ Some y → x ≡ y
-tree_is x y e = cc
 
 -- none of the first k is this one
 abbrev pub NotBefore : List Earlier → Tree → ℕ → Type 0

@@ -21,7 +21,7 @@ use Rattle.ol_folds.specs.Folded.{pruned}
 use Rattle.ol_steps.specs.declared.stepping.Shown.{Shown}
 use Rattle.ol_steps.specs.Steps.{Glossary, shown_tree, shown_term, term_line, address_line, carets_if, redex_lines, begun}
 use Rattle.ol_steps.specs.Steps.{shown_line, walk_lines, unfold_line, last_unfolding, last_binders, lines_to}
-use Rattle.ol_steps.specs.Steps.{lines_with_redex, last_line, past_line, reached_words, return_words, return_line}
+use Rattle.ol_steps.specs.Steps.{lines_with_redex, how_many, last_line, past_line, reached_words, return_words, return_line}
 use Rattle.ol_steps.specs.Laws.{HasLastLine}
 
 -- ---- no line feed
@@ -71,15 +71,22 @@ decimal_line n = digits_line 64 n [] tt
 abbrev pub OneLine : List ℕ → Type 0
 OneLine bs = (cs : List ℕ) × (bs ≡ cs ++ codes "\n") × IsLine cs
 
+many_line : (n : ℕ) (thing : List ℕ) → IsLine thing → IsLine (how_many n thing)
+many_line n thing h = both_lines (decimal n ++ codes " " ++ thing) (if n == 1 then [] else codes "s")
+    (both_lines (decimal n ++ codes " ") thing
+    (both_lines (decimal n) (codes " ") (decimal_line n) (is_line (codes " ") refl)) h) (end (n == 1))
+  where
+    end : (b : Bool) → IsLine (if b then [] else codes "s")
+    end true = tt
+    end false = is_line (codes "s") refl
+
 pub counted_line : (words : List ℕ) (n : ℕ) → IsLine words → OneLine (last_line words n)
 counted_line words n h =
-    let front = words ++ codes " after " ++ decimal n in (
-      front ++ codes " steps",
-      sym (append_assoc front (codes " steps") (codes "\n")),
-      both_lines front (codes " steps")
-          (both_lines (words ++ codes " after ") (decimal n) (both_lines words (codes " after ") h (is_line (codes " after ") refl))
-          (decimal_line n))
-          (is_line (codes " steps") refl),
+    let front = words ++ codes " after " in (
+      front ++ how_many n (codes "step"),
+      refl,
+      both_lines front (how_many n (codes "step")) (both_lines words (codes " after ") h (is_line (codes " after ") refl))
+          (many_line n (codes "step") (is_line (codes "step") refl)),
     )
 
 pub past_one : (n size depth : ℕ) → OneLine (past_line n size depth)

@@ -1,12 +1,16 @@
 -- The carets stand under the redex that comes next.
 use Rattle.std.proofs.Common.{◌≡◌, ℕ, zero, suc, ◌+◌, ◌-◌, ◌<◌, Bool, true, false, List, [], ◌∷◌, ◌++◌, take, codes, length}
+use Rattle.std.proofs.Common.{append_assoc}
 use Rattle.std.proofs.Common.{Option, Some, None, IsSome, refl, sym, ap, ◌∙◌, subst, eqb-true, arith}
 use Rattle.std.specs.Prelude.{◌==◌, if◌then◌else◌, slice_get, slice_index_or}
 use Rattle.std.specs.Option.{option_map}
 use Rattle.std.proofs.lemmas.Bool.{and_parts}
+use Rattle.std.proofs.lemmas.List.{append-nil, length_push}
 use Rattle.ol_term.specs.Trees as tree
 use Rattle.ol_term.specs.Trees.{Tree, is_named_below}
+use Rattle.ol_term.specs.BinderNames.{binder_name}
 use Rattle.ol_parse.specs.Grammar.{Named, var, lam, app}
+use Rattle.ol_parse.specs.Numbered.{position_of, var_at, numbered}
 use Rattle.ol_beta.specs.Beta.{contracted, applied}
 use Rattle.ol_strategies.proofs.Nexts.{next_is_redex}
 use Rattle.ol_named.specs.Marks.{part}
@@ -18,13 +22,14 @@ use Rattle.ol_binders.specs.Binders as binders
 use Rattle.ol_binders.specs.Binders.{Binders, Fits}
 use Rattle.ol_binders.specs.Naming as own
 use Rattle.ol_folds.specs.Folded.{value_at, or_name, all_folded, folded_round, folded_at, pruned}
-use Rattle.ol_folds.specs.Laws.{unfolded}
+use Rattle.ol_folds.specs.Laws.{unfolded, subterm_along}
+use Rattle.ol_folds.proofs.Complete.{tree_is, root_is}
 use Rattle.ol_folds.proofs.Values.{leads_to}
 use Rattle.ol_folds.proofs.Unfolding.{unfolded_is_term, no_value_no_change, folded_fits}
 use Rattle.ol_steps.specs.declared.stepping.Shown.{Shown}
 use Rattle.ol_steps.specs.Steps.{Glossary, shown_term}
 use Rattle.ol_steps.specs.Laws.{IsRedex, MarksRedex, RedexIsMarked, StandsForAbstraction, IsFoldedRedex, FoldedRedexIsMarked}
-use Rattle.ol_steps.specs.Laws.{subterm_at, HasRedexAt, UnfoldsToNext, IsShownFor, PartIsSubterm}
+use Rattle.ol_steps.specs.Laws.{binders_round, UnfoldsToNext, PartIsSubterm, PartIsRead}
 
 -- one move more
 pub take_on : (ms : List ℕ) (k m : ℕ) → slice_get ms k ≡ Some m → take (suc k) ms ≡ take k ms ++ m ∷ []
@@ -216,111 +221,235 @@ folded_redex_is_marked how g t s at fits e =
 
 -- ---- it is the one that comes next
 
-unfolds_parts : (n : ℕ) (vs : List Tree) (b : Bool) (m : ℕ) → (m == 1) ≡ b → (at : List ℕ) (f a x z y v : Tree) →
-    unfolded n vs (subterm_at x at) ≡ subterm_at f at → unfolded n vs (subterm_at v at) ≡ subterm_at a at →
-    unfolded n vs (subterm_at (if b then tree.app x z else tree.app y v) (m ∷ at)) ≡ subterm_at (tree.app f a) (m ∷ at)
-unfolds_parts n vs true m e at f a x z y v i j =
-    ap (λ (c : Bool). unfolded n vs (if c then subterm_at x at else subterm_at z at)) e ∙ i
-    ∙ sym (ap (λ (c : Bool). if c then subterm_at f at else subterm_at a at) e)
-unfolds_parts n vs false m e at f a x z y v i j =
-    ap (λ (c : Bool). unfolded n vs (if c then subterm_at y at else subterm_at v at)) e ∙ j
-    ∙ sym (ap (λ (c : Bool). if c then subterm_at f at else subterm_at a at) e)
+-- what stands at an address of a folded tree stands for the subterm there
+record StandsFor (n : ℕ) (vs : List Tree) (folded : Option Tree) (t : Option Tree) : Type 0 where
+  part : Tree
+  whole : Tree
+  body : Tree
+  argument : Tree
+  folded_is : folded ≡ Some part
+  whole_is : t ≡ Some whole
+  unfolds : unfolded n vs part ≡ whole
+  redex : whole ≡ tree.app (tree.lam body) argument
 
-unfolds : (n : ℕ) (vs : List Tree) (at : List ℕ) (t : Tree) → is_named_below n t ≡ true →
-    unfolded n vs (subterm_at (folded_round n vs at t) at) ≡ subterm_at t at
-unfolds n vs at (tree.var k) h = refl
-unfolds n vs at (tree.free k) h = unfolded_is_term n vs None (tree.free k) h
-unfolds n vs [] (tree.lam t) h = unfolded_is_term n vs (Some []) (tree.lam t) h
-unfolds n vs (m ∷ at) (tree.lam t) h = unfolds n vs at t h
-unfolds n vs [] (tree.app f a) h = unfolded_is_term n vs (Some []) (tree.app f a) h
-unfolds n vs (m ∷ at) (tree.app f a) h =
-    let p = and_parts (is_named_below n f) (is_named_below n a) h in
-    unfolds_parts n vs (m == 1) m refl at f a (folded_round n vs at f) (all_folded n vs a) (all_folded n vs f)
-    (folded_round n vs at a) (unfolds n vs at f p.0) (unfolds n vs at a p.1)
+module _ (n : ℕ) (vs : List Tree) where
+  stands_root : (f a : Tree) → is_named_below n (tree.app f a) ≡ true → IsSome (applied f a) →
+      StandsFor n vs (Some (folded_round n vs [] (tree.app f a))) (Some (tree.app f a))
+  stands_root (tree.var k) a h some = absurd (cc)
+  stands_root (tree.free k) a h some = absurd (cc)
+  stands_root (tree.lam b) a h some = record {
+    part = folded_round n vs [] (tree.app (tree.lam b) a);
+    whole = tree.app (tree.lam b) a;
+    body = b;
+    argument = a;
+    folded_is = refl;
+    whole_is = refl;
+    unfolds = unfolded_is_term n vs (Some []) (tree.app (tree.lam b) a) h;
+    redex = refl;
+  }
+  stands_root (tree.app f c) a h some = absurd (cc)
 
-redex_root : (f a : Tree) → IsSome (applied f a) → HasRedexAt (tree.app f a) []
-redex_root (tree.var k) a h = absurd (cc)
-redex_root (tree.free k) a h = absurd (cc)
-redex_root (tree.lam b) a h = (b, a, refl)
-redex_root (tree.app f c) a h = absurd (cc)
+  stands_body : (b : Bool) (o p q : Option Tree) → (IsSome o → StandsFor n vs p q) →
+      IsSome (if b then option_map tree.lam o else None) →
+      StandsFor n vs (if b then p else None) (if b then q else None)
+  stands_body true o p q more h = more (map_some tree.lam o h)
+  stands_body false o p q more h = absurd (cc)
 
-redex_body : (b : Bool) (t : Tree) (at : List ℕ) (o : Option Tree) → (IsSome o → HasRedexAt t at) →
-    IsSome (if b then option_map tree.lam o else None) → HasRedexAt t at
-redex_body true t at o more h = more (map_some tree.lam o h)
-redex_body false t at o more h = absurd (cc)
+  -- each part of an application; x and z are the function folded round what is at the address and without, v and y the
+  -- argument
+  stands_parts : (b : Bool) (m : ℕ) → (m == 1) ≡ b → (at : List ℕ) (f a x z y v : Tree) (o q : Option Tree) →
+      (IsSome o → StandsFor n vs (subterm_along x at) (subterm_along f at)) →
+      (IsSome q → StandsFor n vs (subterm_along v at) (subterm_along a at)) →
+      IsSome (if b then option_map (λ t. tree.app t a) o else if m == 2 then option_map (tree.app f) q else None) →
+      StandsFor n vs (subterm_along (if b then tree.app x z else tree.app y v) (m ∷ at))
+      (subterm_along (tree.app f a) (m ∷ at))
+  stands_parts true m e at f a x z y v o q more rest h =
+      subst (λ (c : Bool). StandsFor n vs
+      (if c then subterm_along x at else if m == 2 then subterm_along z at else None)
+      (if c then subterm_along f at else if m == 2 then subterm_along a at else None)) (sym e)
+      (more (map_some (λ (t : Tree). tree.app t a) o h))
+  stands_parts false m e at f a x z y v o q more rest h =
+      subst (λ (c : Bool). StandsFor n vs
+      (if c then subterm_along y at else if m == 2 then subterm_along v at else None)
+      (if c then subterm_along f at else if m == 2 then subterm_along a at else None)) (sym e)
+      (go (m == 2) h)
+    where
+      go : (c : Bool) → IsSome (if c then option_map (tree.app f) q else None) →
+          StandsFor n vs (if c then subterm_along v at else None) (if c then subterm_along a at else None)
+      go true i = rest (map_some (tree.app f) q i)
+      go false i = absurd (cc)
 
-redex_argument : (b : Bool) (f a : Tree) (at : List ℕ) (o : Option Tree) → (IsSome o → HasRedexAt a at) →
-    IsSome (if b then option_map (tree.app f) o else None) → HasRedexAt a at
-redex_argument true f a at o more h = more (map_some (tree.app f) o h)
-redex_argument false f a at o more h = absurd (cc)
-
-redex_parts : (b : Bool) (m : ℕ) → (m == 1) ≡ b → (f a : Tree) (at : List ℕ) (o q : Option Tree) →
-    (IsSome o → HasRedexAt f at) → (IsSome q → HasRedexAt a at) →
-    IsSome (if b then option_map (λ t. tree.app t a) o else if m == 2 then option_map (tree.app f) q else None) →
-    HasRedexAt (tree.app f a) (m ∷ at)
-redex_parts true m e f a at o q more rest h =
-    let r = more (map_some (λ (t : Tree). tree.app t a) o h) in
-    (r.0, r.1, ap (λ (c : Bool). if c then subterm_at f at else subterm_at a at) e ∙ r.2)
-redex_parts false m e f a at o q more rest h =
-    let r = redex_argument (m == 2) f a at q rest h in
-    (r.0, r.1, ap (λ (c : Bool). if c then subterm_at f at else subterm_at a at) e ∙ r.2)
-
-redex_at : (t : Tree) (at : List ℕ) → IsSome (contracted t at) → HasRedexAt t at
-redex_at (tree.var k) at h = absurd (cc)
-redex_at (tree.free k) at h = absurd (cc)
-redex_at (tree.lam t) [] h = absurd (cc)
-redex_at (tree.lam t) (m ∷ at) h = redex_body (m == 0) t at (contracted t at) (redex_at t at) h
-redex_at (tree.app f a) [] h = redex_root f a h
-redex_at (tree.app f a) (m ∷ at) h =
-    redex_parts (m == 1) m refl f a at (contracted f at) (contracted a at) (redex_at f at) (redex_at a at) h
+  stands : (t : Tree) (at : List ℕ) → is_named_below n t ≡ true → IsSome (contracted t at) →
+      StandsFor n vs (subterm_along (folded_round n vs at t) at) (subterm_along t at)
+  stands (tree.var k) at h some = absurd (cc)
+  stands (tree.free k) at h some = absurd (cc)
+  stands (tree.lam t) [] h some = absurd (cc)
+  stands (tree.lam t) (m ∷ at) h some =
+      stands_body (m == 0) (contracted t at) (subterm_along (folded_round n vs at t) at) (subterm_along t at)
+      (stands t at h) some
+  stands (tree.app f a) [] h some = stands_root f a h some
+  stands (tree.app f a) (m ∷ at) h some =
+      let p = and_parts (is_named_below n f) (is_named_below n a) h in
+      stands_parts (m == 1) m refl at f a (folded_round n vs at f) (all_folded n vs a) (all_folded n vs f)
+      (folded_round n vs at a) (contracted f at) (contracted a at) (stands f at p.0) (stands a at p.1) some
 
 pub unfolds_to_next : UnfoldsToNext
-unfolds_to_next how g t at h e = (
-  ap (λ (o : Option (List ℕ)). unfolded g.first g.values (subterm_at (folded_at g.first g.values o t) at)) e
-      ∙ unfolds g.first g.values at t h,
-  redex_at t at (next_is_redex how.order t at e),
-)
+unfolds_to_next how g t at h e =
+    let s = stands g.first g.values t at h (next_is_redex how.order t at e) in
+    record {
+      part = s.part;
+      body = s.body;
+      argument = s.argument;
+      shown = ap (λ (o : Option (List ℕ)). subterm_along (folded_at g.first g.values o t) at) e ∙ s.folded_is;
+      redex = s.whole_is ∙ ap (λ (u : Tree). Some u) s.redex;
+      unfolds = s.unfolds ∙ s.redex;
+    }
 
 -- ---- what stands there is that subterm with names
 
-lettered_part : (names : List (List ℕ)) (t : Tree) (n : ℕ) (at : List ℕ) →
-    IsShownFor false names (subterm_at t at) (part (lettered names n t) at)
-lettered_part names (tree.var k) n at = (n, refl)
-lettered_part names (tree.free k) n at = (n, refl)
-lettered_part names (tree.lam t) n [] = (n, refl)
-lettered_part names (tree.lam t) n (m ∷ at) = lettered_part names t (n + 1) at
-lettered_part names (tree.app f a) n [] = (n, refl)
-lettered_part names (tree.app f a) n (m ∷ at) = go (m == 1) (lettered_part names f n at) (lettered_part names a n at)
-  where
-    go : (b : Bool) → IsShownFor false names (subterm_at f at) (part (lettered names n f) at) →
-        IsShownFor false names (subterm_at a at) (part (lettered names n a) at) →
-        IsShownFor false names (if b then subterm_at f at else subterm_at a at)
-        (if b then part (lettered names n f) at else part (lettered names n a) at)
-    go true i j = i
-    go false i j = j
+abbrev Lettered : List (List ℕ) → ℕ → Tree → Named → List ℕ → Type 0
+Lettered names n v u at = part u at ≡ lettered names (length (binders_round u at) + n) v
 
-named_part : (names : List (List ℕ)) (t : Tree) (round : List (List ℕ)) (s : Binders) (at : List ℕ) → Fits t s →
-    IsShownFor true names (subterm_at t at) (part (own.named names round t s) at)
-named_part names (tree.var k) round s at h = (round, s, refl)
-named_part names (tree.free k) round s at h = (round, s, refl)
-named_part names (tree.lam t) round binders.leaf at h = absurd h
-named_part names (tree.lam t) round (binders.lam x s) [] h = (round, binders.lam x s, refl)
-named_part names (tree.lam t) round (binders.lam x s) (m ∷ at) h =
-    named_part names t (own.primed (own.used 1 names round t) x ∷ round) s at h
-named_part names (tree.lam t) round (binders.app r s) at h = absurd h
-named_part names (tree.app f a) round binders.leaf at h = absurd h
-named_part names (tree.app f a) round (binders.lam x s) at h = absurd h
-named_part names (tree.app f a) round (binders.app r s) [] h = (round, binders.app r s, refl)
-named_part names (tree.app f a) round (binders.app r s) (m ∷ at) h =
-    go (m == 1) (named_part names f round r at h.0) (named_part names a round s at h.1)
+root_lettered : (names : List (List ℕ)) (n : ℕ) (t v : Tree) → Some t ≡ Some v → lettered names n t ≡ lettered names (0 + n) v
+root_lettered names n t v h = ap (lettered names n) (tree_is t v h) ∙ ap (λ (k : ℕ). lettered names k v) (omega arith)
+
+lettered_part : (names : List (List ℕ)) (t v : Tree) (n : ℕ) (at : List ℕ) → subterm_along t at ≡ Some v →
+    Lettered names n v (lettered names n t) at
+lettered_part names (tree.var k) v n [] h = root_lettered names n (tree.var k) v h
+lettered_part names (tree.var k) v n (m ∷ at) h = absurd (cc)
+lettered_part names (tree.free k) v n [] h = root_lettered names n (tree.free k) v h
+lettered_part names (tree.free k) v n (m ∷ at) h = absurd (cc)
+lettered_part names (tree.lam t) v n [] h = root_lettered names n (tree.lam t) v h
+lettered_part names (tree.lam t) v n (m ∷ at) h = go (m == 0) h (lettered_part names t v (n + 1) at)
   where
-    go : (b : Bool) → IsShownFor true names (subterm_at f at) (part (own.named names round f r) at) →
-        IsShownFor true names (subterm_at a at) (part (own.named names round a s) at) →
-        IsShownFor true names (if b then subterm_at f at else subterm_at a at)
-        (if b then part (own.named names round f r) at else part (own.named names round a s) at)
-    go true i j = i
-    go false i j = j
+    u : Named
+    u = lettered names (n + 1) t
+
+    x : List ℕ
+    x = binder_name names n
+
+    l : length (binders_round u at ++ x ∷ []) ≡ length (binders_round u at) + 1
+    l = length_push (binders_round u at) x
+
+    go : (b : Bool) → (if b then subterm_along t at else None) ≡ Some v →
+        (subterm_along t at ≡ Some v → Lettered names (n + 1) v u at) → Lettered names n v (lam x u) (m ∷ at)
+    go true i more = more i ∙ ap (λ (k : ℕ). lettered names k v) (omega (arith, l))
+    go false i more = absurd (cc)
+lettered_part names (tree.app f a) v n [] h = root_lettered names n (tree.app f a) v h
+lettered_part names (tree.app f a) v n (m ∷ at) h =
+    go (m == 1) (m == 2) h (lettered_part names f v n at) (lettered_part names a v n at)
+  where
+    go : (b c : Bool) → (if b then subterm_along f at else if c then subterm_along a at else None) ≡ Some v →
+        (subterm_along f at ≡ Some v → Lettered names n v (lettered names n f) at) →
+        (subterm_along a at ≡ Some v → Lettered names n v (lettered names n a) at) →
+        (if b then part (lettered names n f) at else part (lettered names n a) at) ≡ lettered names
+        (length (if b then binders_round (lettered names n f) at else binders_round (lettered names n a) at) + n) v
+    go true c i more rest = more i
+    go false true i more rest = rest i
+    go false false i more rest = absurd (cc)
+
+abbrev NamedBelow : List (List ℕ) → List (List ℕ) → Tree → Named → Type 0
+NamedBelow names round v u = (s : Binders) × Fits v s × (u ≡ own.named names round v s)
+
+root_named : (names round : List (List ℕ)) (t v : Tree) (s : Binders) → Fits t s → Some t ≡ Some v →
+    NamedBelow names round v (own.named names round t s)
+root_named names round t v s fits h =
+    subst (λ (w : Tree). NamedBelow names round w (own.named names round t s)) (tree_is t v h) (s, fits, refl)
+
+named_part : (names : List (List ℕ)) (t v : Tree) (round : List (List ℕ)) (s : Binders) (at : List ℕ) → Fits t s →
+    subterm_along t at ≡ Some v →
+    NamedBelow names (binders_round (own.named names round t s) at ++ round) v (part (own.named names round t s) at)
+named_part names (tree.var k) v round s [] fits h = root_named names round (tree.var k) v s fits h
+named_part names (tree.var k) v round s (m ∷ at) fits h = absurd (cc)
+named_part names (tree.free k) v round s [] fits h = root_named names round (tree.free k) v s fits h
+named_part names (tree.free k) v round s (m ∷ at) fits h = absurd (cc)
+named_part names (tree.lam t) v round binders.leaf at fits h = absurd fits
+named_part names (tree.lam t) v round (binders.lam x s) [] fits h =
+    root_named names round (tree.lam t) v (binders.lam x s) fits h
+named_part names (tree.lam t) v round (binders.lam x s) (m ∷ at) fits h =
+    go (m == 0) h (named_part names t v (own.primed (own.used 1 names round t) x ∷ round) s at fits)
+  where
+    y : List ℕ
+    y = own.primed (own.used 1 names round t) x
+
+    u : Named
+    u = own.named names (y ∷ round) t s
+
+    go : (b : Bool) → (if b then subterm_along t at else None) ≡ Some v →
+        (subterm_along t at ≡ Some v → NamedBelow names (binders_round u at ++ y ∷ round) v (part u at)) →
+        NamedBelow names ((binders_round u at ++ y ∷ []) ++ round) v (part u at)
+    go true i more = subst (λ (r : List (List ℕ)). NamedBelow names r v (part u at))
+        (sym (append_assoc (binders_round u at) (y ∷ []) round)) (more i)
+    go false i more = absurd (cc)
+named_part names (tree.lam t) v round (binders.app r s) at fits h = absurd fits
+named_part names (tree.app f a) v round binders.leaf at fits h = absurd fits
+named_part names (tree.app f a) v round (binders.lam x s) at fits h = absurd fits
+named_part names (tree.app f a) v round (binders.app r s) [] fits h =
+    root_named names round (tree.app f a) v (binders.app r s) fits h
+named_part names (tree.app f a) v round (binders.app r s) (m ∷ at) fits h =
+    go (m == 1) (m == 2) h (named_part names f v round r at fits.0) (named_part names a v round s at fits.1)
+  where
+    g : Named
+    g = own.named names round f r
+
+    b : Named
+    b = own.named names round a s
+
+    go : (c d : Bool) → (if c then subterm_along f at else if d then subterm_along a at else None) ≡ Some v →
+        (subterm_along f at ≡ Some v → NamedBelow names (binders_round g at ++ round) v (part g at)) →
+        (subterm_along a at ≡ Some v → NamedBelow names (binders_round b at ++ round) v (part b at)) →
+        NamedBelow names ((if c then binders_round g at else binders_round b at) ++ round) v
+        (if c then part g at else part b at)
+    go true d i more rest = more i
+    go false true i more rest = rest i
+    go false false i more rest = absurd (cc)
 
 pub part_is_subterm : PartIsSubterm
-part_is_subterm true names t s at fits = named_part names t [] s at (fits refl)
-part_is_subterm false names t s at fits = lettered_part names t 0 at
+part_is_subterm true names t v s at fits h =
+    let u = own.named names [] t s in
+    subst (λ (r : List (List ℕ)). NamedBelow names r v (part u at)) (append-nil (binders_round u at))
+    (named_part names t v [] s at (fits refl) h)
+part_is_subterm false names t v s at fits h =
+    let u = lettered names 0 t in
+    lettered_part names t v 0 at h ∙ ap (λ (k : ℕ). lettered names k v) (omega arith)
+
+-- ---- it is read as that subterm
+
+read_part : (names round : List (List ℕ)) (u : Named) (v : Tree) (at : List ℕ) →
+    subterm_along (numbered names round u) at ≡ Some v → numbered names (binders_round u at ++ round) (part u at) ≡ v
+read_part names round (var x) v [] h = root_is (numbered names round (var x)) v h
+read_part names round (var x) v (m ∷ at) h =
+    let none = leaf (position_of x round) (position_of x names) in absurd (cc)
+  where
+    leaf : (o p : Option ℕ) → subterm_along (var_at o p) (m ∷ at) ≡ None
+    leaf (Some k) p = refl
+    leaf None (Some k) = refl
+    leaf None None = refl
+read_part names round (lam x t) v [] h = tree_is (numbered names round (lam x t)) v h
+read_part names round (lam x t) v (m ∷ at) h = go (m == 0) h (read_part names (x ∷ round) t v at)
+  where
+    go : (b : Bool) → (if b then subterm_along (numbered names (x ∷ round) t) at else None) ≡ Some v →
+        (subterm_along (numbered names (x ∷ round) t) at ≡ Some v →
+        numbered names (binders_round t at ++ x ∷ round) (part t at) ≡ v) →
+        numbered names ((binders_round t at ++ x ∷ []) ++ round) (part t at) ≡ v
+    go true i more =
+        ap (λ (r : List (List ℕ)). numbered names r (part t at)) (append_assoc (binders_round t at) (x ∷ []) round) ∙ more i
+    go false i more = absurd (cc)
+read_part names round (app f a) v [] h = tree_is (numbered names round (app f a)) v h
+read_part names round (app f a) v (m ∷ at) h =
+    go (m == 1) (m == 2) h (read_part names round f v at) (read_part names round a v at)
+  where
+    go : (b c : Bool) → (if b then subterm_along (numbered names round f) at
+        else if c then subterm_along (numbered names round a) at else None) ≡ Some v →
+        (subterm_along (numbered names round f) at ≡ Some v → numbered names (binders_round f at ++ round) (part f at) ≡ v) →
+        (subterm_along (numbered names round a) at ≡ Some v → numbered names (binders_round a at ++ round) (part a at) ≡ v) →
+        numbered names ((if b then binders_round f at else binders_round a at) ++ round)
+        (if b then part f at else part a at) ≡ v
+    go true c i more rest = more i
+    go false true i more rest = rest i
+    go false false i more rest = absurd (cc)
+
+pub part_is_read : PartIsRead
+part_is_read names u t v at reads h =
+    ap (λ (r : List (List ℕ)). numbered names r (part u at)) (sym (append-nil (binders_round u at)))
+    ∙ read_part names [] u v at (ap (λ (x : Tree). subterm_along x at) reads ∙ h)

@@ -19,14 +19,11 @@ use Rattle.ol_steps.specs.Steps.{Tells, ends, returns, left, past}
 use Rattle.ol_steps.specs.Laws.{HasLastLine}
 use Rattle.ol_steps.proofs.LastLines.{counted_line, reached_line, return_one, left_one, past_one, ends_with}
 use Rattle.ol_steps.proofs.LastLines.{shown_ends, redex_told}
+use Rattle.ol_steps.proofs.Returns.{none_some}
 use Rattle.ol_steps.proofs.OneWalk.{Stops, one_stop, redex_in, one_place}
 
 no_and_some : {A : Type 0} (o : Option A) (x : A) → o ≡ None → o ≡ Some x → ⊥
 no_and_some o x e i = absurd (cc)
-
-no_and_is : {A : Type 0} (o : Option A) → o ≡ None → IsSome o → ⊥
-no_and_is None e h = absurd (cc)
-no_and_is (Some x) e h = absurd (cc)
 
 same_some : {A : Type 0} (o : Option A) (x y : A) → o ≡ Some x → o ≡ Some y → x ≡ y
 same_some o x y e i = cc
@@ -103,13 +100,13 @@ one_outcome {o} {t} {v} {terms} most A B text line A' B' text' line' e f walk (e
       λ a b. by_shown A A' text text' line line' x.text_is y.text_is l a,
     )
 one_outcome {o} {t} {v} {terms} most A B text line A' B' text' line' e f walk (ended x) (returned y) =
-    absurd (no_and_is (next o v) ((no_next_is_end o v).1 (x.word, x.normal)) (redex_in walk y.k v y.found))
+    absurd (none_some (next o v) ((no_next_is_end o v).1 (x.word, x.normal)) (redex_in walk y.k v y.found))
 one_outcome {o} {t} {v} {terms} most A B text line A' B' text' line' e f walk (ended x) (cut y) =
     absurd (no_and_some (next o v) y.at ((no_next_is_end o v).1 (x.word, x.normal)) y.redex)
 one_outcome {o} {t} {v} {terms} most A B text line A' B' text' line' e f walk (ended x) (outgrown y) =
     absurd (no_and_some (next o v) y.at ((no_next_is_end o v).1 (x.word, x.normal)) y.redex)
 one_outcome {o} {t} {v} {terms} most A B text line A' B' text' line' e f walk (returned x) (ended y) =
-    absurd (no_and_is (next o v) ((no_next_is_end o v).1 (y.word, y.normal)) (redex_in walk x.k v x.found))
+    absurd (none_some (next o v) ((no_next_is_end o v).1 (y.word, y.normal)) (redex_in walk x.k v x.found))
 one_outcome {o} {t} {v} {terms} most A B text line A' B' text' line' e f walk (returned x) (returned y) =
     let k = one_place walk x.k y.k v x.found y.found in
     let l = x.line_is ∙ ap (λ (j : ℕ). return_line o (length terms) j) k ∙ sym y.line_is in (

@@ -73,7 +73,7 @@ there : (o : Option (List ℕ)) → IsSome o → (at : List ℕ) × (o ≡ Some 
 there None h = absurd (cc)
 there (Some at) h = (at, refl)
 
-none_some : {A : Type 0} (o : Option A) → o ≡ None → IsSome o → ⊥
+pub none_some : {A : Type 0} (o : Option A) → o ≡ None → IsSome o → ⊥
 none_some None e h = absurd (cc)
 none_some (Some x) e h = absurd (cc)
 

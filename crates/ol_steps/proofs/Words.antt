@@ -313,6 +313,7 @@ folded_reads names n t s at v w good once words r =
         is = refl;
         text = named_is_read (named g.names [] x (pruned x w))
             (all_names g.names [] x (pruned x w) names_are tt (pruned_names x w r.words) fits bound placed);
+        folded = none_is_caught g.names x (pruned x w) differ fits bound placed;
         tree = ap (unfolded g.first g.values) (none_is_caught g.names x (pruned x w) differ fits bound placed)
             ∙ unfolded_is_term g.first g.values at v r.placed;
       },

@@ -23,7 +23,7 @@ use Rattle.ol_binders.specs.Binders.{Binders, binders_of, Fits}
 use Rattle.ol_binders.specs.Naming.{named}
 use Rattle.ol_folds.specs.Fronts.{BeginsWithLets}
 use Rattle.ol_folds.specs.Folded.{folded_at, pruned}
-use Rattle.ol_folds.specs.Laws.{unfolded}
+use Rattle.ol_folds.specs.Laws.{unfolded, subterm_along}
 use Rattle.ol_steps.specs.declared.stepping.Shown.{Shown}
 use Rattle.ol_steps.specs.Steps.{Walk, Glossary, glossary, last_binders, shown_term, shown_tree, term_line}
 use Rattle.ol_steps.specs.Steps.{begun, last_unfolding, IsStepsOf}
@@ -62,10 +62,10 @@ IsRedex u = (binder : List ℕ) × (body : Named) × (argument : Named) × (u �
 
 -- A term with names stands in the term's line, and the carets stand under a redex at an address of it. What a redex is
 -- differs with how the term is shown.
-pub record MarksRedex (IsOne : Named → Type 0) (own : Bool) (names : List (List ℕ)) (t : Tree) (s : Binders)
+pub record MarksRedex (Redex : Named → Type 0) (own : Bool) (names : List (List ℕ)) (t : Tree) (s : Binders)
     (at : List ℕ) (u : Named) : Type 0 where
   pub line : term_line own names t s ≡ named_text false u ++ codes "\n"
-  pub redex : IsOne (part u at)
+  pub redex : Redex (part u at)
   pub marked : IsMarked u at
 
 -- the carets stand under the redex that an order contracts next
@@ -93,32 +93,43 @@ FoldedRedexIsMarked = (how : Shown) (g : Glossary) (t : Tree) (s : Binders) (at 
     MarksRedex (IsFoldedRedex g) how.named g.names (shown_tree how g t) (pruned (shown_tree how g t) s) at
     (shown_term how.named g.names (shown_tree how g t) (pruned (shown_tree how g t) s))
 
--- The subterm of a tree at an address. Its moves are those of `part`.
-abbrev pub subterm_at : Tree → List ℕ → Tree
-subterm_at (tree.lam t) (m ∷ at) = subterm_at t at
-subterm_at (tree.app f a) (m ∷ at) = if m == 1 then subterm_at f at else subterm_at a at
-subterm_at t at = t
+-- the names of the binders round the subterm at an address, the innermost first
+abbrev pub binders_round : Named → List ℕ → List (List ℕ)
+binders_round (lam x t) (m ∷ at) = binders_round t at ++ x ∷ []
+binders_round (app f a) (m ∷ at) = if m == 1 then binders_round f at else binders_round a at
+binders_round t at = []
 
--- a term with names is this tree, below some binders whose names are given
-abbrev pub IsShownFor : Bool → List (List ℕ) → Tree → Named → Type 0
-IsShownFor true names t u = (round : List (List ℕ)) × (s : Binders) × (u ≡ named names round t s)
-IsShownFor false names t u = (round : ℕ) × (u ≡ lettered names round t)
+-- a term with names is this tree, written below binders that have these names, the innermost first
+abbrev pub IsShownBelow : Bool → List (List ℕ) → List (List ℕ) → Tree → Named → Type 0
+IsShownBelow true names round t u = (s : Binders) × Fits t s × (u ≡ named names round t s)
+IsShownBelow false names round t u = u ≡ lettered names (length round) t
 
--- what stands at an address of a term as it is shown is the tree's subterm there
+-- what stands at an address of a term as it is shown is the tree's subterm there, written below the binders round it
 abbrev pub PartIsSubterm : Type 0
-PartIsSubterm = (own : Bool) (names : List (List ℕ)) (t : Tree) (s : Binders) (at : List ℕ) → (own ≡ true → Fits t s) →
-    IsShownFor own names (subterm_at t at) (part (shown_term own names t s) at)
+PartIsSubterm = (own : Bool) (names : List (List ℕ)) (t v : Tree) (s : Binders) (at : List ℕ) → (own ≡ true → Fits t s) →
+    subterm_along t at ≡ Some v →
+    IsShownBelow own names (binders_round (shown_term own names t s) at) v (part (shown_term own names t s) at)
 
--- an abstraction that is applied to an argument stands there
-abbrev pub HasRedexAt : Tree → List ℕ → Type 0
-HasRedexAt t at = (body : Tree) × (argument : Tree) × (subterm_at t at ≡ tree.app (tree.lam body) argument)
+-- if a term with names is read as a tree, what stands at an address of it is read, below the binders round it, as the
+-- tree's subterm there
+abbrev pub PartIsRead : Type 0
+PartIsRead = (names : List (List ℕ)) (u : Named) (t v : Tree) (at : List ℕ) → numbered names [] u ≡ t →
+    subterm_along t at ≡ Some v → numbered names (binders_round u at) (part u at) ≡ v
 
--- Where the values are put in the places of their names, what stands in the folded tree at the address of the redex
--- that comes next is that redex.
+-- At one address, a folded tree has a subterm, and the tree has a redex, an abstraction that is applied to an argument.
+-- If the values are put in the places of their names, the first is the second.
+pub record StandsForRedex (g : Glossary) (folded t : Tree) (at : List ℕ) : Type 0 where
+  pub part : Tree
+  pub body : Tree
+  pub argument : Tree
+  pub shown : subterm_along folded at ≡ Some part
+  pub redex : subterm_along t at ≡ Some (tree.app (tree.lam body) argument)
+  pub unfolds : unfolded g.first g.values part ≡ tree.app (tree.lam body) argument
+
+-- it is so at the address of the redex that comes next
 abbrev pub UnfoldsToNext : Type 0
 UnfoldsToNext = (how : Shown) (g : Glossary) (t : Tree) (at : List ℕ) → is_named_below g.first t ≡ true →
-    next how.order t ≡ Some at →
-    (unfolded g.first g.values (subterm_at (shown_tree how g t) at) ≡ subterm_at t at) × HasRedexAt t at
+    next how.order t ≡ Some at → StandsForRedex g (shown_tree how g t) t at
 
 -- A tree whose binders have these names: they have its shape, and what is printed is read again, as a term of the same
 -- tree. So no binder takes what isn't its own.
@@ -133,11 +144,12 @@ ReadsAgain = (order : Order) (bytes : List ℕ) (source : Named) (v : Tree) (ter
     Walk order (number source) terms v →
     KeepsNames (names_of source) v (last_binders order (binders_of source) terms)
 
--- What is printed of a tree that is folded with a glossary: it is read again, and where the values are put in the places
--- of their names, as the tree.
+-- What is printed of a tree that is folded with a glossary: it is read again as the folded tree, and, where the values are
+-- put in the places of their names, as the tree.
 pub record ReadsFolded (g : Glossary) (at : Option (List ℕ)) (t : Tree) (s : Binders) (u : Named) : Type 0 where
   pub is : u ≡ named g.names [] (folded_at g.first g.values at t) (pruned (folded_at g.first g.values at t) s)
   pub text : IsText (named_text false u) u
+  pub folded : numbered g.names [] u ≡ folded_at g.first g.values at t
   pub tree : unfolded g.first g.values (numbered g.names [] u) ≡ t
 
 -- it is so with each term of a walk from the term of a text, whatever redex is shown, and however many lets are told apart

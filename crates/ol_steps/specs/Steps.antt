@@ -121,10 +121,14 @@ abbrev pub last_unfolding : Order → Unfolding → List Tree → Unfolding
 last_unfolding order u [] = u
 last_unfolding order u (t ∷ terms) = last_unfolding order (unfolding_after order u t) terms
 
+-- so many of some things, in words: `1 step`, `2 steps`
+abbrev pub how_many : ℕ → List ℕ → List ℕ
+how_many n thing = decimal n ++ codes " " ++ thing ++ (if n == 1 then [] else codes "s")
+
 -- the line for lets that were unfolded since a term was shown, and the step whose term is shown next
 abbrev pub unfold_line : Unfolding → List ℕ
 unfold_line u = if u.hidden == 0 then []
-    else decimal u.hidden ++ codes " lets unfolded: step " ++ decimal u.made ++ codes "\n"
+    else how_many u.hidden (codes "let") ++ codes " unfolded: step " ++ decimal u.made ++ codes "\n"
 
 -- the lines of a step that is made: none yet, if it only unfolds a let
 abbrev pub lines_of_step : Shown → Glossary → Unfolding → Tree → Binders → List ℕ
@@ -149,7 +153,7 @@ lines_with_redex how g lets s terms v = walk_lines how g (begun lets) s terms
 
 -- the last line: some words, and how many steps were made
 abbrev pub last_line : List ℕ → ℕ → List ℕ
-last_line words made = words ++ codes " after " ++ decimal made ++ codes " steps\n"
+last_line words made = words ++ codes " after " ++ how_many made (codes "step") ++ codes "\n"
 
 -- the last line where a step's term is out of bounds
 abbrev pub past_line : ℕ → ℕ → ℕ → List ℕ

@@ -1,7 +1,7 @@
 //! Laws of terms that come back, of carets, of names and of the end of an answer: no code, only
 //! what follows from the definitions.
 
-ghost use Rattle.ol_steps.specs.Laws.{EachStepCounts, FoldedReadsAgain, FoldedRedexIsMarked, NoLetSameAnswer, PartIsSubterm, ReadsAgain, RedexIsMarked, ReturnIsEndless, ReturnHasNone, ShowingChangesNoEnd, UnfoldsToNext};
+ghost use Rattle.ol_steps.specs.Laws.{EachStepCounts, FoldedReadsAgain, FoldedRedexIsMarked, NoLetSameAnswer, PartIsRead, PartIsSubterm, ReadsAgain, RedexIsMarked, ReturnIsEndless, ReturnHasNone, ShowingChangesNoEnd, UnfoldsToNext};
 ghost use Rattle.ol_steps.specs.Unfoldings.{LetsAreUnfolded, NoValueIsShown};
 
 /// Where a term of an order's walk is that of an earlier step, the order has no end: each term that
@@ -24,13 +24,18 @@ pub fn redexes_are_marked()
 
 /// If a term is folded, the carets stand under the text of the subterm at the address of the redex
 /// that an order contracts next. What is applied there to an argument is an abstraction, or the
-/// name of a let whose value is one. What stands there is the subterm of the folded term, as it is
-/// written below some binders. If the values are put in the places of their names, this subterm is
-/// the redex itself.
+/// name of a let whose value is one. If the values are put in the places of their names, the folded
+/// term's subterm there is the redex itself.
 pub fn folded_redexes_are_marked()
     ensures marked { FoldedRedexIsMarked }
-    ensures part { PartIsSubterm }
     ensures unfolded { UnfoldsToNext }
+{}
+
+/// What stands at an address of a term that is shown is the subterm there of the term, folded or
+/// not. It is written below the binders round it, and read again below these as that subterm.
+pub fn parts_are_subterms()
+    ensures shown { PartIsSubterm }
+    ensures read { PartIsRead }
 {}
 
 /// What is printed of each term of a walk, if the binders keep the names that they have in the

@@ -8,7 +8,7 @@ ghost use Rattle.ol_beta.specs.Beta.{IsWithin};
 ghost use Rattle.ol_named.specs.Marks.{mark_line};
 ghost use Rattle.ol_named.specs.Terms.{named_of};
 ghost use Rattle.ol_binders.specs.Trees.{binders_in};
-ghost use Rattle.ol_steps.specs.Steps.{address_line, last_line, past_line, redex_lines, reached_end, reached_words, return_line, return_words, shown_term, term_line};
+ghost use Rattle.ol_steps.specs.Steps.{address_line, how_many, last_line, past_line, redex_lines, reached_end, reached_words, return_line, return_words, shown_term, term_line};
 
 use crate::stepping::Shown;
 use ol_beta::Address;
@@ -148,6 +148,24 @@ pub fn put_redex(
     put_address(alloc, text, at)
 }
 
+// So many of some things.
+pub fn put_how_many(
+    alloc: Global,
+    text: &mut Vec<u8>,
+    count: usize,
+    thing: &[u8],
+) -> Result<(), NoMemory>
+    ensures { OnOk result (text.new.items ≡ text.old.items ++ how_many count thing.now) }
+{
+    put_number(alloc, text, count as u64)?;
+    put(text, b" ")?;
+    put(text, thing)?;
+    if count != 1 {
+        put(text, b"s")?;
+    }
+    Ok(())
+}
+
 // The last line: some words, and how many steps were made.
 pub fn put_last(
     alloc: Global,
@@ -159,8 +177,8 @@ pub fn put_last(
 {
     put(text, words)?;
     put(text, b" after ")?;
-    put_number(alloc, text, made as u64)?;
-    put(text, b" steps\n")
+    put_how_many(alloc, text, made, b"step")?;
+    put(text, b"\n")
 }
 
 // The last line where a step's term is out of bounds: its size and depth.

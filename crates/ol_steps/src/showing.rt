@@ -11,7 +11,7 @@ ghost use Rattle.ol_folds.specs.Folded.{folded_at, pruned};
 ghost use Rattle.ol_steps.specs.Kept.{glossary_of};
 ghost use Rattle.ol_steps.specs.Steps.{begun, lines_of_step, shown_line, step_lines, unfold_line, unfolding_after, unfolds};
 
-use crate::lines::{moves_of, put_redex, put_term};
+use crate::lines::{moves_of, put_how_many, put_redex, put_term};
 use crate::stepping::Shown;
 use ol_beta::Address;
 use ol_binders::BinderTree;
@@ -75,8 +75,8 @@ fn put_unfolded(alloc: Global, text: &mut Vec<u8>, seen: Unfolding) -> Result<()
     if seen.hidden == 0 {
         return Ok(());
     }
-    put_number(alloc, text, seen.hidden as u64)?;
-    put(text, b" lets unfolded: step ")?;
+    put_how_many(alloc, text, seen.hidden as usize, b"let")?;
+    put(text, b" unfolded: step ")?;
     put_number(alloc, text, seen.made as u64)?;
     put(text, b"\n")
 }

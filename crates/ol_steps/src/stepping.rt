@@ -378,12 +378,12 @@ fn of_text(
 
 /// The terms of reduction in an order, one under another, by at most `most` steps. Each has the
 /// address of the redex that comes next, but for one that is that of an earlier step. If the redex
-/// is to be marked, a line between the two has
-/// carets under its text, without brackets round it. Law `redexes_are_marked` says so of terms that
-/// aren't folded, and `folded_redexes_are_marked` of those that are. If binders are to keep their
-/// names, each has the one that it has in the file, with as few primes as keep it from every free
-/// name and every binder round it that is used in its body. The file has a term that `ol` takes by
-/// translation 2, in at most 1,048,576 bytes. Step 0 is the term itself.
+/// is to be marked, a line between the two has carets under its text, without brackets round it.
+/// Law `redexes_are_marked` says so of terms that aren't folded, and `folded_redexes_are_marked` of
+/// those that are. If binders are to keep their names, each has the one that it has in the file,
+/// with as few primes as keep it from every free name and every binder round it that is used in its
+/// body. The file has a term that `ol` takes by translation 2, in at most 1,048,576 bytes. Step 0
+/// is the term itself.
 ///
 /// If terms are to be folded, each abstraction or application that is the value of a let at the
 /// front of the file is written by its name. The redex that comes next isn't, nor is what it stands
