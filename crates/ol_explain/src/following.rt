@@ -1,9 +1,6 @@
 //! A journal, followed line by line by a run from a net.
 
-ghost use Rattle.std.specs.Prelude.{◌≡◌, ◌≢◌, ℕ, ◌++◌, ◌≤◌, List, length, drop, true, false, IfOk, IfSome, IfNone};
-ghost use Rattle.ol_view.specs.declared.forms.Form.{Form};
-ghost use Rattle.ol_view.specs.EachForm.{header};
-ghost use Rattle.ol_view.specs.Forms.{header_of};
+ghost use Rattle.std.specs.Prelude.{◌≤◌, length, IfOk};
 ghost use Rattle.ol_replay.specs.Replays.{IsReplay};
 ghost use Rattle.ol_explain.specs.Followed.{Stops};
 ghost use Rattle.ol_limits.specs.Limits.{most_fuel, most_nodes};
@@ -12,7 +9,7 @@ use ol_diamond::{Rewritten, Weighing};
 use ol_memory::NoMemory;
 use ol_net::Net;
 use ol_replay::Replay;
-use ol_view::{Form, Line, is_so, line_at};
+use ol_view::{Form, Line, form_of, is_so, line_at};
 use std::alloc::Global;
 
 /// Why a journal is followed no further.
@@ -36,22 +33,6 @@ pub struct Followed {
     pub replay: Replay,
     pub at: usize,
     pub stop: Stop,
-}
-
-// The form that the first line tells.
-fn form_of(text: &[u8]) -> Option<Form>
-    ensures form { IfSome result (λ form.
-        text.now ≡ header_of form ++ drop (length header) text.now) }
-    ensures none { IfNone result
-        ((form : Form) (rest : List ℕ) → text.now ≢ header_of form ++ rest) }
-{
-    if text.starts_with("ol trace 1\n".as_bytes()) {
-        return Some(Form::One);
-    }
-    if text.starts_with("ol trace 2\n".as_bytes()) {
-        return Some(Form::Two);
-    }
-    None
 }
 
 /// The run of the first entries of a journal, at most so many: up to the first line that isn't

@@ -4,7 +4,7 @@ ghost use Rattle.std.specs.Prelude.{◌≡◌, ◌≢◌, ℕ, ◌++◌, ◌≤�
 ghost use Rattle.ol_net.specs.Graph.{Graph};
 ghost use Rattle.ol_limits.specs.Limits.{most_fuel};
 ghost use Rattle.ol_view.specs.declared.forms.Form.{Form};
-ghost use Rattle.ol_view.specs.EachForm.{header};
+ghost use Rattle.ol_view.specs.declared.forms.Form.TheVariants.{One};
 ghost use Rattle.ol_view.specs.Forms.{header_of};
 ghost use Rattle.ol_view.specs.LineReading.{TellsOf};
 ghost use Rattle.ol_view.specs.Checks.{start_net_of_graph, OnlyIsFound};
@@ -25,10 +25,11 @@ use std::alloc::Global;
 // The most bytes of a line, its line feed aside.
 const MOST_OF_LINE: usize = 52;
 
-// The form that the first line tells.
-fn form_of(text: &[u8]) -> Option<Form>
+/// The form of a trace text, by its first line. `None`: its first line is that of neither form, or
+/// it has no line feed.
+pub fn form_of(text: &[u8]) -> Option<Form>
     ensures form { IfSome result (λ form.
-        text.now ≡ header_of form ++ drop (length header) text.now) }
+        text.now ≡ header_of form ++ drop (length (header_of One)) text.now) }
     ensures none { IfNone result
         ((form : Form) (rest : List ℕ) → text.now ≢ header_of form ++ rest) }
 {

@@ -30,7 +30,7 @@ mod wave_tracing;
 
 pub use answers::{After, Check};
 pub use checking::check;
-pub use feeding::{Checker, is_so};
+pub use feeding::{Checker, form_of, is_so};
 pub use forms::Form;
 pub use laws::{equal_nets_are_shown_alike, fed_is_a_run};
 pub use leading::after;
