@@ -41,7 +41,7 @@ use Rattle.ol_grades.specs.declared.reading.Bounds.{Bounds}
 use Rattle.ol_grades.specs.declared.holding.Seen.{Seen}
 use Rattle.ol_grades.specs.Reads.{HasTree}
 use Rattle.ol_grades.specs.Grades as grades
-use Rattle.ol_grades.specs.Grades.{IsFunction, Compares, HaveThere}
+use Rattle.ol_grades.specs.Grades.{IsTermText, Compares, HaveThere}
 use Rattle.ol_grades.specs.Laws.{HeadsDiffer}
 use Rattle.ol_grades.proofs.Alone.{net_is}
 use Rattle.ol_grades.proofs.Bounded.{sum_lams, few_binders, few_round}
@@ -188,7 +188,7 @@ one_place names a b j k p q x y = elim (cases_order j k) [
 
 -- one text would be one head
 module _ (bounds : Bounds) (student solution line : List ℕ) (wanted : Seen) (low : bounds.heads.most < 2 ^ 32)
-    (f : IsFunction student) (g : IsFunction solution) (i : IsFunction line)
+    (f : IsTermText student) (g : IsTermText solution) (i : IsTermText line)
     (has : HasTree bounds solution line wanted) (got : Seen) (had : HasTree bounds student line got)
     (expected found : List ℕ) (there : HaveThere wanted got expected found) where
   abbrev names : TreeWithNames

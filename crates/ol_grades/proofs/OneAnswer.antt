@@ -23,7 +23,7 @@ use Rattle.ol_grades.specs.declared.holding.Seen.{Seen}
 use Rattle.ol_grades.specs.declared.grading.Student.{Student}
 use Rattle.ol_grades.specs.declared.grading.Work.{Work}
 use Rattle.ol_grades.specs.Reads.{HasWholeTree, HasNoWholeTree, lack_words}
-use Rattle.ol_grades.specs.Grades.{AreInputs, HasNoInputs, IsFunction, IsNoFunction, place_words, on_input, names_of, IsRight, HaveThere, heads_words, IsWrong, IsGrade, IsGradeOf, file_line, AreGrades, IsNoSolution, IsGraded}
+use Rattle.ol_grades.specs.Grades.{AreInputs, HasNoInputs, IsTermText, IsNoTermText, place_words, on_input, names_of, IsRight, HaveThere, heads_words, IsWrong, IsGrade, IsGradeOf, file_line, AreGrades, IsNoSolution, IsGraded}
 use Rattle.ol_grades.specs.Laws.{OneGrading}
 use Rattle.ol_grades.proofs.Alone.{one_tree, not_both, one_lack, one_whole, not_whole, one_why}
 use Rattle.ol_grades.proofs.Differing.{one_place}
@@ -33,27 +33,27 @@ clash e = absurd (cc)
 
 -- ---- functions
 
-no_function : {bytes words : List ℕ} → IsFunction bytes → IsNoFunction bytes words → ⊥
-no_function f (IsNoFunction.long l) = let s = f.short in omega (arith, s, l)
-no_function f (IsNoFunction.syntax_at s r) = r.0 f.file.named f.file.text
-no_function {bytes} f (IsNoFunction.deep s d) =
+no_function : {bytes words : List ℕ} → IsTermText bytes → IsNoTermText bytes words → ⊥
+no_function f (IsNoTermText.long l) = let s = f.short in omega (arith, s, l)
+no_function f (IsNoTermText.syntax_at s r) = r.0 f.file.named f.file.text
+no_function {bytes} f (IsNoTermText.deep s d) =
     let e = ap depth (one_file bytes f.term d.tree f.names d.names f.file d.file).0 in
     let i = d.is in
     let a = d.above in
     let l = f.shallow in
     omega (arith, e, i, a, l)
 
-one_fault : {bytes words others : List ℕ} → IsNoFunction bytes words → IsNoFunction bytes others → words ≡ others
-one_fault (IsNoFunction.long l) (IsNoFunction.long k) = refl
-one_fault (IsNoFunction.long l) (IsNoFunction.syntax_at s r) = absurd (omega (arith, l, s))
-one_fault (IsNoFunction.long l) (IsNoFunction.deep s d) = absurd (omega (arith, l, s))
-one_fault (IsNoFunction.syntax_at s r) (IsNoFunction.long l) = absurd (omega (arith, l, s))
-one_fault {bytes} (IsNoFunction.syntax_at {at = m} s r) (IsNoFunction.syntax_at {at = n} z q) =
+one_fault : {bytes words others : List ℕ} → IsNoTermText bytes words → IsNoTermText bytes others → words ≡ others
+one_fault (IsNoTermText.long l) (IsNoTermText.long k) = refl
+one_fault (IsNoTermText.long l) (IsNoTermText.syntax_at s r) = absurd (omega (arith, l, s))
+one_fault (IsNoTermText.long l) (IsNoTermText.deep s d) = absurd (omega (arith, l, s))
+one_fault (IsNoTermText.syntax_at s r) (IsNoTermText.long l) = absurd (omega (arith, l, s))
+one_fault {bytes} (IsNoTermText.syntax_at {at = m} s r) (IsNoTermText.syntax_at {at = n} z q) =
     ap (λ at. codes "syntax, " ++ place_words bytes at) (one_dead_place bytes m n r.1 q.1)
-one_fault (IsNoFunction.syntax_at s r) (IsNoFunction.deep z d) = absurd (r.0 d.file.named d.file.text)
-one_fault (IsNoFunction.deep s d) (IsNoFunction.long l) = absurd (omega (arith, l, s))
-one_fault (IsNoFunction.deep s d) (IsNoFunction.syntax_at z r) = absurd (r.0 d.file.named d.file.text)
-one_fault (IsNoFunction.deep s d) (IsNoFunction.deep z c) = refl
+one_fault (IsNoTermText.syntax_at s r) (IsNoTermText.deep z d) = absurd (r.0 d.file.named d.file.text)
+one_fault (IsNoTermText.deep s d) (IsNoTermText.long l) = absurd (omega (arith, l, s))
+one_fault (IsNoTermText.deep s d) (IsNoTermText.syntax_at z r) = absurd (r.0 d.file.named d.file.text)
+one_fault (IsNoTermText.deep s d) (IsNoTermText.deep z c) = refl
 
 -- ---- inputs
 
@@ -276,7 +276,7 @@ module _ {bounds : Bounds} {solution : List ℕ} where
       (IsNoSolution.no_tree front rest done {line = other} {words = cause} g d q k) =
       one_first_lack (lack_in inputs before after passed line why e p h) (lack_in inputs front rest done other cause d q k)
 
-  solved_or_not : {inputs : List (List ℕ)} {words : List ℕ} (wanted : List Seen) → IsFunction solution →
+  solved_or_not : {inputs : List (List ℕ)} {words : List ℕ} (wanted : List Seen) → IsTermText solution →
       AllZip (HasWholeTree bounds solution) inputs wanted → IsNoSolution bounds inputs solution words → ⊥
   solved_or_not wanted f all (IsNoSolution.bad_text h) = no_function f h
   solved_or_not {inputs} wanted f all (IsNoSolution.no_tree before after passed {line = line} {words = why} g e p h) =

@@ -16,7 +16,7 @@ use Rattle.ol_grades.specs.declared.grading.Student.{Student}
 use Rattle.ol_grades.specs.declared.grading.Work.{Work}
 use Rattle.ol_grades.specs.declared.grading.Work.TheVariants as work
 use Rattle.ol_grades.specs.Reads.{HasTree, HasNoTree, HasNoWholeTree, lack_words}
-use Rattle.ol_grades.specs.Grades.{IsFunction, IsRight, IsWrong, IsGrade, IsGradeOf, IsGraded, names_of, on_input, heads_words}
+use Rattle.ol_grades.specs.Grades.{IsTermText, IsRight, IsWrong, IsGrade, IsGradeOf, IsGraded, names_of, on_input, heads_words}
 use Rattle.ol_grades.specs.Inside.{AddsHeads, IsOn, IsPathOf, IsSaid, IsToldApart}
 
 pub said_on : (bounds : Bounds) (student line : List ℕ) (wanted seen : Seen) (k : ℕ) (told : Option (Vec ℕ Global)) →
@@ -105,7 +105,7 @@ lacks_on bounds student line wanted k lack words text e w h =
 
 pub equal_told : (bounds : Bounds) (inputs : List (List ℕ)) (wanted : List Seen) (student : List ℕ) (n : ℕ)
     (text : List ℕ) → length inputs ≡ n →
-    text ≡ codes "equal on " ++ decimal n ++ codes " of " ++ decimal n → IsFunction student →
+    text ≡ codes "equal on " ++ decimal n ++ codes " of " ++ decimal n → IsTermText student →
     AllZip (IsRight bounds student) inputs wanted → IsGrade bounds inputs wanted student text true
 equal_told bounds inputs wanted student n text e t f h =
     subst (λ text. IsGrade bounds inputs wanted student text true)

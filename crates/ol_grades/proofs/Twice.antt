@@ -19,7 +19,7 @@ use Rattle.ol_grades.specs.declared.reading.Lack.TheVariants as lacks
 use Rattle.ol_grades.specs.declared.holding.Seen.{Seen}
 use Rattle.ol_grades.specs.declared.grading.Work.{Work}
 use Rattle.ol_grades.specs.Reads.{HasWholeTree, lack_words}
-use Rattle.ol_grades.specs.Grades.{IsFunction, IsNoFunction, place_words, on_input, IsRight, heads_words, IsWrong, IsGrade, IsGradeOf}
+use Rattle.ol_grades.specs.Grades.{IsTermText, IsNoTermText, place_words, on_input, IsRight, heads_words, IsWrong, IsGrade, IsGradeOf}
 use Rattle.ol_grades.specs.Inside.{AreFunctions}
 use Rattle.ol_grades.specs.Laws.{NoHeadTwice}
 use Rattle.ol_grades.proofs.Commas.{colon, comma, decimal_lacks, lacks_by, lacks_no_more, path_lacks, same_twice, text_lacks}
@@ -100,26 +100,26 @@ zip_at R S (w ∷ front) [] x y after others s r = absurd s
 zip_at R S (w ∷ front) (z ∷ passed) x y after others s r = zip_at R S front passed x y after others s.1 r.1
 
 function_at : (front : List (List ℕ)) (line : List ℕ) (after : List (List ℕ)) →
-    AreFunctions (front ++ (line ∷ after)) → IsFunction line
+    AreFunctions (front ++ (line ∷ after)) → IsTermText line
 function_at [] line after h = h.0
 function_at (x ∷ front) line after h = function_at front line after h.1
 
 -- ---- a student
 
-module _ (bounds : Bounds) (low : bounds.heads.most < 2 ^ 32) (solution : List ℕ) (g : IsFunction solution)
+module _ (bounds : Bounds) (low : bounds.heads.most < 2 ^ 32) (solution : List ℕ) (g : IsTermText solution)
     (words head : List ℕ) where
   abbrev Told : List ℕ → Type 0
   Told text = text ≡ words ++ heads_words head head
 
-  fault_told : {bytes text : List ℕ} → IsNoFunction bytes text → Told text → ⊥
-  fault_told (IsNoFunction.long l) e =
+  fault_told : {bytes text : List ℕ} → IsNoTermText bytes text → Told text → ⊥
+  fault_told (IsNoTermText.long l) e =
       no_colon words head (codes "limit bytes 1048576") (lacks_by 58 (codes "limit bytes 1048576") refl) e
-  fault_told {bytes} (IsNoFunction.syntax_at {at = at} s r) e =
+  fault_told {bytes} (IsNoTermText.syntax_at {at = at} s r) e =
       no_colon words head (codes "syntax, " ++ place_words bytes at) (place_lacks bytes at) e
-  fault_told (IsNoFunction.deep s d) e =
+  fault_told (IsNoTermText.deep s d) e =
       no_colon words head (codes "limit depth 1000") (lacks_by 58 (codes "limit depth 1000") refl) e
 
-  module _ (student line : List ℕ) (w : Seen) (k : ℕ) (f : IsFunction student) (i : IsFunction line)
+  module _ (student line : List ℕ) (w : Seen) (k : ℕ) (f : IsTermText student) (i : IsTermText line)
       (has : HasWholeTree bounds solution line w) where
     wrong_told : {text : List ℕ} → IsWrong bounds student line w k text → Told text → ⊥
     wrong_told (IsWrong.apart {c = c} {expected = expected} {found = found} h unlike there) e =

@@ -13,7 +13,7 @@ use Rattle.ol_grades.specs.declared.reading.Bounds.{Bounds}
 use Rattle.ol_grades.specs.declared.holding.Seen.{Seen}
 use Rattle.ol_grades.specs.declared.grading.Student.{Student}
 use Rattle.ol_grades.specs.Reads.{HasWholeTree, HasNoWholeTree}
-use Rattle.ol_grades.specs.Grades.{AreInputs, HasNoInputs, IsFunction, IsNoFunction, IsRight, IsWrong, IsGrade, IsGradeOf, AreGrades, IsNoSolution, on_input, file_line}
+use Rattle.ol_grades.specs.Grades.{AreInputs, HasNoInputs, IsTermText, IsNoTermText, IsRight, IsWrong, IsGrade, IsGradeOf, AreGrades, IsNoSolution, on_input, file_line}
 use Rattle.ol_grades.specs.Inside.{AreFunctions, AreWanted, seen_lines}
 use Rattle.ol_readback.specs.Texts.{AreNamed}
 use Rattle.ol_grades.proofs.Spelled.{text_of}
@@ -126,7 +126,7 @@ none_seen (y ∷ lines) e = absurd (omega (arith, e))
 
 -- ---- inputs
 
-pub function_of : (line : List ℕ) (t : Tree) (names : List (List ℕ)) → IsTermLine line t names → IsFunction line
+pub function_of : (line : List ℕ) (t : Tree) (names : List (List ℕ)) → IsTermLine line t names → IsTermText line
 function_of line t names h = record { term = t; names = names; short = h.short; file = h.file; shallow = h.within.1 }
 
 pub are_functions : {lines inputs : List (List ℕ)} → AreInputs lines inputs → AreFunctions inputs
@@ -135,14 +135,14 @@ are_functions (AreInputs.left_out e h) = are_functions h
 are_functions (AreInputs.input {line = line} {t = t} {names = names} e i h) = (function_of line t names i, are_functions h)
 
 function_at : (lines : List (List ℕ)) (k : ℕ) (line : List ℕ) → AreFunctions lines →
-    drop k lines ≡ line ∷ drop (suc k) lines → IsFunction line
+    drop k lines ≡ line ∷ drop (suc k) lines → IsTermText line
 function_at [] zero line h d = absurd (cc)
 function_at [] (suc k) line h d = absurd (cc)
-function_at (y ∷ lines) zero line h d = let e : y ≡ line = cc in subst IsFunction e h.0
+function_at (y ∷ lines) zero line h d = let e : y ≡ line = cc in subst IsTermText e h.0
 function_at (y ∷ lines) (suc k) line h d = function_at lines k line h.1 d
 
 pub function_here : (lines : List (List ℕ)) (k : ℕ) (line : List ℕ) → AreFunctions lines →
-    drop k lines ≡ line ∷ drop (k + 1) lines → IsFunction line
+    drop k lines ≡ line ∷ drop (k + 1) lines → IsTermText line
 function_here lines k line h d = function_at lines k line h (at lines k line d)
 
 -- ---- wanted trees
@@ -219,7 +219,7 @@ module _ (bounds : Bounds) (lines : List (List ℕ)) (k : ℕ) (line : List ℕ)
       subst (λ l. AllZip (HasWholeTree bounds solution) l (trees ++ (seen ∷ []))) (sym (taken lines k line d))
       (zip_push (HasWholeTree bounds solution) (take k lines) trees line seen h i)
 
-  pub no_tree_here : (solution : List ℕ) (trees : List Seen) (why text : List ℕ) → IsFunction solution →
+  pub no_tree_here : (solution : List ℕ) (trees : List Seen) (why text : List ℕ) → IsTermText solution →
       AllZip (HasWholeTree bounds solution) (take k lines) trees → text ≡ on_input why (k + 1) →
       HasNoWholeTree bounds solution line why → IsNoSolution bounds lines solution text
   no_tree_here solution trees why text f h e i =
@@ -235,7 +235,7 @@ module _ (bounds : Bounds) (lines : List (List ℕ)) (k : ℕ) (line : List ℕ)
         (subst (λ l. AllZip (IsRight bounds student) (take k lines ++ (line ∷ [])) l) (sym (taken wanted k w e))
         (zip_push (IsRight bounds student) (take k lines) (take k wanted) line w h i))
 
-    pub wrong_here : (words : List ℕ) → IsFunction student →
+    pub wrong_here : (words : List ℕ) → IsTermText student →
         AllZip (IsRight bounds student) (take k lines) (take k wanted) →
         IsWrong bounds student line w (k + 1) words → IsGrade bounds lines wanted student words false
     wrong_here words f h i = IsGrade.wrong (take k lines) (drop (k + 1) lines) (take k wanted) (drop (k + 1) wanted) f (parted lines k line d) (parted wanted k w e) h
@@ -289,5 +289,5 @@ module _ (bounds : Bounds) (inputs : List (List ℕ)) (wanted : List Seen) where
 
 -- ---- a function's text
 
-pub told_so : (bytes words text : List ℕ) → text ≡ words → IsNoFunction bytes words → IsNoFunction bytes text
-told_so bytes words text e h = subst (IsNoFunction bytes) (sym e) h
+pub told_so : (bytes words text : List ℕ) → text ≡ words → IsNoTermText bytes words → IsNoTermText bytes text
+told_so bytes words text e h = subst (IsNoTermText bytes) (sym e) h

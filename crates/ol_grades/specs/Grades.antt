@@ -46,7 +46,7 @@ pub data HasNoInputs : ℕ → List (List ℕ) → List ℕ → Type 0 where
 
 -- ---- a function's text by itself
 
-pub record IsFunction (bytes : List ℕ) : Type 0 where
+pub record IsTermText (bytes : List ℕ) : Type 0 where
   pub term : Tree
   pub names : List (List ℕ)
   pub short : length bytes ≤ most_term_bytes
@@ -61,12 +61,12 @@ place_words bytes at = let front = lines_of (take at bytes) in
     ++ decimal (length (slice_index_or front (length front - 1) []) + 1)
 
 -- why some bytes are no function: too many of them, not in the grammar, or a term that is too deep
-pub data IsNoFunction (bytes : List ℕ) : List ℕ → Type 0 where
-  long : most_term_bytes < length bytes → IsNoFunction bytes (codes "limit bytes 1048576")
+pub data IsNoTermText (bytes : List ℕ) : List ℕ → Type 0 where
+  long : most_term_bytes < length bytes → IsNoTermText bytes (codes "limit bytes 1048576")
   syntax_at : {at : ℕ} → length bytes ≤ most_term_bytes → IsRefusedAt bytes at →
-      IsNoFunction bytes (codes "syntax, " ++ place_words bytes at)
+      IsNoTermText bytes (codes "syntax, " ++ place_words bytes at)
   deep : {d : ℕ} → length bytes ≤ most_term_bytes → IsTooDeep bytes d →
-      IsNoFunction bytes (codes "limit depth 1000")
+      IsNoTermText bytes (codes "limit depth 1000")
 
 -- ---- a student against the solution
 
@@ -112,12 +112,12 @@ pub data IsWrong (bounds : Bounds) (student line : List ℕ) (wanted : Seen) (k 
 -- What is said of a student's text. The first input on which it is wrong decides.
 pub data IsGrade (bounds : Bounds) (inputs : List (List ℕ)) (wanted : List Seen) (student : List ℕ) : List ℕ → Bool →
     Type 0 where
-  bad_text : {words : List ℕ} → IsNoFunction student words → IsGrade bounds inputs wanted student words false
-  equal : IsFunction student → AllZip (IsRight bounds student) inputs wanted →
+  bad_text : {words : List ℕ} → IsNoTermText student words → IsGrade bounds inputs wanted student words false
+  equal : IsTermText student → AllZip (IsRight bounds student) inputs wanted →
       IsGrade bounds inputs wanted student
       (codes "equal on " ++ decimal (length inputs) ++ codes " of " ++ decimal (length inputs)) true
   wrong : (before after : List (List ℕ)) (passed others : List Seen) {line words : List ℕ} {w : Seen} →
-      IsFunction student → inputs ≡ before ++ (line ∷ after) → wanted ≡ passed ++ (w ∷ others) →
+      IsTermText student → inputs ≡ before ++ (line ∷ after) → wanted ≡ passed ++ (w ∷ others) →
       AllZip (IsRight bounds student) before passed → IsWrong bounds student line w (length before + 1) words →
       IsGrade bounds inputs wanted student words false
 
@@ -147,8 +147,8 @@ pub data AreGrades (bounds : Bounds) (inputs : List (List ℕ)) (wanted : List S
 
 -- why the solution is none: it is no function; or on some input, the first such, it has no whole tree
 pub data IsNoSolution (bounds : Bounds) (inputs : List (List ℕ)) (solution : List ℕ) : List ℕ → Type 0 where
-  bad_text : {words : List ℕ} → IsNoFunction solution words → IsNoSolution bounds inputs solution words
-  no_tree : (before after : List (List ℕ)) (passed : List Seen) {line words : List ℕ} → IsFunction solution →
+  bad_text : {words : List ℕ} → IsNoTermText solution words → IsNoSolution bounds inputs solution words
+  no_tree : (before after : List (List ℕ)) (passed : List Seen) {line words : List ℕ} → IsTermText solution →
       inputs ≡ before ++ (line ∷ after) → AllZip (HasWholeTree bounds solution) before passed →
       HasNoWholeTree bounds solution line words →
       IsNoSolution bounds inputs solution (on_input words (length before + 1))
@@ -165,6 +165,6 @@ pub data IsGraded (inputs solution : List ℕ) (students : List Student) (bounds
       IsNoSolution bounds kept solution words →
       IsGraded inputs solution students bounds (file_line (codes "solution") words) Refused
   graded : {kept : List (List ℕ)} {wanted : List Seen} {text : List ℕ} {all : Bool} → AreInputs (lines_of inputs) kept →
-      kept ≢ [] → IsFunction solution → AllZip (HasWholeTree bounds solution) kept wanted →
+      kept ≢ [] → IsTermText solution → AllZip (HasWholeTree bounds solution) kept wanted →
       AreGrades bounds kept wanted students text all →
       IsGraded inputs solution students bounds text (if all then Yes else No)

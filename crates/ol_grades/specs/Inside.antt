@@ -24,7 +24,7 @@ use Rattle.ol_equal.specs.declared.answers.Compared.TheVariants.{Equal, Differen
 use Rattle.ol_heads.specs.Heads.{all_names, IsHeadText}
 use Rattle.ol_subjects.specs.declared.answers.End.{End}
 use Rattle.ol_subjects.specs.declared.answers.End.TheVariants.{Yes, No}
-use Rattle.ol_grades.specs.Grades.{IsFunction, IsNoFunction, IsRight, IsWrong, AreInputs, HasNoInputs, IsNoSolution, AreGrades, HaveThere, names_of, on_input, heads_words}
+use Rattle.ol_grades.specs.Grades.{IsTermText, IsNoTermText, IsRight, IsWrong, AreInputs, HasNoInputs, IsNoSolution, AreGrades, HaveThere, names_of, on_input, heads_words}
 use Rattle.ol_grades.specs.declared.grading.Student.{Student}
 use Rattle.ol_grades.specs.declared.reading.Bounds.{Bounds}
 use Rattle.ol_grades.specs.declared.holding.Seen.{Seen}
@@ -63,8 +63,8 @@ IsReadOf g names bounds (found.Without lack) =
 
 -- the words that say why bytes are no function, or None where they are one
 abbrev pub IsFault : List ℕ → Option (Vec ℕ Global) → Type 0
-IsFault bytes None = IsFunction bytes
-IsFault bytes (Some words) = IsNoFunction bytes words.items
+IsFault bytes None = IsTermText bytes
+IsFault bytes (Some words) = IsNoTermText bytes words.items
 
 -- what is said on input k, where it isn't right
 abbrev pub IsOn : Bounds → (student line : List ℕ) → Seen → ℕ → Option (Vec ℕ Global) → Type 0
@@ -120,7 +120,7 @@ IsWanted bounds solution line k (wanting.Fault words) =
 
 abbrev pub IsSolved : Bounds → List (List ℕ) → (solution : List ℕ) → Solved → Type 0
 IsSolved bounds inputs solution (solved.Trees trees) =
-    IsFunction solution × AllZip (HasWholeTree bounds solution) inputs trees.items
+    IsTermText solution × AllZip (HasWholeTree bounds solution) inputs trees.items
 IsSolved bounds inputs solution (solved.Fault words) = IsNoSolution bounds inputs solution words.items
 
 -- there is a wanted tree for each input, and each free name in it is one of its names
@@ -129,4 +129,4 @@ AreWanted inputs wanted = AllZip (λ line w. AreNamed (length w.names) w.tree) i
 
 abbrev pub AreFunctions : List (List ℕ) → Type 0
 AreFunctions [] = Unit {0}
-AreFunctions (line ∷ lines) = IsFunction line × AreFunctions lines
+AreFunctions (line ∷ lines) = IsTermText line × AreFunctions lines

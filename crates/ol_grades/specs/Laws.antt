@@ -10,14 +10,14 @@ use Rattle.ol_grades.specs.declared.holding.Seen.{Seen}
 use Rattle.ol_grades.specs.declared.grading.Student.{Student}
 use Rattle.ol_grades.specs.declared.grading.Work.{Work}
 use Rattle.ol_grades.specs.Reads.{HasWholeTree}
-use Rattle.ol_grades.specs.Grades.{AreInputs, IsFunction, Compares, HaveThere, heads_words, IsGradeOf, IsGraded}
+use Rattle.ol_grades.specs.Grades.{AreInputs, IsTermText, Compares, HaveThere, heads_words, IsGradeOf, IsGraded}
 
 -- If a student's tree isn't the solution's, the two texts of what they have at the first place where they don't agree
 -- differ. Fewer than 2 ^ 32 subterms are asked, as they are by each `Heads`.
 abbrev pub HeadsDiffer : Type 0
 HeadsDiffer = (bounds : Bounds) (student solution line : List ℕ) (wanted : Seen) (c : Compared)
-    (expected found : List ℕ) → bounds.heads.most < 2 ^ 32 → IsFunction student → IsFunction solution →
-    IsFunction line → HasWholeTree bounds solution line wanted → (h : Compares bounds student line wanted c) →
+    (expected found : List ℕ) → bounds.heads.most < 2 ^ 32 → IsTermText student → IsTermText solution →
+    IsTermText line → HasWholeTree bounds solution line wanted → (h : Compares bounds student line wanted c) →
     c ≢ Equal → HaveThere wanted h.got expected found → expected ≢ found
 
 -- So what is said of a student, among the inputs of a file and the trees of a solution, never ends in one text twice, as
@@ -25,7 +25,7 @@ HeadsDiffer = (bounds : Bounds) (student solution line : List ℕ) (wanted : See
 abbrev pub NoHeadTwice : Type 0
 NoHeadTwice = (bounds : Bounds) (inputs solution : List ℕ) (kept : List (List ℕ)) (wanted : List Seen) (work : Work)
     (words head : List ℕ) (fine : Bool) → bounds.heads.most < 2 ^ 32 → AreInputs (lines_of inputs) kept →
-    IsFunction solution → AllZip (HasWholeTree bounds solution) kept wanted →
+    IsTermText solution → AllZip (HasWholeTree bounds solution) kept wanted →
     IsGradeOf bounds kept wanted work (words ++ heads_words head head) fine → ⊥
 
 -- the same files, followed as far, have one answer

@@ -5,7 +5,7 @@ ghost use Rattle.std.specs.Fmt.{decimal};
 ghost use Rattle.std.specs.List.{AllZip};
 ghost use Rattle.ol_readback.specs.Texts.{AreNamed};
 ghost use Rattle.ol_derivations.specs.Lines.{lines_of};
-ghost use Rattle.ol_grades.specs.Grades.{AreInputs, IsFunction, IsGrade, IsGradeOf, IsGraded, file_line, on_input};
+ghost use Rattle.ol_grades.specs.Grades.{AreInputs, IsTermText, IsGrade, IsGradeOf, IsGraded, file_line, on_input};
 ghost use Rattle.ol_grades.specs.Inside.{AreAllGrades, AreFunctions, AreWanted, AddsHeads, IsOn, IsPathOf, IsSaid, IsSolved, IsWanted, seen_lines};
 
 use crate::functions::fault_of;
@@ -81,8 +81,8 @@ fn wanted_on(
     k: usize,
     bounds: Bounds,
 ) -> Result<Wanted, NoMemory>
-    requires function { IsFunction solution.now }
-    requires line { IsFunction line.now }
+    requires function { IsTermText solution.now }
+    requires line { IsTermText line.now }
     ensures { IfOk result (IsWanted bounds solution.now line.now k) }
 {
     match read_on(alloc, solution, line, bounds)? {
@@ -107,7 +107,7 @@ fn trees_of(
     inputs: &[&[u8]],
     bounds: Bounds,
 ) -> Result<Solved, NoMemory>
-    requires function { IsFunction solution.now }
+    requires function { IsTermText solution.now }
     requires inputs { AreFunctions (seen_lines inputs.now) }
     ensures { IfOk result (IsSolved bounds (seen_lines inputs.now) solution.now) }
 {
@@ -200,8 +200,8 @@ fn fault_on(
     k: usize,
     bounds: Bounds,
 ) -> Result<Option<Vec<u8>>, NoMemory>
-    requires function { IsFunction student.now }
-    requires line { IsFunction line.now }
+    requires function { IsTermText student.now }
+    requires line { IsTermText line.now }
     requires wanted { AreNamed (length wanted.now.names) wanted.now.tree }
     ensures { IfOk result (IsOn bounds student.now line.now wanted.now k) }
 {
@@ -246,7 +246,7 @@ fn told_on(
     wanted: &Vec<Seen>,
     bounds: Bounds,
 ) -> Result<Told, NoMemory>
-    requires function { IsFunction student.now }
+    requires function { IsTermText student.now }
     requires inputs { AreFunctions (seen_lines inputs.now) }
     requires wanted { AreWanted (seen_lines inputs.now) wanted.now.items }
     ensures { IfOk result (λ told. IsGrade bounds (seen_lines inputs.now) wanted.now.items

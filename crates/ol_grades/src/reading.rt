@@ -6,7 +6,7 @@ ghost use Rattle.ol_term.specs.Trees.{tree_of, depth, EachOccurs};
 ghost use Rattle.ol_readback.specs.Terms.{HasAllHeads};
 ghost use Rattle.ol_grades.specs.Applied.{IsApplied};
 ghost use Rattle.ol_grades.specs.Reads.{lack_words};
-ghost use Rattle.ol_grades.specs.Grades.{IsFunction};
+ghost use Rattle.ol_grades.specs.Grades.{IsTermText};
 ghost use Rattle.ol_grades.specs.Inside.{IsAppliedFile, IsFound, IsReadOf};
 
 use crate::holding::Seen;
@@ -76,8 +76,8 @@ fn applied_text(alloc: Global, function: &[u8], line: &[u8]) -> Result<Vec<u8>, 
 
 // The term of the application, or None where it is too deep.
 fn applied(alloc: Global, function: &[u8], line: &[u8]) -> Result<Option<TermFile>, NoMemory>
-    requires function { IsFunction function.now }
-    requires line { IsFunction line.now }
+    requires function { IsTermText function.now }
+    requires line { IsTermText line.now }
     ensures { IfOk result (IsAppliedFile function.now line.now) }
 {
     let text = applied_text(alloc, function, line)?;
@@ -132,8 +132,8 @@ pub fn read_on(
     line: &[u8],
     bounds: Bounds,
 ) -> Result<Found, NoMemory>
-    requires function { IsFunction function.now }
-    requires line { IsFunction line.now }
+    requires function { IsTermText function.now }
+    requires line { IsTermText line.now }
     ensures { IfOk result (IsFound bounds function.now line.now) }
 {
     match applied(alloc, function, line)? {

@@ -3,11 +3,11 @@ use Rattle.ol_limits.specs.Limits.{most_depth}
 use Rattle.ol_term.specs.Trees.{tree_of}
 use Rattle.ol_parse.specs.Parsed.{IsFileOf, IsTooDeep}
 use Rattle.ol_parse.specs.Texts.{IsRefusedAt}
-use Rattle.ol_grades.specs.Grades.{IsFunction}
+use Rattle.ol_grades.specs.Grades.{IsTermText}
 use Rattle.ol_grades.proofs.Spelled.{IsTextOf, has_text, is_applied, never_refused, text_of}
 use Rattle.ol_grades.proofs.reading.applied.Goals as goal
 
-has : (function line : List ℕ) → IsFunction function → IsFunction line → IsTextOf function line
+has : (function line : List ℕ) → IsTermText function → IsTermText line → IsTextOf function line
 has function line f l = has_text function line f.file.named l.file.named f.file.text l.file.text
 
 pub returns-in-Ok : goal.returns-in-Ok
