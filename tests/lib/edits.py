@@ -2,10 +2,11 @@
 
     tests/edits [--long] [NAME ..]
 
-Each is a wrong body, in crates/NAME/must-fail/. With names only those of these crates are tried. Their libraries have to be
-proved already: in out/ of each crate below them, as .ci/run and `./prove` leave them. An edit that begins with the line
-`# Dear: ..` is tried with --long alone, and the merge gate doesn't try it: together with the others it would have too
-much of the crate proved (docs/DECISIONS.md).
+Each is a wrong body, in crates/NAME/must-fail/. With names only those of these crates are tried. By itself, as the merge
+gate calls it, it tries those of `ol` and of the crates on which `ol` stands; with --long alone those of all crates. The
+libraries have to be proved already: in out/ of each crate below them, as .ci/run and `./prove` leave them. An edit that
+begins with the line `# Dear: ..` is tried with --long alone: together with the others it would have too much of the crate
+proved (docs/DECISIONS.md).
 
 `rt must-fail` tries one edit after another, each on the whole crate. Here the edits of a crate are put in together, at most
 one a function, and only these functions are proved, with those that they call. A function's proof sees its own body and the
@@ -37,6 +38,7 @@ IMPL = re.compile(r"impl\b(?:<[^{]*?>)?\s+(?:(?P<trait>[\w:]+)(?:<.*>)?\s+for\s+
 CYCLE = re.compile(r"#\[cycle\((\w+)\)\]")
 BROKEN_BELOW = re.compile(r"(no proof: |not proved; )it calls ")
 DEAR = "# Dear:"
+PROGRAM = "ol"
 
 
 def kit():
@@ -200,7 +202,7 @@ def tried_together(rt, crate, edits):
 
 
 def tried_alone(rt, crate, paths):
-    """Tries edits by `rt`'s own way, one after another, which tells an edit that can't be put in, too: whether it was refused, and what to say."""
+    """Tries edits by `rt`'s own way, each by itself, which tells an edit that can't be put in, too: whether it was refused, and what to say."""
     flags = ["--jobs", "1"]
     if "must_fail_all" in rt:
         return rt["must_fail_all"](crate, paths, flags)
@@ -230,13 +232,23 @@ def is_dear(path):
         return file.readline().startswith(DEAR)
 
 
+def chosen(crates, names, with_dear):
+    """These crates by their names; without names, those on which `ol` stands and its own, or all if the dear edits are tried."""
+    if names:
+        return [it for it in crates if it.name in names]
+    if with_dear:
+        return crates
+    top = {below.name for it in crates if it.name == PROGRAM for below in it.below()} | {PROGRAM}
+    return [it for it in crates if it.name in top]
+
+
 def run(names, with_dear):
-    """Tries the edits of these crates, or of all if none is named: the sum over them."""
+    """Tries the edits of the crates that are chosen so: the sum over them."""
     os.chdir(TOP)
     rt = kit()
     # (its first call sets a signal's handler, which only the main thread may)
     rt["rtlib"].guarded()
-    crates = [it for it in rt["rtlib"].crates_below(TOP) if not names or it.name in names]
+    crates = chosen(rt["rtlib"].crates_below(TOP), names, with_dear)
     edits = {it: rt["edits_of"](it) for it in crates}
     if not with_dear:
         edits = {it: ([path for path in good if not is_dear(path)], bad) for it, (good, bad) in edits.items()}
