@@ -25,8 +25,9 @@ pub enum Status {
     /// The answer is yes, or there was no question of yes and no. It was written, to the sink of
     /// answers.
     Yes,
-    /// The answer is no. It was written to the sink of answers; or, where a net after some lines of
-    /// a journal was asked and there is none, the line that says why to the sink of errors.
+    /// The answer is no. It was written to the sink of answers. If what was asked for isn't there, a
+    /// net after some lines of a journal or a place of a term, the line that says why was written to
+    /// the sink of errors.
     No,
     /// A file couldn't be read, or it has too many bytes, and isn't one of a student; or `ol`
     /// refuses a file with a term or a net. The line that says so was written to the sink of
@@ -430,15 +431,15 @@ fn told<W: Sink>(sink: &mut W, text: &[u8], status: Status) -> Status
 ///   `out`.
 /// - `No`: the answer is no. It was written to `out`; or, where there is nothing to show, the line
 ///   that says why to `errors`: that a journal has fewer lines than were asked for, or a bad one
-///   among these.
+///   among these, or that a term has no such place.
 /// - `Run`, `NotARun`, `BadText`: of a journal it was asked what it is found to be, and it isn't one
 ///   of a complete run. The answer was written to `out`.
 /// - `Refused`: a line was written to `errors`, and nothing to `out`. The line is `read fault`
-///   where the source failed, but not at a student's file (`Grade`); `limit bytes 1048576`, `limit net 33554432` or
-///   `limit journal 402653184` where a file has more bytes than that; or the one by which `ol`
-///   refuses a file with a term or a net. Where both of two files have too many bytes, the limit
-///   of the first one is told. If it was asked what a journal is found to be and the journal's first
-///   402,653,184 bytes fix that, the answer may come in place of the limit.
+///   where the source failed, but not at a student's file (`Grade`); `limit bytes 1048576`,
+///   `limit net 33554432` or `limit journal 402653184` where a file has more bytes than that; or the
+///   one by which `ol` refuses a file with a term or a net. Where both of two files have too many
+///   bytes, the limit of the first one is told. If it was asked what a journal is found to be and
+///   the journal's first 402,653,184 bytes fix that, the answer may come in place of the limit.
 /// - `WriteFault`: the sink to which the text goes failed. It has taken the text's first bytes, not
 ///   all of them and maybe none, and the other sink nothing.
 /// - `NoMemory`: no memory was found, and neither sink has taken anything.

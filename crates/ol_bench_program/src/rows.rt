@@ -562,7 +562,7 @@ fn counts() -> Verb {
 fn same() -> Verb {
     Verb {
         word: "same",
-        about: "Whether two nets are one up to the numbers of nodes, or the first port where they differ",
+        about: "Whether two nets are one up to the numbers of nodes, or where they differ",
         rows: SAME_ROWS.as_slice(),
     }
 }

@@ -151,7 +151,8 @@ pub fn counted(
     layout: Layout,
 ) -> Result<Answer, NoMemory>
     requires short { length bytes.now ≤ most_bytes subject }
-    ensures { IfOk result (λ a. IsCounted bytes.now bounds columns layout a.text.items subject a.end) }
+    ensures { IfOk result (λ a.
+        IsCounted bytes.now bounds columns layout a.text.items subject a.end) }
 {
     match subject {
         Subject::Net => {

@@ -3,7 +3,7 @@
 //!
 //! Subterms are asked in preorder, each for 0 abstractions, then for 1, and so on. The chain of
 //! such a question is its walk up to the first active pair on the way. This pair is rewritten, and
-//! the same is asked again. So a part of the net that no head needs stays as it is.
+//! the chain goes on. So a part of the net that no head needs stays as it is.
 //!
 //! Each pair that is rewritten so is rewritten in every complete run, and each head that is found
 //! is that of the net before, since steps keep paths (Gonthier, Abadi and Lévy, The Geometry of

@@ -5,7 +5,7 @@
 //! Nets*, 1990). The laws are said over birth names. A node that a rewrite makes is named by the
 //! two nodes that were rewritten and its place, and not by the moment at which it came, so a
 //! rewrite depends on its pair alone, and both orders give the very same names. A journal's names
-//! tell the moment (the ticket); the last law takes them to birth names.
+//! tell the moment (the ticket); law `birth_follows` takes them to birth names.
 //!
 //! The laws have no code. `two_orders` shows one square of it on a net: two pairs, rewritten in
 //! both orders.

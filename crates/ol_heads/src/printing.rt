@@ -31,7 +31,8 @@ fn put_abstractions(
     t: usize,
     lams: u32,
 ) -> Result<(), NoMemory>
-    ensures text { OnOk result (text.new.items ≡ text.old.items ++ abstractions binders.old t lams) }
+    ensures text { OnOk result (text.new.items
+        ≡ text.old.items ++ abstractions binders.old t lams) }
     ensures binders { binders.new ≡ binders.old }
 {
     for k in 0..lams {

@@ -78,7 +78,8 @@ subst_for i N (app t u) = app (subst_for i N t) (subst_for i N u)
 
 -- ---- the cut: M and one N beside it, whose root is joined to the wire of variable i of M
 
--- a spot of M, or a spot of N, with level 0 of the wire of variable i there: it tells for which occurrence N stands
+-- A spot of M; or a spot of N, with level 0 of the wire of variable i where it leaves M: it tells for which occurrence N
+-- stands.
 pub data Cut : Type 0 where
   inM : Spot → Cut
   inN : Level → Spot → Cut
@@ -91,7 +92,7 @@ pub data CutEdge (τ : Translation) (N M : Tree) (i : ℕ) : Cut → Cut → ℕ
       x ≡ bound i → occurs x M ≡ true → c ≡ cons u d →
       CutEdge τ N M i (inM (at (wire x) a c)) (inN a (at root u d)) 0
 
--- a wire of M with its level 0, or a wire of N with its level 0 after that of the wire of variable i
+-- a wire of M with its level 0, or a wire of N with its level 0 after that of the wire of variable i where it leaves M
 pub data Tag : Type 0 where
   ofM : Wire → Level → Tag
   ofN : Level → Wire → Level → Tag

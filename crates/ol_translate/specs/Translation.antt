@@ -56,7 +56,7 @@ occurrence v n k = record {
 abbrev pub outside : Wires → Wires
 outside wires = map (λ (w : ℕ × Port). (w.0 - 1, w.1)) (filter (λ (w : ℕ × Port). nat_lt 0 w.0) wires)
 
--- an eraser where the variable doesn't occur
+-- an eraser where the variable isn't free in the body
 abbrev pub erasers : Option Port → List (Kind × ℕ)
 erasers None = (kind.Eraser, 0) ∷ []
 erasers (Some w) = []
@@ -66,7 +66,7 @@ abbrev pub bound_port : Option Port → ℕ → Port
 bound_port None eraser = slot_port eraser 0
 bound_port (Some w) eraser = w
 
--- abstraction n; the nodes of M at level n; an eraser where x doesn't occur in M
+-- abstraction n; the nodes of M at level n; an eraser where x isn't free in M
 abbrev pub abstraction : (n k : ℕ) → Subnet → Subnet
 abstraction n k M = let x = wire_of 0 M.wires in record {
   nodes = ((kind.Lam, n) ∷ M.nodes) ++ erasers x;

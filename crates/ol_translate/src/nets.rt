@@ -21,7 +21,7 @@ use std::alloc::Global;
 ///
 /// The root, at level 0, is joined to free port 0, and free name k, from 0, has free port k + 1. An
 /// occurrence at level n is a croissant n; an abstraction is an abstraction node n, whose body
-/// stands at level n, with an eraser where its variable doesn't occur; an application is an
+/// stands at level n, with an eraser where its variable isn't free in it; an application is an
 /// application node n, whose function stands at level n and whose argument at level n + 1, with a
 /// bracket n for each variable of the argument and a fan n for each variable of both, each once and
 /// in order of first occurrence in the argument. Slot 0 of an occurrence, of a bracket and of a fan
