@@ -276,6 +276,6 @@ def run(names, with_dear):
 def main(words):
     asked_words = asking.parser(__doc__)
     asked_words.add_argument("--long", action="store_true", help="try the dear ones too")
-    asked_words.add_argument("names", nargs="*", metavar="NAME", help="a crate, by itself all")
+    asked_words.add_argument("names", nargs="*", metavar="NAME", help="a crate; without one `ol` and those on which it stands")
     found = asked_words.parse_args(words)
     return summing.told(run(found.names, found.long))

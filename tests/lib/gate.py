@@ -2,11 +2,12 @@
 
     tests/gate COMMAND WORD ..
 
-COMMAND is `rt ci`, as .ci/run gives it. It is run in a copy of the repository that has no must-fail edits: `rt ci` would prove
-a crate once more for each of them, which takes longer than all else. tests/edits tries those that aren't dear, over the libraries that COMMAND proved. If COMMAND's status is 0, what it left in each out/ is taken over, so that
-the programs here are proved ones of the sources that stand here. tests/all is run with them and with no others. Meanwhile
-tests/edits runs at a lower priority, and what it writes comes last. If COMMAND fails, neither is run. The last line is
-'N passed, M failed', over all three; the status is 0 if nothing failed.
+COMMAND is `rt ci`, as .ci/run gives it. It is run in a copy of the repository that has no must-fail edits: `rt ci` would
+prove a crate once more for each of them, which takes longer than all else. tests/edits tries those of `ol` and of the
+crates on which it stands, over the libraries that COMMAND proved. If COMMAND's status is 0, what it left in each out/ is
+taken over, so that the programs here are proved ones of the sources that stand here. tests/all is run with them and with
+no others. Meanwhile tests/edits runs at a lower priority, and what it writes comes last. If COMMAND fails, neither is
+run. The last line is 'N passed, M failed', over all three; the status is 0 if nothing failed.
 """
 import os
 import shutil
