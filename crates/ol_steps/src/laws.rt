@@ -24,7 +24,8 @@ pub fn redexes_are_marked()
 
 /// If a term is folded, the carets stand under the text of the subterm at the address of the redex
 /// that an order contracts next. What is applied there to an argument is an abstraction, or the
-/// name of a let whose value is one. If the values are put in the places of their names, the folded
+/// name of a let whose value is one. Let the term's own free names have numbers below those of the
+/// lets, as the terms of a walk have. If the values are put in the places of their names, the folded
 /// term's subterm there is the redex itself.
 pub fn folded_redexes_are_marked()
     ensures marked { FoldedRedexIsMarked }
@@ -32,7 +33,9 @@ pub fn folded_redexes_are_marked()
 {}
 
 /// What stands at an address of a term that is shown is the subterm there of the term, folded or
-/// not. It is written below the binders round it, and read again below these as that subterm.
+/// not, as it is written below the binders round it. If the whole is read again as the term, this
+/// part is read below these binders as that subterm. `names_are_read_again` and
+/// `folds_are_read_again` say that the whole is read so, if binders keep their names.
 pub fn parts_are_subterms()
     ensures shown { PartIsSubterm }
     ensures read { PartIsRead }
