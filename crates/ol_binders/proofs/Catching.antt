@@ -74,12 +74,12 @@ at_first (y ∷ ns) x (suc k) i e h =
     (not_same x y (λ s. h 0 (omega arith) (ap (λ (y : List ℕ). Some y) (sym s))))
     ∙ at_first ns x k (i + 1) e (λ j l. h (suc j) (omega arith)) ∙ ap (λ (n : ℕ). Some n) n
 
-some_there : (names : List (List ℕ)) (k : ℕ) → k < length names → slice_get names k ≡ Some (slice_index_or names k [])
+pub some_there : (names : List (List ℕ)) (k : ℕ) → k < length names → slice_get names k ≡ Some (slice_index_or names k [])
 some_there [] k h = absurd (omega arith)
 some_there (x ∷ names) zero h = refl
 some_there (x ∷ names) (suc k) h = some_there names k (omega arith)
 
-free_place : (names : List (List ℕ)) (k : ℕ) → NoNameTwice names → k < length names →
+pub free_place : (names : List (List ℕ)) (k : ℕ) → NoNameTwice names → k < length names →
     position_of (slice_index_or names k []) names ≡ Some k
 free_place names k once h =
     let x = slice_index_or names k [] in

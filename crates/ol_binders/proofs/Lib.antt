@@ -2,6 +2,7 @@ pub mod Among
 pub mod Primes
 pub mod Fitting
 pub mod Catching
+pub mod Letters
 pub mod Grammatical
 pub mod Spelled
 pub mod Keeping

@@ -1,6 +1,6 @@
 -- What holds of the names of binders.
-use Rattle.std.specs.Prelude.{◌≡◌, ℕ, ◌<◌, true, false, List, [], ◌++◌, length, replicate, Some}
-use Rattle.ol_term.specs.Trees.{Tree, is_below, is_named_below}
+use Rattle.std.specs.Prelude.{◌≡◌, ℕ, ◌<◌, ◌^◌, true, false, List, [], ◌++◌, length, replicate, Some}
+use Rattle.ol_term.specs.Trees.{Tree, is_below, is_named_below, depth}
 use Rattle.ol_term.specs.NameLists.{NoNameTwice}
 use Rattle.ol_term.specs.BinderNames.{is_among}
 use Rattle.ol_parse.specs.Grammar.{Named, var, lam, app}
@@ -8,6 +8,7 @@ use Rattle.ol_parse.specs.Texts.{IsName, IsText}
 use Rattle.ol_parse.specs.Numbered.{names_of, number, numbered}
 use Rattle.ol_beta.specs.Beta as beta
 use Rattle.ol_named.specs.NamedTexts.{named_text}
+use Rattle.ol_named.specs.Lettered.{lettered}
 use Rattle.ol_binders.specs.Binders.{Binders, binders_of, Fits}
 use Rattle.ol_binders.specs.Contraction.{contracted}
 use Rattle.ol_binders.specs.Naming.{primed, named}
@@ -39,6 +40,11 @@ SourceIsKept = (t : Named) → named (names_of t) [] (number t) (binders_of t) �
 abbrev pub NoneIsCaught : Type 0
 NoneIsCaught = (names : List (List ℕ)) (t : Tree) (s : Binders) → NoNameTwice names → Fits t s →
     is_below 0 t ≡ true → is_named_below (length names) t ≡ true → numbered names [] (named names [] t s) ≡ t
+
+-- The letters of a tree's binders stand for the places of the tree, too.
+abbrev pub LettersAreRead : Type 0
+LettersAreRead = (names : List (List ℕ)) (t : Tree) → NoNameTwice names → length names < 2 ^ 32 → depth t < 2 ^ 64 →
+    is_below 0 t ≡ true → is_named_below (length names) t ≡ true → numbered names [] (lettered names 0 t) ≡ t
 
 -- each name of a term is a name of the grammar
 abbrev pub AllNames : Named → Type 0

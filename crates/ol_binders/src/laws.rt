@@ -1,6 +1,6 @@
 //! Laws of names of binders: no code, only what follows from the definitions.
 
-ghost use Rattle.ol_binders.specs.Laws.{ContractedFits, NamedIsRead, NoneIsCaught, PrimedIsLeast, SourceFits, SourceIsKept, TextHasNames};
+ghost use Rattle.ol_binders.specs.Laws.{ContractedFits, LettersAreRead, NamedIsRead, NoneIsCaught, PrimedIsLeast, SourceFits, SourceIsKept, TextHasNames};
 
 /// Some primes stand behind a primed name; with as many it is none of the names that are taken,
 /// with fewer it is one of them.
@@ -27,6 +27,12 @@ pub fn source_is_kept()
 /// its own.
 pub fn none_is_caught()
     ensures { NoneIsCaught }
+{}
+
+/// The letters that a term is printed with stand for the places of the term: no binder takes what
+/// isn't its own, and no letter is a free name.
+pub fn letters_are_read()
+    ensures { LettersAreRead }
 {}
 
 /// Each name of a text's term is a name of the grammar.

@@ -15,8 +15,8 @@ mod trees;
 
 pub use contracting::contract;
 pub use laws::{
-    contracted_fits, named_is_read, none_is_caught, primed_is_least, source_fits, source_is_kept,
-    text_has_names,
+    contracted_fits, letters_are_read, named_is_read, none_is_caught, primed_is_least, source_fits,
+    source_is_kept, text_has_names,
 };
 pub use naming::name;
 pub use trees::BinderTree;

@@ -1,12 +1,11 @@
 -- What a part that is asked is found to be.
 use Rattle.std.proofs.Common.{◌≡◌, ℕ, suc, ◌+◌, ◌-◌, ◌*◌, ◌<◌, ◌≤◌, ◌⊎◌, inl, inr, List, ◌∷◌, [], ◌++◌, length, map}
-use Rattle.std.proofs.Common.{Option, Some, None, get_or, refl, sym, ap, subst, arith}
-use Rattle.ol_net.specs.declared.parts.Kind.{Kind}
+use Rattle.std.proofs.Common.{get_or, refl, sym, ap, subst, arith}
 use Rattle.ol_net.specs.declared.parts.NodeId.{NodeId}
 use Rattle.ol_net.specs.declared.parts.Rule.{Rule}
 use Rattle.ol_net.specs.Graph.{Graph}
 use Rattle.ol_net.specs.Nets.{slot, IsPrincipalOf}
-use Rattle.ol_net.specs.Numbered.{net_of, nodes_from}
+use Rattle.ol_net.specs.Numbered.{net_of}
 use Rattle.ol_net.specs.Pairs.{IsActive}
 use Rattle.ol_context.specs.Contexts.{Level, Context}
 use Rattle.ol_context.specs.Asked.{asked}
@@ -21,6 +20,7 @@ use Rattle.ol_readback.specs.declared.answers.Head.{Head}
 use Rattle.ol_readback.specs.declared.answers.Head.TheVariants as head
 use Rattle.ol_readback.specs.declared.frames.Frame as listed
 use Rattle.ol_demand.specs.Chains.{IsAtPair, Ends, left, undefined, budget}
+use Rattle.ol_net.proofs.Numbered.{few_live}
 use Rattle.ol_demand.proofs.Questions.{port_is_last, levels_last}
 use Rattle.ol_boehm.specs.declared.chaining.End.{End}
 use Rattle.ol_boehm.specs.declared.chaining.End.TheVariants as code
@@ -53,13 +53,8 @@ met_step g h s n x vs r e t = record {
     go (inl e) = inl (ap (λ x. slot x 0) e)
     go (inr e) = inr (ap (λ x. slot x 0) e)
 
-few_from : (n : ℕ) (nodes : List (Option (Kind × ℕ))) → length (nodes_from n nodes) ≤ length nodes
-few_from n [] = omega arith
-few_from n (None ∷ nodes) = let h = few_from (suc n) nodes in omega (arith, h)
-few_from n (Some k ∷ nodes) = let h = few_from (suc n) nodes in omega (arith, h)
-
-pub few_live : (g : Graph) → live (net_of g) ≤ length g.nodes
-few_live g = few_from 0 g.nodes
+pub few_of_graph : (g : Graph) → live (net_of g) ≤ length g.nodes
+few_of_graph g = few_live 0 g.nodes
 
 -- ---- asked once
 

@@ -1,14 +1,13 @@
 -- What the bytes of a file with a net are answered, and that this is one status, and one text but
 -- for the net that is left.
-use Rattle.std.proofs.Common.{◌≡◌, ◌≢◌, ℕ, suc, ◌≤◌, List, [], ◌∷◌, ◌++◌, length, false, Option}
-use Rattle.std.proofs.Common.{Some, None, count_by, is_some, refl, sym, ap, ◌∙◌, subst, arith}
-use Rattle.ol_net.specs.declared.parts.Kind.{Kind}
+use Rattle.std.proofs.Common.{◌≡◌, ◌≢◌, ℕ, ◌≤◌, List, ◌++◌, length, false}
+use Rattle.std.proofs.Common.{count_by, is_some, refl, sym, ap, ◌∙◌, subst, arith}
 use Rattle.ol_net.specs.Graph.{Graph}
 use Rattle.ol_net.specs.Indexes.{top_index_of}
 use Rattle.ol_net.specs.Nets.{IsNet}
-use Rattle.ol_net.specs.Numbered.{nodes_from, net_of, all_live}
+use Rattle.ol_net.specs.Numbered.{net_of, all_live}
 use Rattle.ol_net.proofs.Linking.{length-all_live}
-use Rattle.ol_net.proofs.Numbered.{net_is_net}
+use Rattle.ol_net.proofs.Numbered.{net_is_net, few_live}
 use Rattle.ol_netfile.specs.declared.faults.NetFault.{NetFault}
 use Rattle.ol_netfile.specs.declared.faults.NetFault.TheVariants as fault
 use Rattle.ol_netfile.specs.NetTexts.{Front, nothing, titled, so_far, Adds, title, free, node, link}
@@ -70,14 +69,8 @@ read_small bytes net r =
       indexes = subst (λ ns. top_index_of ns ≤ 1000000) (sym r.built.same_nodes) top;
     }
 
--- no more nodes are live than numbers were given out
-live_few : (n : ℕ) (nodes : List (Option (Kind × ℕ))) → length (nodes_from n nodes) ≤ length nodes
-live_few n [] = omega arith
-live_few n (None ∷ nodes) = omega (arith, live_few (suc n) nodes)
-live_few n (Some k ∷ nodes) = omega (arith, live_few (suc n) nodes)
-
-pub few_live : (net : Graph) (most : ℕ) → length net.nodes ≤ most → length (net_of net).nodes ≤ most
-few_live net most h = let b = live_few 0 net.nodes in omega (arith, b, h)
+pub few_of_net : (net : Graph) (most : ℕ) → length net.nodes ≤ most → length (net_of net).nodes ≤ most
+few_of_net net most h = let b = few_live 0 net.nodes in omega (arith, b, h)
 
 -- ---- the statuses of a net
 

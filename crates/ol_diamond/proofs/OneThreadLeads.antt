@@ -1,6 +1,7 @@
 -- A net has a lead or is complete, and so there is a one-thread run for each fuel.
 use Rattle.std.proofs.Common.{◌≡◌, ◌≢◌, ℕ, zero, suc, ◌≤◌, Bool, true, false, List, [], ◌∷◌, length}
 use Rattle.std.proofs.Common.{Option, Some, None, ◌⊎◌, inl, inr, refl, sym, ap, ◌∙◌, subst, arith}
+use Rattle.std.proofs.lemmas.Bool.{false_from_ne_true}
 use Rattle.std.proofs.lemmas.Bool.Decides.{nat_tests}
 use Rattle.ol_law_edges.specs.Edges.{IsIn}
 use Rattle.ol_net.specs.declared.parts.Kind.{Kind}
@@ -105,10 +106,6 @@ record Least (N : NamedNet NodeName) (nodes : List (NodeName × Kind × ℕ)) : 
 abbrev NoneActs : NamedNet NodeName → List (NodeName × Kind × ℕ) → Type 0
 NoneActs N nodes = (x : NodeName) (k : Kind) (i : ℕ) → IsIn (x, k, i) nodes → Acts N x → ⊥
 
-not_true : (b : Bool) → (b ≡ true → ⊥) → b ≡ false
-not_true true h = absurd (h refl)
-not_true false h = refl
-
 module _ (N : NamedNet NodeName) (is_net : IsNet N) where
   least_of : (nodes : List (NodeName × Kind × ℕ)) → AreNodesOf N nodes → Least N nodes ⊎ NoneActs N nodes
   least_of [] of = inr (λ x k i h a. h)
@@ -130,7 +127,7 @@ module _ (N : NamedNet NodeName) (is_net : IsNet N) where
         where
           least : (x : NodeName) (k : Kind) (i : ℕ) → IsIn (x, k, i) (n ∷ nodes) → Acts N x → comes_before x n.0 ≡ false
           least x k i (inl h) c = itself x k i h
-          least x k i (inr h) c = not_true (comes_before x n.0)
+          least x k i (inr h) c = false_from_ne_true (comes_before x n.0)
               (λ t. let u = before_before x n.0 l.name t e in let v = l.least x k i h c in absurd (cc))
       compared a l false e = record { name = l.name; acts = l.acts; least = least }
         where

@@ -7,9 +7,10 @@ use Rattle.std.proofs.lemmas.List.{length-map}
 use Rattle.ol_limits.specs.Limits.{most_term_bytes}
 use Rattle.ol_term.specs.NameLists.{without}
 use Rattle.ol_net.specs.declared.parts.Kind.{Kind}
-use Rattle.ol_net.specs.Numbered.{net_of, nodes_from}
+use Rattle.ol_net.specs.Numbered.{net_of}
 use Rattle.ol_context.specs.Short.{live}
 use Rattle.ol_rules.specs.declared.journal.NodeName.TheVariants.{Init}
+use Rattle.ol_net.proofs.Numbered.{few_live}
 use Rattle.ol_rules.proofs.StartNets.{one_start}
 use Rattle.ol_parse.specs.Grammar.{Named, var, lam, app}
 use Rattle.ol_parse.specs.Laws.{leaves}
@@ -104,16 +105,11 @@ long_text function line f l =
 
 -- ---- few nodes
 
-few_listed : (n : ℕ) (nodes : List (Option (Kind × ℕ))) → length (nodes_from n nodes) ≤ length nodes
-few_listed n [] = omega arith
-few_listed n (None ∷ nodes) = let h = few_listed (suc n) nodes in omega (arith, h)
-few_listed n (Some k ∷ nodes) = let h = few_listed (suc n) nodes in omega (arith, h)
-
 module _ {bounds : Bounds} {function line : List ℕ} {seen : Seen} (h : HasTree bounds function line seen) where
   few_nodes : live (start_of h.net) ≤ 200000
   few_nodes =
       let a = live_under Init one_start (net_of h.net) in
-      let b = few_listed 0 h.net.nodes in
+      let b = few_live 0 h.net.nodes in
       let c = ap (λ (nodes : List (Option (Kind × ℕ))). length nodes) h.of.net.numbers in
       let d = length-map (nodes_of bounds.translation h.of.term) (λ (k : Kind × ℕ). Some k) in
       let e = size_of_nodes bounds.translation h.of.term in

@@ -29,6 +29,12 @@ use Rattle.ol_net.proofs.Mutual.{partner-mutual}
 
 -- Nodes
 
+-- no more nodes are live than numbers were given out
+pub few_live : (n : ℕ) (nodes : List (Option (Kind × ℕ))) → length (nodes_from n nodes) ≤ length nodes
+few_live n [] = omega arith
+few_live n (None ∷ nodes) = omega (arith, few_live (suc n) nodes)
+few_live n (Some k ∷ nodes) = omega (arith, few_live (suc n) nodes)
+
 nodes_from-in : (nodes : List (Option (Kind × ℕ))) (n x : ℕ) (k : Kind) (i : ℕ) → IsIn (x, k, i) (nodes_from n nodes) →
     (y : ℕ) × (x ≡ n + y) × (kind_at nodes y ≡ Some (k, i))
 nodes_from-in [] n x k i h = absurd h

@@ -5,7 +5,7 @@ use Rattle.std.proofs.Common.{length, length-set, get_or-set_same, get_or-set_ot
 use Rattle.std.proofs.Common.{slice_set, get_or, Some, None, ◌⊎◌, inl, inr, ◌↔◌, refl, sym, ap, ◌∙◌}
 use Rattle.std.proofs.Common.{subst, arith}
 use Rattle.std.specs.Prelude.{slice_get, replicate}
-use Rattle.std.proofs.lemmas.Bool.{cases_eq, cases_lt, false≢true}
+use Rattle.std.proofs.lemmas.Bool.{cases_eq, cases_lt, false≢true, not-true, not-false}
 use Rattle.std.proofs.lemmas.Bool.Decides.{nat_tests}
 use Rattle.std.proofs.lemmas.List.{length-append, get_or_default}
 use Rattle.ol_rules.specs.declared.journal.NodeName.{NodeName}
@@ -273,14 +273,6 @@ got_read [] r b lt e = absurd (omega arith)
 got_read (x ∷ xs) zero b lt e = ap (λ b. Some b) (sym e)
 got_read (x ∷ xs) (suc r) b lt e = got_read xs r b (omega arith) e
 
-not_false : (m : Bool) → not m ≡ true → m ≡ false
-not_false true h = absurd (false≢true h)
-not_false false h = refl
-
-not_true : (m : Bool) → not m ≡ false → m ≡ true
-not_true true h = refl
-not_true false h = absurd (false≢true (sym h))
-
 module _ (w : ClosedTable) (marks : List Bool)
     (m : AreMarked w (events_in w.plan.parts w.words) marks) (n : ℕ) (low : n < ranks_in w)
     (x : NodeName) (is : name_of_rank w.plan.parts n ≡ x)
@@ -313,11 +305,11 @@ module _ (w : ClosedTable) (marks : List Bool)
       left : b ≡ true → IsLeft w (name_of_rank w.plan.parts n)
       left h = subst (IsLeft w) (sym is) (
         made,
-        is_untouched w marks m x placed (read ∙ ap (λ b. Some b) (not_false mark (sym q ∙ h))),
+        is_untouched w marks m x placed (read ∙ ap (λ b. Some b) (not-true mark (sym q ∙ h))),
       )
 
       gone : b ≡ false → IsLeft w (name_of_rank w.plan.parts n) → ⊥
-      gone h l = is_gone w marks m x placed (read ∙ ap (λ b. Some b) (not_true mark (sym q ∙ h)))
+      gone h l = is_gone w marks m x placed (read ∙ ap (λ b. Some b) (not-false mark (sym q ∙ h)))
           (subst (IsLeft w) is l)
 
   -- it wasn't made

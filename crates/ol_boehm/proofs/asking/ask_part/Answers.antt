@@ -8,7 +8,7 @@ use Rattle.ol_readback.specs.Frames.{frames_of}
 use Rattle.ol_boehm.specs.Asking.{IsPartFound, IsReply, KeepsUnlessFound}
 use Rattle.ol_boehm.specs.declared.asking.Reply.{Reply}
 use Rattle.ol_boehm.specs.declared.asking.Reply.TheVariants as reply
-use Rattle.ol_boehm.proofs.Asked.{Onward, few_live, started, on_step, on_more, part_found}
+use Rattle.ol_boehm.proofs.Asked.{Onward, few_of_graph, started, on_step, on_more, part_found}
 use Rattle.ol_boehm.proofs.asking.ask_part.Goals as goal
 
 -- what a reply tells, where the values are as they were at the start
@@ -111,7 +111,7 @@ overflow_add-lams c =
     let t = subst (λ r. IsReply c.loop-reply.net c.ask_once.new.net
     (frames_of c.loop-reply.values c.args.asked.now.frames.now.items) c.loop-reply.lams (c.args.fuel - c.loop-reply.made)
     c.ask_once.new.values r) c.in-OneMore.is c.in_ok-reply.ensures.reply in
-    let l = few_live c.loop-reply.net in
+    let l = few_of_graph c.loop-reply.net in
     let f = i.few in
     let w = i.within in
     let r = c.requires.room in
