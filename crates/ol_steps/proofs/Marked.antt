@@ -2,7 +2,7 @@
 use Rattle.std.proofs.Common.{◌≡◌, ℕ, zero, suc, ◌+◌, ◌-◌, ◌<◌, Bool, true, false, List, [], ◌∷◌, ◌++◌, take, codes, length}
 use Rattle.std.proofs.Common.{append_assoc}
 use Rattle.std.proofs.Common.{Option, Some, None, IsSome, refl, sym, ap, ◌∙◌, subst, eqb-true, arith}
-use Rattle.std.specs.Prelude.{◌==◌, if◌then◌else◌, slice_get, slice_index_or}
+use Rattle.std.specs.Prelude.{◌==◌, if◌then◌else◌, slice_get, slice_index_or, is_some}
 use Rattle.std.specs.Option.{option_map}
 use Rattle.std.proofs.lemmas.Bool.{and_parts}
 use Rattle.std.proofs.lemmas.List.{append-nil, length_push}
@@ -29,7 +29,8 @@ use Rattle.ol_folds.proofs.Unfolding.{unfolded_is_term, no_value_no_change, fold
 use Rattle.ol_steps.specs.declared.stepping.Shown.{Shown}
 use Rattle.ol_steps.specs.Steps.{Glossary, shown_term}
 use Rattle.ol_steps.specs.Laws.{IsRedex, MarksRedex, RedexIsMarked, StandsForAbstraction, IsFoldedRedex, FoldedRedexIsMarked}
-use Rattle.ol_steps.specs.Laws.{binders_round, UnfoldsToNext, PartIsSubterm, PartIsRead}
+use Rattle.ol_steps.specs.Laws.{leads_to_part, binders_round, binders_along, UnfoldsToNext}
+use Rattle.ol_steps.specs.Laws.{PartsAreThere, NamedPartIsSubterm, LetteredPartIsSubterm, PartIsRead}
 
 -- one move more
 pub take_on : (ms : List ℕ) (k m : ℕ) → slice_get ms k ≡ Some m → take (suc k) ms ≡ take k ms ++ m ∷ []
@@ -305,7 +306,46 @@ unfolds_to_next how g t at h e =
       unfolds = s.unfolds ∙ s.redex;
     }
 
--- ---- what stands there is that subterm with names
+-- ---- an address leads to a part of what is shown where it leads to a subterm
+
+led : (names : List (List ℕ)) (t : Tree) (u : Named) (at : List ℕ) → Shows names t u →
+    leads_to_part u at ≡ is_some (subterm_along t at)
+led names (tree.var k) (var x) [] h = refl
+led names (tree.var k) (var x) (m ∷ at) h = refl
+led names (tree.var k) (lam x u) at h = absurd h
+led names (tree.var k) (app g b) at h = absurd h
+led names (tree.free k) (var x) [] h = refl
+led names (tree.free k) (var x) (m ∷ at) h = refl
+led names (tree.free k) (lam x u) at h = absurd h
+led names (tree.free k) (app g b) at h = absurd h
+led names (tree.lam t) (var x) at h = absurd h
+led names (tree.lam t) (lam x u) [] h = refl
+led names (tree.lam t) (lam x u) (m ∷ at) h = go (m == 0) (led names t u at h)
+  where
+    go : (b : Bool) → leads_to_part u at ≡ is_some (subterm_along t at) →
+        (if b then leads_to_part u at else false) ≡ is_some (if b then subterm_along t at else None)
+    go true i = i
+    go false i = refl
+led names (tree.lam t) (app g b) at h = absurd h
+led names (tree.app f a) (var x) at h = absurd h
+led names (tree.app f a) (lam x u) at h = absurd h
+led names (tree.app f a) (app g b) [] h = refl
+led names (tree.app f a) (app g b) (m ∷ at) h = go (m == 1) (m == 2) (led names f g at h.0) (led names a b at h.1)
+  where
+    go : (c d : Bool) → leads_to_part g at ≡ is_some (subterm_along f at) →
+        leads_to_part b at ≡ is_some (subterm_along a at) →
+        (if c then leads_to_part g at else if d then leads_to_part b at else false)
+        ≡ is_some (if c then subterm_along f at else if d then subterm_along a at else None)
+    go true d i j = i
+    go false true i j = j
+    go false false i j = refl
+
+pub parts_are_there : PartsAreThere
+parts_are_there true names t s at fits =
+    led names t (own.named names [] t s) at (named_shows names [] t s (fits refl))
+parts_are_there false names t s at fits = led names t (lettered names 0 t) at (lettered_shows names 0 t)
+
+-- ---- the part is that subterm with names
 
 abbrev Lettered : List (List ℕ) → ℕ → Tree → Named → List ℕ → Type 0
 Lettered names n v u at = part u at ≡ lettered names (length (binders_round u at) + n) v
@@ -348,24 +388,24 @@ lettered_part names (tree.app f a) v n (m ∷ at) h =
     go false true i more rest = rest i
     go false false i more rest = absurd (cc)
 
-abbrev NamedBelow : List (List ℕ) → List (List ℕ) → Tree → Named → Type 0
-NamedBelow names round v u = (s : Binders) × Fits v s × (u ≡ own.named names round v s)
-
-root_named : (names round : List (List ℕ)) (t v : Tree) (s : Binders) → Fits t s → Some t ≡ Some v →
-    NamedBelow names round v (own.named names round t s)
-root_named names round t v s fits h =
-    subst (λ (w : Tree). NamedBelow names round w (own.named names round t s)) (tree_is t v h) (s, fits, refl)
+abbrev IsNamedPart : List (List ℕ) → List (List ℕ) → Tree → Binders → Named → List ℕ → Type 0
+IsNamedPart names round v s u at = part u at ≡ own.named names (binders_round u at ++ round) v (binders_along s at)
 
 named_part : (names : List (List ℕ)) (t v : Tree) (round : List (List ℕ)) (s : Binders) (at : List ℕ) → Fits t s →
-    subterm_along t at ≡ Some v →
-    NamedBelow names (binders_round (own.named names round t s) at ++ round) v (part (own.named names round t s) at)
-named_part names (tree.var k) v round s [] fits h = root_named names round (tree.var k) v s fits h
-named_part names (tree.var k) v round s (m ∷ at) fits h = absurd (cc)
-named_part names (tree.free k) v round s [] fits h = root_named names round (tree.free k) v s fits h
-named_part names (tree.free k) v round s (m ∷ at) fits h = absurd (cc)
+    subterm_along t at ≡ Some v → IsNamedPart names round v s (own.named names round t s) at
+named_part names (tree.var k) v round binders.leaf [] fits h =
+    ap (λ (w : Tree). own.named names round w binders.leaf) (tree_is (tree.var k) v h)
+named_part names (tree.var k) v round binders.leaf (m ∷ at) fits h = absurd (cc)
+named_part names (tree.var k) v round (binders.lam x s) at fits h = absurd fits
+named_part names (tree.var k) v round (binders.app r s) at fits h = absurd fits
+named_part names (tree.free k) v round binders.leaf [] fits h =
+    ap (λ (w : Tree). own.named names round w binders.leaf) (tree_is (tree.free k) v h)
+named_part names (tree.free k) v round binders.leaf (m ∷ at) fits h = absurd (cc)
+named_part names (tree.free k) v round (binders.lam x s) at fits h = absurd fits
+named_part names (tree.free k) v round (binders.app r s) at fits h = absurd fits
 named_part names (tree.lam t) v round binders.leaf at fits h = absurd fits
 named_part names (tree.lam t) v round (binders.lam x s) [] fits h =
-    root_named names round (tree.lam t) v (binders.lam x s) fits h
+    ap (λ (w : Tree). own.named names round w (binders.lam x s)) (tree_is (tree.lam t) v h)
 named_part names (tree.lam t) v round (binders.lam x s) (m ∷ at) fits h =
     go (m == 0) h (named_part names t v (own.primed (own.used 1 names round t) x ∷ round) s at fits)
   where
@@ -376,16 +416,16 @@ named_part names (tree.lam t) v round (binders.lam x s) (m ∷ at) fits h =
     u = own.named names (y ∷ round) t s
 
     go : (b : Bool) → (if b then subterm_along t at else None) ≡ Some v →
-        (subterm_along t at ≡ Some v → NamedBelow names (binders_round u at ++ y ∷ round) v (part u at)) →
-        NamedBelow names ((binders_round u at ++ y ∷ []) ++ round) v (part u at)
-    go true i more = subst (λ (r : List (List ℕ)). NamedBelow names r v (part u at))
-        (sym (append_assoc (binders_round u at) (y ∷ []) round)) (more i)
+        (subterm_along t at ≡ Some v → IsNamedPart names (y ∷ round) v s u at) →
+        part u at ≡ own.named names ((binders_round u at ++ y ∷ []) ++ round) v (binders_along s at)
+    go true i more = more i ∙ ap (λ (r : List (List ℕ)). own.named names r v (binders_along s at))
+        (sym (append_assoc (binders_round u at) (y ∷ []) round))
     go false i more = absurd (cc)
 named_part names (tree.lam t) v round (binders.app r s) at fits h = absurd fits
 named_part names (tree.app f a) v round binders.leaf at fits h = absurd fits
 named_part names (tree.app f a) v round (binders.lam x s) at fits h = absurd fits
 named_part names (tree.app f a) v round (binders.app r s) [] fits h =
-    root_named names round (tree.app f a) v (binders.app r s) fits h
+    ap (λ (w : Tree). own.named names round w (binders.app r s)) (tree_is (tree.app f a) v h)
 named_part names (tree.app f a) v round (binders.app r s) (m ∷ at) fits h =
     go (m == 1) (m == 2) h (named_part names f v round r at fits.0) (named_part names a v round s at fits.1)
   where
@@ -396,20 +436,23 @@ named_part names (tree.app f a) v round (binders.app r s) (m ∷ at) fits h =
     b = own.named names round a s
 
     go : (c d : Bool) → (if c then subterm_along f at else if d then subterm_along a at else None) ≡ Some v →
-        (subterm_along f at ≡ Some v → NamedBelow names (binders_round g at ++ round) v (part g at)) →
-        (subterm_along a at ≡ Some v → NamedBelow names (binders_round b at ++ round) v (part b at)) →
-        NamedBelow names ((if c then binders_round g at else binders_round b at) ++ round) v
+        (subterm_along f at ≡ Some v → IsNamedPart names round v r g at) →
+        (subterm_along a at ≡ Some v → IsNamedPart names round v s b at) →
         (if c then part g at else part b at)
+        ≡ own.named names ((if c then binders_round g at else binders_round b at) ++ round) v
+        (if c then binders_along r at else binders_along s at)
     go true d i more rest = more i
     go false true i more rest = rest i
     go false false i more rest = absurd (cc)
 
-pub part_is_subterm : PartIsSubterm
-part_is_subterm true names t v s at fits h =
+pub named_part_is_subterm : NamedPartIsSubterm
+named_part_is_subterm names t v s at fits h =
     let u = own.named names [] t s in
-    subst (λ (r : List (List ℕ)). NamedBelow names r v (part u at)) (append-nil (binders_round u at))
-    (named_part names t v [] s at (fits refl) h)
-part_is_subterm false names t v s at fits h =
+    named_part names t v [] s at fits h
+    ∙ ap (λ (r : List (List ℕ)). own.named names r v (binders_along s at)) (append-nil (binders_round u at))
+
+pub lettered_part_is_subterm : LetteredPartIsSubterm
+lettered_part_is_subterm names t v at h =
     let u = lettered names 0 t in
     lettered_part names t v 0 at h ∙ ap (λ (k : ℕ). lettered names k v) (omega arith)
 

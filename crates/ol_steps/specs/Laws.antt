@@ -1,7 +1,7 @@
 -- What a term that comes back says of the first term, what carets stand under, that what is printed is read again, and
 -- that how terms are shown changes no end.
 use Rattle.std.specs.Prelude.{◌≡◌, ℕ, ◌+◌, ◌==◌, Bool, true, false, if◌then◌else◌, ◌⊎◌, List, [], ◌∷◌, ◌++◌, codes, length}
-use Rattle.std.specs.Prelude.{slice_get, slice_index_or, Option, Some, IsSome}
+use Rattle.std.specs.Prelude.{slice_get, slice_index_or, Option, Some, is_some, IsSome}
 use Rattle.ol_term.specs.Trees as tree
 use Rattle.ol_term.specs.Trees.{Tree, is_named_below}
 use Rattle.ol_law_meaning.specs.Shows.{BetaReduces}
@@ -19,6 +19,7 @@ use Rattle.ol_named.specs.NamedTexts.{named_text}
 use Rattle.ol_named.specs.Lettered.{lettered}
 use Rattle.ol_named.specs.Marks.{part}
 use Rattle.ol_named.specs.Laws.{IsMarked}
+use Rattle.ol_binders.specs.Binders as binders
 use Rattle.ol_binders.specs.Binders.{Binders, binders_of, Fits}
 use Rattle.ol_binders.specs.Naming.{named}
 use Rattle.ol_folds.specs.Fronts.{BeginsWithLets}
@@ -99,16 +100,36 @@ binders_round (lam x t) (m ∷ at) = binders_round t at ++ x ∷ []
 binders_round (app f a) (m ∷ at) = if m == 1 then binders_round f at else binders_round a at
 binders_round t at = []
 
--- a term with names is this tree, written below binders that have these names, the innermost first
-abbrev pub IsShownBelow : Bool → List (List ℕ) → List (List ℕ) → Tree → Named → Type 0
-IsShownBelow true names round t u = (s : Binders) × Fits t s × (u ≡ named names round t s)
-IsShownBelow false names round t u = u ≡ lettered names (length round) t
+-- an address leads to a part of a term with names
+abbrev pub leads_to_part : Named → List ℕ → Bool
+leads_to_part u [] = true
+leads_to_part (var x) (m ∷ at) = false
+leads_to_part (lam x t) (m ∷ at) = if m == 0 then leads_to_part t at else false
+leads_to_part (app f a) (m ∷ at) =
+    if m == 1 then leads_to_part f at else if m == 2 then leads_to_part a at else false
 
--- what stands at an address of a term as it is shown is the tree's subterm there, written below the binders round it
-abbrev pub PartIsSubterm : Type 0
-PartIsSubterm = (own : Bool) (names : List (List ℕ)) (t v : Tree) (s : Binders) (at : List ℕ) → (own ≡ true → Fits t s) →
+-- an address leads to a part of a term as it is shown exactly if it leads to a subterm of the tree
+abbrev pub PartsAreThere : Type 0
+PartsAreThere = (own : Bool) (names : List (List ℕ)) (t : Tree) (s : Binders) (at : List ℕ) → (own ≡ true → Fits t s) →
+    leads_to_part (shown_term own names t s) at ≡ is_some (subterm_along t at)
+
+-- the names of the binders in the subterm at an address
+abbrev pub binders_along : Binders → List ℕ → Binders
+binders_along (binders.lam x s) (m ∷ at) = binders_along s at
+binders_along (binders.app r s) (m ∷ at) = if m == 1 then binders_along r at else binders_along s at
+binders_along s at = s
+
+-- what stands at an address of a tree with names is the tree's subterm there, with its binders' names, below the binders
+-- round it
+abbrev pub NamedPartIsSubterm : Type 0
+NamedPartIsSubterm = (names : List (List ℕ)) (t v : Tree) (s : Binders) (at : List ℕ) → Fits t s →
     subterm_along t at ≡ Some v →
-    IsShownBelow own names (binders_round (shown_term own names t s) at) v (part (shown_term own names t s) at)
+    part (named names [] t s) at ≡ named names (binders_round (named names [] t s) at) v (binders_along s at)
+
+-- and of a tree with letters it is the subterm with letters, below as many binders
+abbrev pub LetteredPartIsSubterm : Type 0
+LetteredPartIsSubterm = (names : List (List ℕ)) (t v : Tree) (at : List ℕ) → subterm_along t at ≡ Some v →
+    part (lettered names 0 t) at ≡ lettered names (length (binders_round (lettered names 0 t) at)) v
 
 -- if a term with names is read as a tree, what stands at an address of it is read, below the binders round it, as the
 -- tree's subterm there

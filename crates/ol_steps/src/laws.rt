@@ -1,7 +1,7 @@
 //! Laws of terms that come back, of carets, of names and of the end of an answer: no code, only
 //! what follows from the definitions.
 
-ghost use Rattle.ol_steps.specs.Laws.{EachStepCounts, FoldedReadsAgain, FoldedRedexIsMarked, NoLetSameAnswer, PartIsRead, PartIsSubterm, ReadsAgain, RedexIsMarked, ReturnIsEndless, ReturnHasNone, ShowingChangesNoEnd, UnfoldsToNext};
+ghost use Rattle.ol_steps.specs.Laws.{EachStepCounts, FoldedReadsAgain, FoldedRedexIsMarked, LetteredPartIsSubterm, NamedPartIsSubterm, NoLetSameAnswer, PartIsRead, PartsAreThere, ReadsAgain, RedexIsMarked, ReturnIsEndless, ReturnHasNone, ShowingChangesNoEnd, UnfoldsToNext};
 ghost use Rattle.ol_steps.specs.Unfoldings.{LetsAreUnfolded, NoValueIsShown};
 
 /// Where a term of an order's walk is that of an earlier step, the order has no end: each term that
@@ -32,12 +32,15 @@ pub fn folded_redexes_are_marked()
     ensures unfolded { UnfoldsToNext }
 {}
 
-/// What stands at an address of a term that is shown is the subterm there of the term, folded or
-/// not, as it is written below the binders round it. If the whole is read again as the term, this
-/// part is read below these binders as that subterm. `names_are_read_again` and
-/// `folds_are_read_again` say that the whole is read so, if binders keep their names.
+/// An address leads to a part of a term that is shown exactly if it leads to a subterm of the term,
+/// folded or not. The part is the subterm, as it is written below the binders round it. If the
+/// whole is read again as the term, the part is read below these binders as the subterm. That the
+/// whole is read so say `names_are_read_again` and `folds_are_read_again`, and of letters
+/// `letters_are_read` of `ol_binders`.
 pub fn parts_are_subterms()
-    ensures shown { PartIsSubterm }
+    ensures there { PartsAreThere }
+    ensures named { NamedPartIsSubterm }
+    ensures lettered { LetteredPartIsSubterm }
     ensures read { PartIsRead }
 {}
 
