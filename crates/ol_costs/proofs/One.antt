@@ -1,27 +1,19 @@
 -- An order has one count.
-use Rattle.std.proofs.Common.{◌≡◌, ℕ, zero, suc, ◌≤◌, true, false, List, Option, Some, None, IsSome, refl, sym, ap, ◌∙◌, subst, arith}
+use Rattle.std.proofs.Common.{◌≡◌, ℕ, zero, suc, ◌≤◌, Some, None, IsSome, refl, sym, ap, ◌∙◌, subst, arith}
+use Rattle.std.proofs.lemmas.Option.{none-some}
 use Rattle.ol_term.specs.Trees.{Tree}
 use Rattle.ol_beta.specs.Beta.{IsWithin, IsPast}
 use Rattle.ol_beta.proofs.Onward.{past_within}
+use Rattle.ol_beta.proofs.Redexes.{none_some}
 use Rattle.ol_strategies.specs.Redexes.{next}
 use Rattle.ol_strategies.specs.Reductions.{IsStep}
 use Rattle.ol_strategies.specs.declared.orders.Order.{Order}
 use Rattle.ol_strategies.proofs.Rounds.{step_is_one}
 use Rattle.ol_costs.specs.Ordered.{LeadsWithin, CountIsOne, ended, short, past}
 
-none_some : (o : Option (List ℕ)) (at : List ℕ) → o ≡ None → o ≡ Some at → ⊥
-none_some o at e f = let c : None ≡ Some at = sym e ∙ f in absurd (cc)
-
-clash : false ≡ true → ⊥
-clash e = absurd (cc)
-
-none_is_some : (o : Option (List ℕ)) → o ≡ None → IsSome o → ⊥
-none_is_some None e s = clash s
-none_is_some (Some at) e s = none_some (Some at) at e refl
-
 -- no step leads on from an end
 at_end : (order : Order) (t v : Tree) → next order t ≡ None → IsStep order t v → ⊥
-at_end order t v e s = none_some (next order t) s.0 e s.1
+at_end order t v e s = none-some s.0 (sym e ∙ s.1)
 
 module _ (order : Order) where
   same_end : (m n : ℕ) (t u v : Tree) → LeadsWithin order m t u → next order u ≡ None → LeadsWithin order n t v →
@@ -36,7 +28,7 @@ module _ (order : Order) where
   not_short : (m n : ℕ) (t u v : Tree) → LeadsWithin order m t u → next order u ≡ None → LeadsWithin order n t v →
       IsSome (next order v) → m ≤ n → ⊥
   not_short zero zero t u v h d k s f =
-      none_is_some (next order v) (ap (λ (t : Tree). next order t) (sym k ∙ h) ∙ d) s
+      none_some (next order v) (ap (λ (t : Tree). next order t) (sym k ∙ h) ∙ d) s
   not_short zero (suc n) t u v h d k s f = at_end order t k.1.0 (ap (λ (t : Tree). next order t) h ∙ d) k.1.1.0
   not_short (suc m) zero t u v h d k s f = absurd (omega (arith, f))
   not_short (suc m) (suc n) t u v h d k s f =

@@ -8,6 +8,7 @@ use Rattle.std.specs.Option.{option_map}
 use Rattle.ol_term.specs.Trees.{Tree, var, free, lam, app}
 use Rattle.ol_beta.specs.Beta.{contracted, applied}
 use Rattle.ol_beta.specs.Leftmost.{is_abstraction}
+use Rattle.ol_beta.proofs.Redexes.{map_some}
 use Rattle.ol_derivations.specs.Reductions.{redexes}
 use Rattle.ol_derivations.specs.Searches.{placed}
 
@@ -55,10 +56,6 @@ each_weaker P Q (x ∷ xs) w h = (w x h.0, each_weaker P Q xs w h.1)
 
 -- ---- each address of the list leads to a redex
 
-some_map : (f : Tree → Tree) (o : Option Tree) → IsSome o → IsSome (option_map f o)
-some_map f None s = absurd (clash s)
-some_map f (Some x) s = refl
-
 abbrev here : (f a : Tree) → List (List ℕ)
 here f a = if is_abstraction f then [] ∷ [] else []
 
@@ -73,17 +70,17 @@ are_redexes (var k) = tt
 are_redexes (free k) = tt
 are_redexes (lam b) = each_map (λ at. IsSome (contracted (lam b) at)) (λ at. 0 ∷ at) (redexes b)
     (each_weaker (λ at. IsSome (contracted b at)) (λ at. IsSome (contracted (lam b) (0 ∷ at))) (redexes b)
-    (λ at s. some_map lam (contracted b at) s) (are_redexes b))
+    (λ at s. map_some lam (contracted b at) s) (are_redexes b))
 are_redexes (app f a) =
     let P : List ℕ → Type 0 = λ at. IsSome (contracted (app f a) at) in
     each_append P (here f a) (map (λ at. 1 ∷ at) (redexes f) ++ map (λ at. 2 ∷ at) (redexes a)) (redex_here f a)
     (each_append P (map (λ at. 1 ∷ at) (redexes f)) (map (λ at. 2 ∷ at) (redexes a))
     (each_map P (λ at. 1 ∷ at) (redexes f)
     (each_weaker (λ at. IsSome (contracted f at)) (λ at. P (1 ∷ at)) (redexes f)
-    (λ at s. some_map (λ g. app g a) (contracted f at) s) (are_redexes f)))
+    (λ at s. map_some (λ g. app g a) (contracted f at) s) (are_redexes f)))
     (each_map P (λ at. 2 ∷ at) (redexes a)
     (each_weaker (λ at. IsSome (contracted a at)) (λ at. P (2 ∷ at)) (redexes a)
-    (λ at s. some_map (app f) (contracted a at) s) (are_redexes a))))
+    (λ at s. map_some (app f) (contracted a at) s) (are_redexes a))))
 
 -- ---- each redex has its address there
 

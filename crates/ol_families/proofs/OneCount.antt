@@ -1,10 +1,12 @@
 -- A term has one count, whatever letters its subterms have.
-use Rattle.std.proofs.Common.{◌≡◌, ℕ, suc, ◌+◌, ◌<◌, ◌≤◌, true, false, List, [], ◌∷◌, ◌++◌, length, length-append}
+use Rattle.std.proofs.Common.{◌≡◌, ℕ, suc, ◌+◌, ◌<◌, ◌≤◌, List, [], ◌∷◌, ◌++◌, length, length-append}
 use Rattle.std.proofs.Common.{map, Option, Some, None, refl, sym, ap, ◌∙◌, subst, arith, ◌⊎◌, inl, inr}
 use Rattle.std.specs.Prelude.{IsSome}
+use Rattle.std.proofs.lemmas.Option.{none-some}
 use Rattle.ol_beta.specs.Beta.{IsPast}
 use Rattle.ol_beta.specs.Leftmost.{leftmost}
 use Rattle.ol_beta.proofs.Onward.{past_within}
+use Rattle.ol_beta.proofs.Redexes.{none_some}
 use Rattle.ol_law_edges.specs.Edges.{IsIn}
 use Rattle.ol_law_edges.proofs.Lists.{in_map, in_map_of}
 use Rattle.ol_law_families.specs.HeadFamilies.{HasSoManyDifferent}
@@ -17,16 +19,6 @@ use Rattle.ol_families.specs.Letters.{letters_of, most_letters}
 use Rattle.ol_families.proofs.Renaming.{renamed, relabelled, numbered, reduces_too, erased_too, letters_in_too}
 use Rattle.ol_families.proofs.Renaming.{letters_of_too, up_to_letters, AreOneUpToLetters}
 use Rattle.ol_families.proofs.Rows.{same_some}
-
-clash : false ≡ true → ⊥
-clash e = cc
-
-none_some : {A : Type 0} (o : Option A) (x : A) → o ≡ None → o ≡ Some x → ⊥
-none_some o x e d = cc
-
-none_is_some : (o : Option (List ℕ)) → o ≡ None → IsSome o → ⊥
-none_is_some None e s = clash s
-none_is_some (Some at) e s = none_some (Some at) at e refl
 
 -- ---- two reductions of one labelled term
 
@@ -44,7 +36,7 @@ record First {t v : Labelled} {ds : List Label} (r : LeftmostContracts t ds v) :
 
 first : (t v : Labelled) (ds : List Label) (r : LeftmostContracts t ds v) (at : List ℕ) →
     leftmost (erased t) ≡ Some at → leftmost (erased v) ≡ None → First r
-first t v ds (ready {t = u}) at l n = absurd (none_some (leftmost (erased u)) at n l)
+first t v ds (ready {t = u}) at l n = absurd (none-some at (sym n ∙ l))
 first t v ds (contract {t = s} {u = u} {v = z} {w = d} {ws = es} by k e c r) at l n = record {
   at = by;
   next = u;
@@ -86,11 +78,11 @@ through t x v ds es (contract {t = t'} {u = u} {v = x'} {w = d} {ws = fs} at l e
 
 no_more : (x v : Labelled) (ds : List Label) (r : LeftmostContracts x ds v) → leftmost (erased x) ≡ None → ds ≡ []
 no_more x v ds ready n = refl
-no_more x v ds (contract {t = t} at l e c r) n = absurd (none_some (leftmost (erased t)) at n l)
+no_more x v ds (contract {t = t} at l e c r) n = absurd (none-some at (sym n ∙ l))
 
 some_more : (x v : Labelled) (ds : List Label) (r : LeftmostContracts x ds v) → IsSome (leftmost (erased x)) →
     leftmost (erased v) ≡ None → 0 < length ds
-some_more x v ds (ready {t = t}) s n = absurd (none_is_some (leftmost (erased t)) n s)
+some_more x v ds (ready {t = t}) s n = absurd (none_some (leftmost (erased t)) n s)
 some_more x v ds (contract {ws = ws} at l e c r) s n = omega arith
 
 append_nil : (ls : List Label) → ls ++ [] ≡ ls

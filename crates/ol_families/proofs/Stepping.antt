@@ -2,6 +2,7 @@
 use Rattle.std.proofs.Common.{◌≡◌, ℕ, ◌+◌, ◌<◌, ◌≤◌, Bool, true, false, if◌then◌else◌, List}
 use Rattle.std.proofs.Common.{Option, Some, None, refl, sym, ap, ◌∙◌, subst}
 use Rattle.std.specs.Prelude.{IsSome}
+use Rattle.std.proofs.lemmas.Option.{none-some}
 use Rattle.ol_beta.specs.Beta as beta
 use Rattle.ol_beta.specs.Beta.{IsWithin, IsPastAfter}
 use Rattle.ol_beta.specs.Leftmost.{leftmost}
@@ -23,9 +24,6 @@ clash e = cc
 is_something : {A : Type 0} (o : Option A) (x : A) → o ≡ Some x → IsSome o
 is_something o x e = subst IsSome (sym e) refl
 
-none_some : {A : Type 0} (o : Option A) (x : A) → o ≡ None → o ≡ Some x → ⊥
-none_some o x e d = cc
-
 something : {A : Type 0} (o : Option A) → IsSome o → (x : A) × (o ≡ Some x)
 something None h = absurd (clash h)
 something (Some x) h = (x, refl)
@@ -38,7 +36,7 @@ pub no_degree : (t : Held) (at : List ℕ) → IsSome (contracted 0 t at) → de
 no_degree t at h e =
     let s = something (contracted 0 t at) h in
     let d = has_degree 0 t at s.0 s.1 in
-    none_some (degree t at) d.0 e d.1
+    none-some d.0 (sym e ∙ d.1)
 
 -- and can be contracted, whatever number its degree has
 pub is_found : (t u : Held) (at : List ℕ) (k : ℕ) (b : Bool) → IsSome (contracted 0 t at) →
@@ -48,9 +46,9 @@ is_found t u at k false h e =
     by (contracted 0 t at) (contracted k t at) (something (contracted 0 t at) h) e (alike_contracted 0 k t at)
   where
     by : (x y : Option Held) → (v : Held) × (x ≡ Some v) → y ≡ None → Alike 0 k x y → false ≡ true
-    by None y s e l = absurd (none_some None s.0 refl s.1)
+    by None y s e l = absurd (none-some s.0 s.1)
     by (Some v) None s e l = absurd l
-    by (Some v) (Some w) s e l = absurd (none_some (Some w) w e refl)
+    by (Some v) (Some w) s e l = absurd (none-some w (sym e))
 
 module _ (t : Tree) (made most : ℕ) (here : Tree) (old : Labelling)
     (f : Follows t made here (held_of old.term) (degrees_of old.degrees) old.written) where

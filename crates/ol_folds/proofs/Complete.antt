@@ -4,6 +4,7 @@ use Rattle.std.proofs.Common.{refl, sym, ap, ◌∙◌, subst, arith, eqb-true}
 use Rattle.std.specs.Prelude.{◌==◌, if◌then◌else◌, slice_get, IsSome}
 use Rattle.std.specs.Option.{option_map}
 use Rattle.std.proofs.lemmas.Bool.{and_parts, ltb-true}
+use Rattle.std.proofs.lemmas.Option.{same_Some}
 use Rattle.ol_term.specs.Trees.{Tree, var, free, lam, app, is_below, is_named_below}
 use Rattle.ol_beta.specs.Beta.{contracted}
 use Rattle.ol_folds.specs.Folded.{is_same, value_at, or_name, all_folded, folded_round}
@@ -16,9 +17,6 @@ clash e = absurd (cc)
 no_tree : (v : Tree) → None ≡ Some v → ⊥
 no_tree v e = absurd (cc)
 
-pub tree_is : (t v : Tree) → Some t ≡ Some v → t ≡ v
-tree_is t v e = cc
-
 below_none : (k : ℕ) → nat_lt k 0 ≡ true → ⊥
 below_none k h = let l = ltb-true k 0 h in absurd (omega (arith, l))
 
@@ -28,7 +26,7 @@ below_none k h = let l = ltb-true k 0 h in absurd (omega (arith, l))
 has_number : (n : ℕ) (vs : List Tree) (k : ℕ) (v : Tree) → slice_get vs k ≡ Some v → value_at n vs v ≡ None → ⊥
 has_number n [] k v e h = absurd (cc)
 has_number n (w ∷ vs) zero v e h =
-    let same : w ≡ v = tree_is w v e in
+    let same : w ≡ v = same_Some w v e in
     first (is_same w v) (subst (λ (u : Tree). is_same u v ≡ true) (sym same) (same_itself v)) h
   where
     first : (b : Bool) → b ≡ true → (if b then Some n else value_at (n + 1) vs v) ≡ None → ⊥
@@ -73,10 +71,10 @@ part_is_none n vs k v t u e named is h =
 
 -- the whole tree is the subterm at the empty address
 pub root_is : (u v : Tree) → subterm_along u [] ≡ Some v → u ≡ v
-root_is (var j) v e = tree_is (var j) v e
-root_is (free j) v e = tree_is (free j) v e
-root_is (lam t) v e = tree_is (lam t) v e
-root_is (app f a) v e = tree_is (app f a) v e
+root_is (var j) v e = same_Some (var j) v e
+root_is (free j) v e = same_Some (free j) v e
+root_is (lam t) v e = same_Some (lam t) v e
+root_is (app f a) v e = same_Some (app f a) v e
 
 -- the move of an address to a redex, and the rest of it
 pub body_move : (t : Tree) (m : ℕ) (at : List ℕ) → IsSome (contracted (lam t) (m ∷ at)) → (m ≡ 0) × IsSome (contracted t at)
@@ -136,9 +134,9 @@ module _ (n : ℕ) (vs : List Tree) (k : ℕ) (v : Tree) (among : slice_get vs k
       go false false r s e = no_tree v e
 
   none_left : (t : Tree) (at : List ℕ) → subterm_along (all_folded n vs t) at ≡ Some v → ⊥
-  none_left (var j) [] e = not_whole (var j) (tree_is (var j) v e)
+  none_left (var j) [] e = not_whole (var j) (same_Some (var j) v e)
   none_left (var j) (m ∷ at) e = no_tree v e
-  none_left (free j) [] e = not_whole (free j) (tree_is (free j) v e)
+  none_left (free j) [] e = not_whole (free j) (same_Some (free j) v e)
   none_left (free j) (m ∷ at) e = no_tree v e
   none_left (lam t) [] e = not_whole (lam t) (root_is (all_folded n vs (lam t)) v e)
   none_left (lam t) (m ∷ at) e = go (value_at n vs (lam t)) (none_left t at) e

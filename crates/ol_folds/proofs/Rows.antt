@@ -1,9 +1,9 @@
 -- Names of lets, and their values.
-use Rattle.std.proofs.Common.{◌≡◌, ℕ, zero, suc, ◌+◌, ◌<◌, ◌≤◌, ◌⊎◌, inl, inr, Bool, true, false, ◌&&◌, ◌||◌, not, List, [], ◌∷◌, ◌++◌, length, map}
+use Rattle.std.proofs.Common.{◌≡◌, ℕ, zero, suc, ◌+◌, ◌<◌, ◌≤◌, ◌⊎◌, inl, inr, Bool, true, false, ◌&&◌, ◌||◌, not, List, [], ◌∷◌, ◌++◌, length}
 use Rattle.std.proofs.Common.{Option, Some, None, refl, sym, ap, ◌∙◌, subst, arith, append_assoc}
-use Rattle.std.specs.Prelude.{◌≢◌, if◌then◌else◌, nat_le, slice_get}
+use Rattle.std.specs.Prelude.{if◌then◌else◌, nat_le, slice_get}
 use Rattle.std.specs.Str.{bytes_eq}
-use Rattle.std.proofs.lemmas.Bool.{and_parts, and_from, or_parts, cases_lt, leb-true, le-leb}
+use Rattle.std.proofs.lemmas.Bool.{and_parts, and_from, or_parts, cases_lt, leb-true, le-leb, not-true}
 use Rattle.std.proofs.lemmas.List.{map-append}
 use Rattle.ol_term.specs.Trees as tree
 use Rattle.ol_term.specs.Trees.{Tree, is_below, is_named_below, term_size, depth}
@@ -89,10 +89,6 @@ none_twice xs x once new j k y e f = go (cases_lt j (length xs)) (cases_lt k (le
         let q = (outside xs k y b f).0 in
         omega (arith, r, q)
 
-not_true : (b : Bool) → not b ≡ true → b ≡ false
-not_true true e = absurd (cc)
-not_true false e = refl
-
 pub append_none : (xs : List (List ℕ)) → xs ≡ xs ++ []
 append_none [] = refl
 append_none (x ∷ xs) = ap (λ (ys : List (List ℕ)). x ∷ ys) (append_none xs)
@@ -121,7 +117,7 @@ fresh_name : (names later : List (List ℕ)) (x : List ℕ) (o : Option Tree) (c
     (closed && not (is_among (names ++ later) x)) ≡ true →
     is_among (names ++ names_of_lets (if_small (lets names later) o)) x ≡ false
 fresh_name names later x o closed h =
-    let new = not_true (is_among (names ++ later) x) (and_parts closed (not (is_among (names ++ later) x)) h).1 in
+    let new = not-true (is_among (names ++ later) x) (and_parts closed (not (is_among (names ++ later) x)) h).1 in
     let p = or_parts (is_among names x) (is_among later x) (sym (among_both names later x) ∙ new) in
     let rows = names_of_lets (if_small (lets names later) o) in
     among_both names rows x

@@ -42,7 +42,7 @@ use Rattle.ol_grades.specs.declared.reading.Bounds.{Bounds}
 use Rattle.ol_grades.specs.declared.holding.Seen.{Seen}
 use Rattle.ol_grades.specs.Reads.{HasTree}
 use Rattle.ol_grades.specs.Grades as grades
-use Rattle.ol_grades.specs.Grades.{IsTermText, Compares, HaveThere}
+use Rattle.ol_grades.specs.Grades.{IsTermText, HaveThere}
 use Rattle.ol_grades.specs.Laws.{HeadsDiffer}
 use Rattle.ol_grades.proofs.Alone.{net_is}
 use Rattle.ol_grades.proofs.Bounded.{sum_lams, few_binders, few_round}

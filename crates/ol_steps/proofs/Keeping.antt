@@ -5,9 +5,8 @@ use Rattle.std.specs.Prelude.{slice_get}
 use Rattle.std.specs.Option.{option_map}
 use Rattle.std.proofs.lemmas.Bool.{cases_lt}
 use Rattle.std.proofs.lemmas.List.{map-append}
-use Rattle.std.proofs.lemmas.Option.{slice_get-map, slice_get_read}
+use Rattle.std.proofs.lemmas.Option.{same_Some, slice_get-map, slice_get_read}
 use Rattle.ol_term.specs.Trees.{Tree, tree_of}
-use Rattle.ol_folds.proofs.Complete.{tree_is}
 use Rattle.ol_steps.specs.declared.earlier.Earlier.{Earlier}
 use Rattle.ol_steps.specs.Kept.{terms_of}
 
@@ -39,5 +38,5 @@ not_next kept t k e l is none differs j m f = go (cases_lt j k)
     go (inl a) = none j a f
     go (inr a) =
         let q : k ≡ j = omega (arith, a, m) in
-        differs (tree_is (tree_of e.term) t
+        differs (same_Some (tree_of e.term) t
         (sym (got_kept kept k e l is) ∙ ap (λ (i : ℕ). slice_get (terms_of kept) i) q ∙ f))

@@ -1,10 +1,10 @@
 -- The last line of an answer, and the lines before it.
-use Rattle.std.proofs.Common.{◌≡◌, ℕ, zero, suc, ◌+◌, ◌<◌, ◌==◌, ◌%◌, ◌/◌, inl, inr, Bool, true, false, cond, nat_eq, not}
+use Rattle.std.proofs.Common.{◌≡◌, ℕ, zero, suc, ◌+◌, ◌==◌, ◌%◌, ◌/◌, inl, inr, Bool, true, false, cond, nat_eq, not}
 use Rattle.std.proofs.Common.{List, [], ◌∷◌, ◌++◌, append_assoc, codes, Option, Some, refl, sym, ap, ◌∙◌, subst, arith}
 use Rattle.std.specs.Prelude.{◌&&◌, if◌then◌else◌}
+use Rattle.core.proofs.fmt.DigitsParse.{glyph_decimal}
 use Rattle.std.specs.Fmt.{decimal, digits, digits_onto, digit_glyph}
-use Rattle.std.proofs.lemmas.Bool.{ne_eqb, and_parts}
-use Rattle.std.proofs.lemmas.Bool.Decides.{nat_tests}
+use Rattle.std.proofs.lemmas.Bool.{ne_eqb, and_parts, not-true}
 use Rattle.ol_term.specs.Trees.{Tree}
 use Rattle.ol_beta.specs.AddressTexts.{address_text}
 use Rattle.ol_strategies.specs.Redexes.{next}
@@ -30,25 +30,18 @@ abbrev no_feed : List ℕ → Bool
 no_feed [] = true
 no_feed (b ∷ bs) = not (nat_eq b 10) && no_feed bs
 
-not_true : (b : Bool) → not b ≡ true → b ≡ false
-not_true true e = absurd (cc)
-not_true false e = refl
-
 is_line : (bs : List ℕ) → no_feed bs ≡ true → IsLine bs
 is_line [] h = tt
 is_line (b ∷ bs) h =
-    let p = and_parts (not (nat_eq b 10)) (no_feed bs) h in (not_true (nat_eq b 10) p.0, is_line bs p.1)
+    let p = and_parts (not (nat_eq b 10)) (no_feed bs) h in (not-true (nat_eq b 10) p.0, is_line bs p.1)
 
 both_lines : (bs cs : List ℕ) → IsLine bs → IsLine cs → IsLine (bs ++ cs)
 both_lines [] cs h i = i
 both_lines (b ∷ bs) cs h i = (h.0, both_lines bs cs h.1 i)
 
-glyph_is : (d : ℕ) → d < 10 → digit_glyph false d ≡ 48 + d
-glyph_is d h = grind (arith, nat_tests)
-
 glyph_line : (n : ℕ) → nat_eq (digit_glyph false (n % 10)) 10 ≡ false
 glyph_line n =
-    ne_eqb (digit_glyph false (n % 10)) 10 (λ e. let i = glyph_is (n % 10) (omega arith) in absurd (omega (arith, e, i)))
+    ne_eqb (digit_glyph false (n % 10)) 10 (λ e. let i = glyph_decimal (n % 10) (omega arith) in absurd (omega (arith, e, i)))
 
 digits_line : (k n : ℕ) (bs : List ℕ) → IsLine bs → IsLine (digits_onto k 10 false n bs)
 digits_line zero n bs h = h

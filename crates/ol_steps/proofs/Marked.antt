@@ -6,12 +6,14 @@ use Rattle.std.specs.Prelude.{◌==◌, if◌then◌else◌, slice_get, slice_in
 use Rattle.std.specs.Option.{option_map}
 use Rattle.std.proofs.lemmas.Bool.{and_parts}
 use Rattle.std.proofs.lemmas.List.{append-nil, length_push}
+use Rattle.std.proofs.lemmas.Option.{same_Some}
 use Rattle.ol_term.specs.Trees as tree
 use Rattle.ol_term.specs.Trees.{Tree, is_named_below}
 use Rattle.ol_term.specs.BinderNames.{binder_name}
 use Rattle.ol_parse.specs.Grammar.{Named, var, lam, app}
 use Rattle.ol_parse.specs.Numbered.{position_of, var_at, numbered}
 use Rattle.ol_beta.specs.Beta.{contracted, applied}
+use Rattle.ol_beta.proofs.Redexes.{some_map}
 use Rattle.ol_strategies.proofs.Nexts.{next_is_redex}
 use Rattle.ol_named.specs.Marks.{part}
 use Rattle.ol_named.specs.Lettered.{lettered}
@@ -23,7 +25,7 @@ use Rattle.ol_binders.specs.Binders.{Binders, Fits}
 use Rattle.ol_binders.specs.Naming as own
 use Rattle.ol_folds.specs.Folded.{value_at, or_name, all_folded, folded_round, folded_at, pruned}
 use Rattle.ol_folds.specs.Laws.{unfolded, subterm_along}
-use Rattle.ol_folds.proofs.Complete.{tree_is, root_is}
+use Rattle.ol_folds.proofs.Complete.{root_is}
 use Rattle.ol_folds.proofs.Values.{leads_to}
 use Rattle.ol_folds.proofs.Unfolding.{unfolded_is_term, no_value_no_change, folded_fits}
 use Rattle.ol_steps.specs.declared.stepping.Shown.{Shown}
@@ -37,10 +39,6 @@ pub take_on : (ms : List ℕ) (k m : ℕ) → slice_get ms k ≡ Some m → take
 take_on [] k m h = absurd (cc)
 take_on (d ∷ ms) zero m h = let is : d ≡ m = cc in ap (λ (x : ℕ). x ∷ []) is
 take_on (d ∷ ms) (suc k) m h = ap (λ (bs : List ℕ). d ∷ bs) (take_on ms k m h)
-
-map_some : (f : Tree → Tree) (o : Option Tree) → IsSome (option_map f o) → IsSome o
-map_some f None h = absurd (cc)
-map_some f (Some u) h = refl
 
 -- ---- a term with names is shown for a tree
 
@@ -130,7 +128,7 @@ module _ (g : Glossary) where
       Leads (IsFoldedRedex g) w (m ∷ at)
   body b m e x (var y) at o more s h = absurd s
   body true m e x (lam y u) at o more s h =
-      under (IsFoldedRedex g) y u at m (eqb-true m 0 e) (more u s (map_some tree.lam o h))
+      under (IsFoldedRedex g) y u at m (eqb-true m 0 e) (more u s (some_map tree.lam o h))
   body false m e x (lam y u) at o more s h = absurd (cc)
   body b m e x (app u v) at o more s h = absurd s
 
@@ -140,7 +138,7 @@ module _ (g : Glossary) where
   argument b m e f y z (var x) at o more s h = absurd s
   argument b m e f y z (lam x u) at o more s h = absurd s
   argument true m e f y z (app u v) at o more s h =
-      right (IsFoldedRedex g) u v at m (eqb-true m 2 e) (more v s.1 (map_some (tree.app f) o h))
+      right (IsFoldedRedex g) u v at m (eqb-true m 2 e) (more v s.1 (some_map (tree.app f) o h))
   argument false m e f y z (app u v) at o more s h = absurd (cc)
 
   function_part : (a : Tree) (m : ℕ) → m ≡ 1 → (x z : Tree) (w : Named) (at : List ℕ) (o : Option Tree) → Found x o at →
@@ -148,7 +146,7 @@ module _ (g : Glossary) where
   function_part a m e x z (var y) at o more s h = absurd s
   function_part a m e x z (lam y u) at o more s h = absurd s
   function_part a m e x z (app u v) at o more s h =
-      left (IsFoldedRedex g) u v at m e (more u s.0 (map_some (λ (t : Tree). tree.app t a) o h))
+      left (IsFoldedRedex g) u v at m e (more u s.0 (some_map (λ (t : Tree). tree.app t a) o h))
 
   -- each part of an application, where x and y are the two folded round what is at the address, and w and z without
   parts : (b : Bool) (m : ℕ) → (m == 1) ≡ b → (f a x z y v : Tree) (w : Named) (at : List ℕ) (o q : Option Tree) →
@@ -253,7 +251,7 @@ module _ (n : ℕ) (vs : List Tree) where
   stands_body : (b : Bool) (o p q : Option Tree) → (IsSome o → StandsFor n vs p q) →
       IsSome (if b then option_map tree.lam o else None) →
       StandsFor n vs (if b then p else None) (if b then q else None)
-  stands_body true o p q more h = more (map_some tree.lam o h)
+  stands_body true o p q more h = more (some_map tree.lam o h)
   stands_body false o p q more h = absurd (cc)
 
   -- each part of an application; x and z are the function folded round what is at the address and without, v and y the
@@ -268,7 +266,7 @@ module _ (n : ℕ) (vs : List Tree) where
       subst (λ (c : Bool). StandsFor n vs
       (if c then subterm_along x at else if m == 2 then subterm_along z at else None)
       (if c then subterm_along f at else if m == 2 then subterm_along a at else None)) (sym e)
-      (more (map_some (λ (t : Tree). tree.app t a) o h))
+      (more (some_map (λ (t : Tree). tree.app t a) o h))
   stands_parts false m e at f a x z y v o q more rest h =
       subst (λ (c : Bool). StandsFor n vs
       (if c then subterm_along y at else if m == 2 then subterm_along v at else None)
@@ -277,7 +275,7 @@ module _ (n : ℕ) (vs : List Tree) where
     where
       go : (c : Bool) → IsSome (if c then option_map (tree.app f) q else None) →
           StandsFor n vs (if c then subterm_along v at else None) (if c then subterm_along a at else None)
-      go true i = rest (map_some (tree.app f) q i)
+      go true i = rest (some_map (tree.app f) q i)
       go false i = absurd (cc)
 
   stands : (t : Tree) (at : List ℕ) → is_named_below n t ≡ true → IsSome (contracted t at) →
@@ -351,7 +349,7 @@ abbrev Lettered : List (List ℕ) → ℕ → Tree → Named → List ℕ → Ty
 Lettered names n v u at = part u at ≡ lettered names (length (binders_round u at) + n) v
 
 root_lettered : (names : List (List ℕ)) (n : ℕ) (t v : Tree) → Some t ≡ Some v → lettered names n t ≡ lettered names (0 + n) v
-root_lettered names n t v h = ap (lettered names n) (tree_is t v h) ∙ ap (λ (k : ℕ). lettered names k v) (omega arith)
+root_lettered names n t v h = ap (lettered names n) (same_Some t v h) ∙ ap (λ (k : ℕ). lettered names k v) (omega arith)
 
 lettered_part : (names : List (List ℕ)) (t v : Tree) (n : ℕ) (at : List ℕ) → subterm_along t at ≡ Some v →
     Lettered names n v (lettered names n t) at
@@ -394,18 +392,18 @@ IsNamedPart names round v s u at = part u at ≡ own.named names (binders_round 
 named_part : (names : List (List ℕ)) (t v : Tree) (round : List (List ℕ)) (s : Binders) (at : List ℕ) → Fits t s →
     subterm_along t at ≡ Some v → IsNamedPart names round v s (own.named names round t s) at
 named_part names (tree.var k) v round binders.leaf [] fits h =
-    ap (λ (w : Tree). own.named names round w binders.leaf) (tree_is (tree.var k) v h)
+    ap (λ (w : Tree). own.named names round w binders.leaf) (same_Some (tree.var k) v h)
 named_part names (tree.var k) v round binders.leaf (m ∷ at) fits h = absurd (cc)
 named_part names (tree.var k) v round (binders.lam x s) at fits h = absurd fits
 named_part names (tree.var k) v round (binders.app r s) at fits h = absurd fits
 named_part names (tree.free k) v round binders.leaf [] fits h =
-    ap (λ (w : Tree). own.named names round w binders.leaf) (tree_is (tree.free k) v h)
+    ap (λ (w : Tree). own.named names round w binders.leaf) (same_Some (tree.free k) v h)
 named_part names (tree.free k) v round binders.leaf (m ∷ at) fits h = absurd (cc)
 named_part names (tree.free k) v round (binders.lam x s) at fits h = absurd fits
 named_part names (tree.free k) v round (binders.app r s) at fits h = absurd fits
 named_part names (tree.lam t) v round binders.leaf at fits h = absurd fits
 named_part names (tree.lam t) v round (binders.lam x s) [] fits h =
-    ap (λ (w : Tree). own.named names round w (binders.lam x s)) (tree_is (tree.lam t) v h)
+    ap (λ (w : Tree). own.named names round w (binders.lam x s)) (same_Some (tree.lam t) v h)
 named_part names (tree.lam t) v round (binders.lam x s) (m ∷ at) fits h =
     go (m == 0) h (named_part names t v (own.primed (own.used 1 names round t) x ∷ round) s at fits)
   where
@@ -425,7 +423,7 @@ named_part names (tree.lam t) v round (binders.app r s) at fits h = absurd fits
 named_part names (tree.app f a) v round binders.leaf at fits h = absurd fits
 named_part names (tree.app f a) v round (binders.lam x s) at fits h = absurd fits
 named_part names (tree.app f a) v round (binders.app r s) [] fits h =
-    ap (λ (w : Tree). own.named names round w (binders.app r s)) (tree_is (tree.app f a) v h)
+    ap (λ (w : Tree). own.named names round w (binders.app r s)) (same_Some (tree.app f a) v h)
 named_part names (tree.app f a) v round (binders.app r s) (m ∷ at) fits h =
     go (m == 1) (m == 2) h (named_part names f v round r at fits.0) (named_part names a v round s at fits.1)
   where
@@ -468,7 +466,7 @@ read_part names round (var x) v (m ∷ at) h =
     leaf (Some k) p = refl
     leaf None (Some k) = refl
     leaf None None = refl
-read_part names round (lam x t) v [] h = tree_is (numbered names round (lam x t)) v h
+read_part names round (lam x t) v [] h = same_Some (numbered names round (lam x t)) v h
 read_part names round (lam x t) v (m ∷ at) h = go (m == 0) h (read_part names (x ∷ round) t v at)
   where
     go : (b : Bool) → (if b then subterm_along (numbered names (x ∷ round) t) at else None) ≡ Some v →
@@ -478,7 +476,7 @@ read_part names round (lam x t) v (m ∷ at) h = go (m == 0) h (read_part names 
     go true i more =
         ap (λ (r : List (List ℕ)). numbered names r (part t at)) (append_assoc (binders_round t at) (x ∷ []) round) ∙ more i
     go false i more = absurd (cc)
-read_part names round (app f a) v [] h = tree_is (numbered names round (app f a)) v h
+read_part names round (app f a) v [] h = same_Some (numbered names round (app f a)) v h
 read_part names round (app f a) v (m ∷ at) h =
     go (m == 1) (m == 2) h (read_part names round f v at) (read_part names round a v at)
   where

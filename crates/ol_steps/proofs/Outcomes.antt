@@ -1,9 +1,11 @@
 -- What an answer tells of a walk, whatever is shown of its terms: answers of one walk end alike.
-use Rattle.std.proofs.Common.{◌≡◌, ℕ, ◌+◌, ◌<◌, ◌≤◌, inl, inr, List, ◌++◌, codes, length, Option, Some, None, IsSome}
+use Rattle.std.proofs.Common.{◌≡◌, ℕ, ◌+◌, ◌<◌, ◌≤◌, inl, inr, List, ◌++◌, codes, length, Option, Some}
 use Rattle.std.proofs.Common.{refl, sym, ap, ◌∙◌, subst, arith}
 use Rattle.std.specs.Prelude.{slice_get}
+use Rattle.std.proofs.lemmas.Option.{none-some}
 use Rattle.ol_term.specs.Trees.{Tree, term_size, depth}
 use Rattle.ol_beta.specs.Beta.{contracted, IsWithin, IsPast, IsPastAfter}
+use Rattle.ol_beta.proofs.Redexes.{none_some}
 use Rattle.ol_strategies.specs.Redexes.{next}
 use Rattle.ol_strategies.specs.Ends.{IsEnd}
 use Rattle.ol_strategies.proofs.Finals.{no_next_is_end, end_is_one}
@@ -19,11 +21,7 @@ use Rattle.ol_steps.specs.Steps.{Tells, ends, returns, left, past}
 use Rattle.ol_steps.specs.Laws.{HasLastLine}
 use Rattle.ol_steps.proofs.LastLines.{counted_line, reached_line, return_one, left_one, past_one, ends_with}
 use Rattle.ol_steps.proofs.LastLines.{shown_ends, redex_told}
-use Rattle.ol_steps.proofs.Returns.{none_some}
 use Rattle.ol_steps.proofs.OneWalk.{Stops, one_stop, redex_in, one_place}
-
-no_and_some : {A : Type 0} (o : Option A) (x : A) → o ≡ None → o ≡ Some x → ⊥
-no_and_some o x e i = absurd (cc)
 
 same_some : {A : Type 0} (o : Option A) (x y : A) → o ≡ Some x → o ≡ Some y → x ≡ y
 same_some o x y e i = cc
@@ -102,9 +100,9 @@ one_outcome {o} {t} {v} {terms} most A B text line A' B' text' line' e f walk (e
 one_outcome {o} {t} {v} {terms} most A B text line A' B' text' line' e f walk (ended x) (returned y) =
     absurd (none_some (next o v) ((no_next_is_end o v).1 (x.word, x.normal)) (redex_in walk y.k v y.found))
 one_outcome {o} {t} {v} {terms} most A B text line A' B' text' line' e f walk (ended x) (cut y) =
-    absurd (no_and_some (next o v) y.at ((no_next_is_end o v).1 (x.word, x.normal)) y.redex)
+    absurd (none-some y.at (sym ((no_next_is_end o v).1 (x.word, x.normal)) ∙ y.redex))
 one_outcome {o} {t} {v} {terms} most A B text line A' B' text' line' e f walk (ended x) (outgrown y) =
-    absurd (no_and_some (next o v) y.at ((no_next_is_end o v).1 (x.word, x.normal)) y.redex)
+    absurd (none-some y.at (sym ((no_next_is_end o v).1 (x.word, x.normal)) ∙ y.redex))
 one_outcome {o} {t} {v} {terms} most A B text line A' B' text' line' e f walk (returned x) (ended y) =
     absurd (none_some (next o v) ((no_next_is_end o v).1 (y.word, y.normal)) (redex_in walk x.k v x.found))
 one_outcome {o} {t} {v} {terms} most A B text line A' B' text' line' e f walk (returned x) (returned y) =
@@ -119,7 +117,7 @@ one_outcome {o} {t} {v} {terms} most A B text line A' B' text' line' e f walk (r
 one_outcome {o} {t} {v} {terms} most A B text line A' B' text' line' e f walk (returned x) (outgrown y) =
     absurd (y.new x.k x.found)
 one_outcome {o} {t} {v} {terms} most A B text line A' B' text' line' e f walk (cut x) (ended y) =
-    absurd (no_and_some (next o v) x.at ((no_next_is_end o v).1 (y.word, y.normal)) x.redex)
+    absurd (none-some x.at (sym ((no_next_is_end o v).1 (y.word, y.normal)) ∙ x.redex))
 one_outcome {o} {t} {v} {terms} most A B text line A' B' text' line' e f walk (cut x) (returned y) =
     absurd (x.new y.k y.found)
 one_outcome {o} {t} {v} {terms} most A B text line A' B' text' line' e f walk (cut x) (cut y) =
@@ -133,7 +131,7 @@ one_outcome {o} {t} {v} {terms} most A B text line A' B' text' line' e f walk (c
     let j = y.less in
     absurd (omega (arith, i, j))
 one_outcome {o} {t} {v} {terms} most A B text line A' B' text' line' e f walk (outgrown x) (ended y) =
-    absurd (no_and_some (next o v) x.at ((no_next_is_end o v).1 (y.word, y.normal)) x.redex)
+    absurd (none-some x.at (sym ((no_next_is_end o v).1 (y.word, y.normal)) ∙ x.redex))
 one_outcome {o} {t} {v} {terms} most A B text line A' B' text' line' e f walk (outgrown x) (returned y) =
     absurd (x.new y.k y.found)
 one_outcome {o} {t} {v} {terms} most A B text line A' B' text' line' e f walk (outgrown x) (cut y) =
@@ -180,7 +178,7 @@ module _ (how : Shown) (g : Glossary) (lets most : ℕ) (t : Tree) (s : Binders)
     stops = record {
       walk = walk;
       few = few;
-      last = λ less on. no_and_some (next how.order v) on.step.0 ((no_next_is_end how.order v).1 (word, end)) on.step.1;
+      last = λ less on. none-some on.step.0 (sym ((no_next_is_end how.order v).1 (word, end)) ∙ on.step.1);
     };
     outcome = ended (record { word = word; normal = end; text_is = is; line_is = refl; end_is = refl });
     last = ends_with text (lines_to how g lets s terms v) (last_line (reached_words word) (length terms)) is

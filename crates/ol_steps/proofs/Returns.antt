@@ -5,6 +5,7 @@ use Rattle.std.specs.Prelude.{slice_get}
 use Rattle.ol_term.specs.Trees.{Tree}
 use Rattle.ol_beta.specs.Beta.{contracted}
 use Rattle.ol_beta.specs.Leftmost.{leftmost}
+use Rattle.ol_beta.proofs.Redexes.{none_some}
 use Rattle.ol_law_edges.proofs.Lists.{got_append}
 use Rattle.ol_law_meaning.specs.Shows.{LeftmostReduces, HeadReduces, HasHeadRedex, ready, contract}
 use Rattle.ol_law_confluence.specs.Reductions.{HasNormalForm}
@@ -72,10 +73,6 @@ endless o t v terms k walk e n u leads =
 there : (o : Option (List ℕ)) → IsSome o → (at : List ℕ) × (o ≡ Some at)
 there None h = absurd (cc)
 there (Some at) h = (at, refl)
-
-pub none_some : {A : Type 0} (o : Option A) → o ≡ None → IsSome o → ⊥
-none_some None e h = absurd (cc)
-none_some (Some x) e h = absurd (cc)
 
 some_of : (o : Option Tree) (u : Tree) → o ≡ Some u → IsSome o
 some_of None u e = absurd (cc)

@@ -6,7 +6,7 @@ use Rattle.std.specs.Option.{option_map, option_or}
 use Rattle.ol_term.specs.Trees.{Tree, var, free, lam, app}
 use Rattle.ol_beta.specs.Beta.{contracted}
 use Rattle.ol_beta.specs.Leftmost.{is_abstraction, under, leftmost, IsNormal}
-use Rattle.ol_beta.proofs.Redexes.{no_under, no_leftmost, leftmost_first, map_some, map_none, both_none, abstraction_applied}
+use Rattle.ol_beta.proofs.Redexes.{no_under, no_leftmost, leftmost_first, map_some, some_map, map_none, both_none, abstraction_applied}
 use Rattle.ol_law_meaning.specs.Shows.{IsHeadAddress}
 use Rattle.ol_strategies.specs.Redexes.{head_redex, weak_head_redex, root_if, applicative_redex, is_value, value_redex}
 use Rattle.ol_strategies.specs.Searches.{spine_redex, is_ready, strict_redex}
@@ -235,10 +235,6 @@ head_address (lam t) at e =
     (suc h.0, h.1, r.2 ∙ ap (λ (x : List ℕ). 0 ∷ x) h.2)
 head_address (app f a) at e = let r = by_functions (app f a) at refl e in (0, r.0, r.1)
 
-map_is : (f : Tree → Tree) (o : Option Tree) → IsSome (option_map f o) → IsSome o
-map_is f None h = h
-map_is f (Some t) h = refl
-
 -- moves into functions lead to no redex from an abstraction
 plain : (k : ℕ) (t : Tree) → IsSome (contracted t (replicate k 1)) → is_abstraction t ≡ false
 plain zero (lam t) e = absurd (cc)
@@ -264,7 +260,7 @@ at_functions (suc k) (var y) e = absurd (cc)
 at_functions (suc k) (free f) e = absurd (cc)
 at_functions (suc k) (lam t) e = absurd (cc)
 at_functions (suc k) (app f a) e =
-    let h = map_is (λ (g : Tree). app g a) (contracted f (replicate k 1)) e in
+    let h = some_map (λ (g : Tree). app g a) (contracted f (replicate k 1)) e in
     else_under (is_abstraction f) (head_redex f) (replicate k 1) (plain k f h) (at_functions k f h)
 
 at_bodies : (n k : ℕ) (t : Tree) → IsSome (contracted t (replicate n 0 ++ replicate k 1)) →
@@ -273,7 +269,7 @@ at_bodies zero k t e = at_functions k t e
 at_bodies (suc n) k (var y) e = absurd (cc)
 at_bodies (suc n) k (free f) e = absurd (cc)
 at_bodies (suc n) k (lam t) e = ap (λ (o : Option (List ℕ)). under 0 o)
-    (at_bodies n k t (map_is lam (contracted t (replicate n 0 ++ replicate k 1)) e))
+    (at_bodies n k t (some_map lam (contracted t (replicate n 0 ++ replicate k 1)) e))
 at_bodies (suc n) k (app f a) e = absurd (cc)
 
 pub at_head_address : HeadIsAtHeadAddress

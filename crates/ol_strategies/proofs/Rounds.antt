@@ -1,5 +1,6 @@
 -- An order has one step from a term; so where a term comes back, the order has no end.
 use Rattle.std.proofs.Common.{◌≡◌, ℕ, zero, suc, ◌+◌, ◌<◌, List, Option, Some, None, IsSome, refl, sym, ap, ◌∙◌, subst, arith}
+use Rattle.std.proofs.lemmas.Option.{none-some, same_Some}
 use Rattle.ol_term.specs.Trees.{Tree}
 use Rattle.ol_beta.specs.Beta.{contracted}
 use Rattle.ol_strategies.specs.Redexes.{next}
@@ -7,16 +8,10 @@ use Rattle.ol_strategies.specs.Reductions.{Leads}
 use Rattle.ol_strategies.specs.Laws.{StepIsOne, ReductIsOne, ReturnIsEndless}
 use Rattle.ol_strategies.specs.declared.orders.Order.{Order}
 
-some_is : (x y : List ℕ) → Some x ≡ Some y → x ≡ y
-some_is x y e = cc
-
-tree_is : (x y : Tree) → Some x ≡ Some y → x ≡ y
-tree_is x y e = cc
-
 pub step_is_one : StepIsOne
 step_is_one order t u v s r =
-    let e : s.0 ≡ r.0 = some_is s.0 r.0 (sym s.1 ∙ r.1) in
-    tree_is u v (sym s.2 ∙ ap (λ (at : List ℕ). contracted t at) e ∙ r.2)
+    let e : s.0 ≡ r.0 = same_Some s.0 r.0 (sym s.1 ∙ r.1) in
+    same_Some u v (sym s.2 ∙ ap (λ (at : List ℕ). contracted t at) e ∙ r.2)
 
 pub reduct_is_one : ReductIsOne
 reduct_is_one order zero t u v s r = sym s ∙ r
@@ -24,15 +19,12 @@ reduct_is_one order (suc n) t u v s r =
     let e : s.0 ≡ r.0 = step_is_one order t s.0 r.0 s.1 r.1 in
     reduct_is_one order n r.0 u v (subst (λ (x : Tree). Leads order n x u) e s.2) r.2
 
-none_some : (o : Option (List ℕ)) (at : List ℕ) → o ≡ None → o ≡ Some at → ⊥
-none_some o at e f = let c : None ≡ Some at = sym e ∙ f in absurd (cc)
-
 -- what leads to an end goes on to it from each term on the way
 rest : (order : Order) (j m : ℕ) (t u w : Tree) → Leads order m t u → next order u ≡ None →
     Leads order j t w → (k : ℕ) × (m ≡ j + k) × Leads order k w u
 rest order zero m t u w s e r = (m, omega arith, subst (λ (x : Tree). Leads order m x u) r s)
 rest order (suc j) zero t u w s e r = absurd
-    (none_some (next order t) r.1.0 (ap (λ (x : Tree). next order x) s ∙ e) r.1.1)
+    (none-some r.1.0 (sym (ap (λ (x : Tree). next order x) s ∙ e) ∙ r.1.1))
 rest order (suc j) (suc m) t u w s e r =
     let f : s.0 ≡ r.0 = step_is_one order t s.0 r.0 s.1 r.1 in
     let k = rest order j m r.0 u w (subst (λ (x : Tree). Leads order m x u) f s.2) e r.2 in
