@@ -65,14 +65,14 @@ def wrong(term, runtime, seed, chance):
 
 
 def told(term, runtime, seed):
-    """By what a fault is told, or None."""
+    """By what a fault is told, or None. The journal is looked at first, also if no last net can be made."""
     try:
         whole = runtime["ran"](term.view, seed=seed)
-        journal, net = whole.journal(), whole.net()
+        if term.explained(whole.journal()) != "complete\n":
+            return "explain"
+        net = whole.net()
     except (KeyError, TypeError):
         return "falls"
-    if term.explained(journal) != "complete\n":
-        return "explain"
     return None if term.compared(net) == "same\n" else "same"
 
 
