@@ -3,6 +3,7 @@ pub mod Keeping
 pub mod Marked
 pub mod Walks
 pub mod Words
+pub mod Letters
 pub mod WeakHeads
 pub mod Returns
 pub mod Showable

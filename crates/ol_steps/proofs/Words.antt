@@ -34,7 +34,7 @@ use Rattle.ol_beta.proofs.Bound.{step_below}
 use Rattle.ol_strategies.specs.Redexes.{next}
 use Rattle.ol_strategies.specs.declared.orders.Order.{Order}
 use Rattle.ol_binders.specs.Contraction.{put_in, applied, contracted}
-use Rattle.ol_steps.specs.Steps.{Walk, starts, goes, glossary, binders_after, next_binders, last_binders}
+use Rattle.ol_steps.specs.Steps.{Walk, starts, goes, Glossary, glossary, binders_after, next_binders, last_binders}
 use Rattle.ol_steps.proofs.Named.{step_named}
 use Rattle.ol_steps.proofs.Walks.{binders_more}
 use Rattle.ol_binders.proofs.Fitting.{source_fits, contracted_fits}
@@ -43,7 +43,7 @@ use Rattle.ol_binders.proofs.Catching.{none_is_caught}
 use Rattle.ol_binders.proofs.Spelled.{named_is_read}
 
 -- each name of some binders is a name of the grammar
-abbrev HasNames : Binders → Type 0
+abbrev pub HasNames : Binders → Type 0
 HasNames binders.leaf = Unit {0}
 HasNames (binders.lam x s) = IsName x × HasNames s
 HasNames (binders.app r s) = HasNames r × HasNames s
@@ -113,7 +113,7 @@ primed_from_name taken (suc n) x h = go (is_among taken x) (primed_from_name tak
 primed_name : (taken : List (List ℕ)) (x : List ℕ) → IsName x → IsName (primed taken x)
 primed_name taken x h = primed_from_name taken (bytes_in taken + 1 - length x) x h
 
-name_at : (names : List (List ℕ)) (k : ℕ) → AreNames names → k < length names → IsName (slice_index_or names k [])
+pub name_at : (names : List (List ℕ)) (k : ℕ) → AreNames names → k < length names → IsName (slice_index_or names k [])
 name_at [] k h l = absurd (omega arith)
 name_at (x ∷ names) zero h l = h.0
 name_at (x ∷ names) (suc k) h l = name_at names k h.1 (omega arith)
@@ -189,7 +189,7 @@ contracted_names (tree.app f a) (binders.app r s) (m ∷ at) h =
 
 -- ---- along a walk
 
-record IsReadable (names : List (List ℕ)) (t : Tree) (s : Binders) : Type 0 where
+pub record IsReadable (names : List (List ℕ)) (t : Tree) (s : Binders) : Type 0 where
   pub words : HasNames s
   pub fits : Fits t s
   pub bound : is_below 0 t ≡ true
@@ -205,7 +205,7 @@ one_step order names u v b at redex step r =
       placed = step_named (length names) u at v r.placed step;
     })
 
-along : (order : Order) (names : List (List ℕ)) (t : Tree) (s : Binders) → IsReadable names t s →
+pub along : (order : Order) (names : List (List ℕ)) (t : Tree) (s : Binders) → IsReadable names t s →
     {terms : List Tree} {v : Tree} → Walk order t terms v → IsReadable names v (last_binders order s terms)
 along order names t s h starts = h
 along order names t s h (goes {terms = terms} {u = u} {v = v} walk new step within) =
@@ -219,7 +219,7 @@ source_names (var x) h = tt
 source_names (lam x t) h = (h.0, source_names t h.1)
 source_names (app f a) h = (source_names f h.0, source_names a h.1)
 
-readable : (bytes : List ℕ) (t : Named) → IsText bytes t → IsReadable (names_of t) (number t) (binders_of t)
+pub readable : (bytes : List ℕ) (t : Named) → IsText bytes t → IsReadable (names_of t) (number t) (binders_of t)
 readable bytes t i = record {
   words = source_names t (text_has_names bytes t i);
   fits = source_fits t;
@@ -293,29 +293,46 @@ rows_even : (names later : List (List ℕ)) (t : Tree) →
     length (names_of_lets (lets names later t)) ≡ length (values_of_lets (lets names later t))
 rows_even names later t = length-map (lets names later t) (λ row. row.0) ∙ sym (length-map (lets names later t) (λ row. row.1))
 
-folded_reads : (names : List (List ℕ)) (n : ℕ) (t : Tree) (s : Binders) (at : Option (List ℕ)) (v : Tree) (w : Binders) →
-    AreNames names → NoNameTwice names → HasNames s → IsReadable names v w →
-    (u : Named) × ReadsFolded (glossary names n t s) at v w u
-folded_reads names n t s at v w good once words r =
+-- the names of a glossary are good, and a folded tree has its places
+pub record IsPlaced (g : Glossary) (x : Tree) : Type 0 where
+  pub good : AreNames g.names
+  pub once : NoNameTwice g.names
+  pub bound : is_below 0 x ≡ true
+  pub placed : is_named_below (length g.names) x ≡ true
+
+pub folded_placed : (names : List (List ℕ)) (n : ℕ) (t : Tree) (s : Binders) (at : Option (List ℕ)) (v : Tree)
+    (w : Binders) → AreNames names → NoNameTwice names → HasNames s → IsReadable names v w →
+    IsPlaced (glossary names n t s) (folded_at (length names) (glossary names n t s).values at v)
+folded_placed names n t s at v w good once words r =
     let g = glossary names n t s in
     let later = let_names n s in
     let x = folded_at g.first g.values at v in
     let f = is_fold_of (length names) g.values at v in
     let l : length names + length g.values ≡ length g.names = ap (λ (k : ℕ). length names + k) (sym (rows_even names later t))
     ∙ sym (length-append names (names_of_lets (lets names later t))) in
-    let placed : is_named_below (length g.names) x ≡ true = ap (λ (k : ℕ). is_named_below k x) (sym l) ∙ f.named r.placed in
-    let bound : is_below 0 x ≡ true = f.below 0 r.bound in
+    record {
+      good = both_names names (names_of_lets (lets names later t)) good (let_words names later t (words_of_lets n s words));
+      once = lets_differ names later t once;
+      bound = f.below 0 r.bound;
+      placed = ap (λ (k : ℕ). is_named_below k x) (sym l) ∙ f.named r.placed;
+    }
+
+folded_reads : (names : List (List ℕ)) (n : ℕ) (t : Tree) (s : Binders) (at : Option (List ℕ)) (v : Tree) (w : Binders) →
+    AreNames names → NoNameTwice names → HasNames s → IsReadable names v w →
+    (u : Named) × ReadsFolded true (glossary names n t s) at v w u
+folded_reads names n t s at v w good once words r =
+    let g = glossary names n t s in
+    let x = folded_at g.first g.values at v in
+    let p = folded_placed names n t s at v w good once words r in
     let fits = folded_fits g.first g.values at v w r.fits in
-    let names_are = both_names names (names_of_lets (lets names later t)) good (let_words names later t (words_of_lets n s words)) in
-    let differ = lets_differ names later t once in (
+    let same = none_is_caught g.names x (pruned x w) p.once fits p.bound p.placed in (
       named g.names [] x (pruned x w),
       record {
         is = refl;
         text = named_is_read (named g.names [] x (pruned x w))
-            (all_names g.names [] x (pruned x w) names_are tt (pruned_names x w r.words) fits bound placed);
-        folded = none_is_caught g.names x (pruned x w) differ fits bound placed;
-        tree = ap (unfolded g.first g.values) (none_is_caught g.names x (pruned x w) differ fits bound placed)
-            ∙ unfolded_is_term g.first g.values at v r.placed;
+            (all_names g.names [] x (pruned x w) p.good tt (pruned_names x w r.words) fits p.bound p.placed);
+        folded = same;
+        tree = ap (unfolded g.first g.values) same ∙ unfolded_is_term g.first g.values at v r.placed;
       },
     )
 

@@ -1,9 +1,10 @@
 -- What a term that comes back says of the first term, what carets stand under, that what is printed is read again, and
 -- that how terms are shown changes no end.
-use Rattle.std.specs.Prelude.{◌≡◌, ℕ, ◌+◌, ◌==◌, Bool, true, false, if◌then◌else◌, ◌⊎◌, List, [], ◌∷◌, ◌++◌, codes, length}
+use Rattle.std.specs.Prelude.{◌≡◌, ℕ, ◌+◌, ◌^◌, ◌<◌, ◌==◌, Bool, true, false, if◌then◌else◌, ◌⊎◌, List, [], ◌∷◌, ◌++◌, codes, length}
 use Rattle.std.specs.Prelude.{slice_get, slice_index_or, Option, Some, is_some, IsSome}
 use Rattle.ol_term.specs.Trees as tree
 use Rattle.ol_term.specs.Trees.{Tree, is_named_below}
+use Rattle.ol_beta.specs.Beta.{IsWithin}
 use Rattle.ol_law_meaning.specs.Shows.{BetaReduces}
 use Rattle.ol_law_confluence.specs.Reductions.{HasNormalForm, HasHeadNormalForm}
 use Rattle.ol_strategies.specs.Redexes.{next}
@@ -165,10 +166,22 @@ ReadsAgain = (order : Order) (bytes : List ℕ) (source : Named) (v : Tree) (ter
     Walk order (number source) terms v →
     KeepsNames (names_of source) v (last_binders order (binders_of source) terms)
 
+-- A tree whose binders have letters: what is printed is read again, as a term of the same tree.
+pub record ReadsLetters (names : List (List ℕ)) (t : Tree) : Type 0 where
+  pub text : IsText (named_text false (lettered names 0 t)) (lettered names 0 t)
+  pub tree : numbered names [] (lettered names 0 t) ≡ t
+
+-- it is so with each term of a walk from the term of a text, if steps are made from that
+abbrev pub LettersReadAgain : Type 0
+LettersReadAgain = (order : Order) (bytes : List ℕ) (source : Named) (v : Tree) (terms : List Tree) → IsText bytes source →
+    IsWithin (number source) → length (names_of source) < 2 ^ 32 → Walk order (number source) terms v →
+    ReadsLetters (names_of source) v
+
 -- What is printed of a tree that is folded with a glossary: it is read again as the folded tree, and, where the values are
 -- put in the places of their names, as the tree.
-pub record ReadsFolded (g : Glossary) (at : Option (List ℕ)) (t : Tree) (s : Binders) (u : Named) : Type 0 where
-  pub is : u ≡ named g.names [] (folded_at g.first g.values at t) (pruned (folded_at g.first g.values at t) s)
+pub record ReadsFolded (own : Bool) (g : Glossary) (at : Option (List ℕ)) (t : Tree) (s : Binders) (u : Named)
+    : Type 0 where
+  pub is : u ≡ shown_term own g.names (folded_at g.first g.values at t) (pruned (folded_at g.first g.values at t) s)
   pub text : IsText (named_text false u) u
   pub folded : numbered g.names [] u ≡ folded_at g.first g.values at t
   pub tree : unfolded g.first g.values (numbered g.names [] u) ≡ t
@@ -177,7 +190,16 @@ pub record ReadsFolded (g : Glossary) (at : Option (List ℕ)) (t : Tree) (s : B
 abbrev pub FoldedReadsAgain : Type 0
 FoldedReadsAgain = (order : Order) (at : Option (List ℕ)) (n : ℕ) (bytes : List ℕ) (source : Named) (v : Tree)
     (terms : List Tree) → IsText bytes source → Walk order (number source) terms v →
-    (u : Named) × ReadsFolded (glossary (names_of source) n (number source) (binders_of source)) at v
+    (u : Named) × ReadsFolded true (glossary (names_of source) n (number source) (binders_of source)) at v
+    (last_binders order (binders_of source) terms) u
+
+-- and so with letters, if steps are made from the first term
+abbrev pub FoldedLettersReadAgain : Type 0
+FoldedLettersReadAgain = (order : Order) (at : Option (List ℕ)) (n : ℕ) (bytes : List ℕ) (source : Named) (v : Tree)
+    (terms : List Tree) → IsText bytes source → IsWithin (number source) →
+    length (glossary (names_of source) n (number source) (binders_of source)).names < 2 ^ 32 →
+    Walk order (number source) terms v →
+    (u : Named) × ReadsFolded false (glossary (names_of source) n (number source) (binders_of source)) at v
     (last_binders order (binders_of source) terms) u
 
 -- The count of a walk's steps is that of the order's steps from its first term to its last: each counts, also one that

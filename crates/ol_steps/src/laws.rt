@@ -1,7 +1,7 @@
 //! Laws of terms that come back, of carets, of names and of the end of an answer: no code, only
 //! what follows from the definitions.
 
-ghost use Rattle.ol_steps.specs.Laws.{EachStepCounts, FoldedReadsAgain, FoldedRedexIsMarked, LetteredPartIsSubterm, NamedPartIsSubterm, NoLetSameAnswer, PartIsRead, PartsAreThere, ReadsAgain, RedexIsMarked, ReturnIsEndless, ReturnHasNone, ShowingChangesNoEnd, UnfoldsToNext};
+ghost use Rattle.ol_steps.specs.Laws.{EachStepCounts, FoldedLettersReadAgain, FoldedReadsAgain, FoldedRedexIsMarked, LetteredPartIsSubterm, LettersReadAgain, NamedPartIsSubterm, NoLetSameAnswer, PartIsRead, PartsAreThere, ReadsAgain, RedexIsMarked, ReturnIsEndless, ReturnHasNone, ShowingChangesNoEnd, UnfoldsToNext};
 ghost use Rattle.ol_steps.specs.Unfoldings.{LetsAreUnfolded, NoValueIsShown};
 
 /// Where a term of an order's walk is that of an earlier step, the order has no end: each term that
@@ -35,8 +35,8 @@ pub fn folded_redexes_are_marked()
 /// An address leads to a part of a term that is shown exactly if it leads to a subterm of the term,
 /// folded or not. The part is the subterm, as it is written below the binders round it. If the
 /// whole is read again as the term, the part is read below these binders as the subterm. That the
-/// whole is read so say `names_are_read_again` and `folds_are_read_again`, and of letters
-/// `letters_are_read` of `ol_binders`.
+/// whole is read so say `names_are_read_again`, `folds_are_read_again` and
+/// `letters_are_read_again`.
 pub fn parts_are_subterms()
     ensures there { PartsAreThere }
     ensures named { NamedPartIsSubterm }
@@ -50,6 +50,16 @@ pub fn parts_are_subterms()
 /// have fewer than the source.
 pub fn names_are_read_again()
     ensures { ReadsAgain }
+{}
+
+/// What is printed of each term of a walk with letters for its binders is read again, with the
+/// source's free names, as a term of the same tree. Steps are made from the source, and it has
+/// fewer than 4,294,967,296 free names. If parts are written by the names of lets, it is read
+/// likewise, as the folded term, with the names of both. If the lets' values are put in the places
+/// of their names, it is the term of the walk.
+pub fn letters_are_read_again()
+    ensures plain { LettersReadAgain }
+    ensures folded { FoldedLettersReadAgain }
 {}
 
 /// What is printed of a term of a walk whose parts are written by the names of lets, if the binders

@@ -18,7 +18,7 @@ mod stepping;
 
 pub use laws::{
     each_step_counts, folded_redexes_are_marked, folds_are_read_again, lets_are_unfolded,
-    names_are_read_again, no_let_same_answer, no_value_is_shown, parts_are_subterms,
-    redexes_are_marked, returns_are_endless, showing_changes_no_end,
+    letters_are_read_again, names_are_read_again, no_let_same_answer, no_value_is_shown,
+    parts_are_subterms, redexes_are_marked, returns_are_endless, showing_changes_no_end,
 };
 pub use stepping::{Shown, is_within, steps};

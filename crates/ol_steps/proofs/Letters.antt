@@ -1,0 +1,78 @@
+-- What is printed with letters is read again.
+use Rattle.std.proofs.Common.{◌≡◌, ℕ, ◌+◌, ◌-◌, ◌<◌, ◌≤◌, ◌^◌, true, List, length, refl, ap, ◌∙◌, arith}
+use Rattle.std.proofs.lemmas.Bool.{and_parts, ltb-true}
+use Rattle.ol_term.specs.Trees as tree
+use Rattle.ol_term.specs.Trees.{Tree, is_below, is_named_below, depth}
+use Rattle.ol_term.specs.NameLists.{NoNameTwice}
+use Rattle.ol_parse.specs.Numbered.{names_of, number}
+use Rattle.ol_parse.specs.Parsed.{AreNames}
+use Rattle.ol_parse.proofs.Words.{names_good}
+use Rattle.ol_beta.specs.Beta.{IsWithin}
+use Rattle.ol_readback.proofs.WordTokens.{binder_is_name}
+use Rattle.ol_strategies.specs.declared.orders.Order.{Order}
+use Rattle.ol_named.specs.Lettered.{lettered}
+use Rattle.ol_binders.specs.Binders.{binders_of}
+use Rattle.ol_binders.specs.Laws.{AllNames}
+use Rattle.ol_binders.proofs.Letters.{letters_are_read}
+use Rattle.ol_binders.proofs.Spelled.{named_is_read}
+use Rattle.ol_binders.proofs.Worded.{names_differ}
+use Rattle.ol_folds.specs.Folded.{folded_at}
+use Rattle.ol_folds.specs.Laws.{unfolded}
+use Rattle.ol_folds.proofs.Smaller.{is_fold_of}
+use Rattle.ol_folds.proofs.Unfolding.{unfolded_is_term}
+use Rattle.ol_steps.specs.Steps.{Walk, starts, goes, glossary, last_binders}
+use Rattle.ol_steps.specs.Laws.{ReadsLetters, LettersReadAgain, FoldedLettersReadAgain}
+use Rattle.ol_steps.proofs.Words.{name_at, along, readable, folded_placed}
+
+-- below n binders
+all_letters : (names : List (List ℕ)) (n : ℕ) (t : Tree) → AreNames names → length names < 2 ^ 32 →
+    n + depth t < 2 ^ 64 → is_named_below (length names) t ≡ true → AllNames (lettered names n t)
+all_letters names n (tree.var k) good few short placed =
+    binder_is_name names (n - (k + 1)) few (omega (arith, short))
+all_letters names n (tree.free k) good few short placed = name_at names k good (ltb-true k (length names) placed)
+all_letters names n (tree.lam t) good few short placed =
+    (binder_is_name names n few (omega (arith, short)), all_letters names (n + 1) t good few (omega (arith, short)) placed)
+all_letters names n (tree.app f a) good few short placed =
+    let p = and_parts (is_named_below (length names) f) (is_named_below (length names) a) placed in
+    (all_letters names n f good few (omega (arith, short)) p.0, all_letters names n a good few (omega (arith, short)) p.1)
+
+reads : (names : List (List ℕ)) (t : Tree) → AreNames names → NoNameTwice names → length names < 2 ^ 32 →
+    depth t ≤ 1000 → is_below 0 t ≡ true → is_named_below (length names) t ≡ true → ReadsLetters names t
+reads names t good once few short bound placed = record {
+  text = named_is_read (lettered names 0 t) (all_letters names 0 t good few (omega (arith, short)) placed);
+  tree = letters_are_read names t once few (omega (arith, short)) bound placed;
+}
+
+-- the last term of a walk
+last_within : (order : Order) (t : Tree) {terms : List Tree} {v : Tree} → IsWithin t → Walk order t terms v → IsWithin v
+last_within order t h starts = h
+last_within order t h (goes walk new step within) = within
+
+pub letters_read_again : LettersReadAgain
+letters_read_again order bytes source v terms i within few walk =
+    let names = names_of source in
+    let r = along order names (number source) (binders_of source) (readable bytes source i) walk in
+    reads names v (names_good bytes source i) (names_differ source) few
+    (last_within order (number source) within walk).1 r.bound r.placed
+
+pub folded_letters_read_again : FoldedLettersReadAgain
+folded_letters_read_again order at n bytes source v terms i within few walk =
+    let names = names_of source in
+    let g = glossary names n (number source) (binders_of source) in
+    let w = last_binders order (binders_of source) terms in
+    let first = readable bytes source i in
+    let r = along order names (number source) (binders_of source) first walk in
+    let x = folded_at g.first g.values at v in
+    let p = folded_placed names n (number source) (binders_of source) at v w (names_good bytes source i)
+            (names_differ source) first.words r in
+    let deep = (is_fold_of g.first g.values at v).deep in
+    let last = (last_within order (number source) within walk).1 in
+    let l = reads g.names x p.good p.once few (omega (arith, deep, last)) p.bound p.placed in (
+      lettered g.names 0 x,
+      record {
+        is = refl;
+        text = l.text;
+        folded = l.tree;
+        tree = ap (unfolded g.first g.values) l.tree ∙ unfolded_is_term g.first g.values at v r.placed;
+      },
+    )
