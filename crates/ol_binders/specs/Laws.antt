@@ -41,7 +41,7 @@ abbrev pub NoneIsCaught : Type 0
 NoneIsCaught = (names : List (List ℕ)) (t : Tree) (s : Binders) → NoNameTwice names → Fits t s →
     is_below 0 t ≡ true → is_named_below (length names) t ≡ true → numbered names [] (named names [] t s) ≡ t
 
--- The letters of a tree's binders stand for the places of the tree, too.
+-- A tree with letters for its binders is read as the tree. Within these bounds the letters differ (ol_term/BinderLaws.antt).
 abbrev pub LettersAreRead : Type 0
 LettersAreRead = (names : List (List ℕ)) (t : Tree) → NoNameTwice names → length names < 2 ^ 32 → depth t < 2 ^ 64 →
     is_below 0 t ≡ true → is_named_below (length names) t ≡ true → numbered names [] (lettered names 0 t) ≡ t

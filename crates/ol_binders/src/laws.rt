@@ -29,8 +29,10 @@ pub fn none_is_caught()
     ensures { NoneIsCaught }
 {}
 
-/// The letters that a term is printed with stand for the places of the term: no binder takes what
-/// isn't its own, and no letter is a free name.
+/// A term that is written with letters for its binders is read, with its free names, as the term:
+/// no binder takes what isn't its own. The term is closed but for free names, no two of these are
+/// the same, there are fewer than 2^32, and it is less than 2^64 deep. That no letter is a free name
+/// says `binder_names_are_new` of `ol_term`.
 pub fn letters_are_read()
     ensures { LettersAreRead }
 {}

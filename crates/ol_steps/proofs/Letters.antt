@@ -1,16 +1,19 @@
 -- What is printed with letters is read again.
-use Rattle.std.proofs.Common.{◌≡◌, ℕ, ◌+◌, ◌-◌, ◌<◌, ◌≤◌, ◌^◌, true, List, length, refl, ap, ◌∙◌, arith}
+use Rattle.std.proofs.Common.{◌≡◌, ℕ, ◌+◌, ◌-◌, ◌<◌, ◌≤◌, ◌^◌, true, false, List, [], length, refl, ap, ◌∙◌, subst, arith}
 use Rattle.std.proofs.lemmas.Bool.{and_parts, ltb-true}
 use Rattle.ol_term.specs.Trees as tree
 use Rattle.ol_term.specs.Trees.{Tree, is_below, is_named_below, depth}
 use Rattle.ol_term.specs.NameLists.{NoNameTwice}
-use Rattle.ol_parse.specs.Numbered.{names_of, number}
+use Rattle.ol_parse.specs.Texts.{IsText}
+use Rattle.ol_parse.specs.Numbered.{names_of, number, numbered}
 use Rattle.ol_parse.specs.Parsed.{AreNames}
 use Rattle.ol_parse.proofs.Words.{names_good}
 use Rattle.ol_beta.specs.Beta.{IsWithin}
 use Rattle.ol_readback.proofs.WordTokens.{binder_is_name}
 use Rattle.ol_strategies.specs.declared.orders.Order.{Order}
+use Rattle.ol_named.specs.NamedTexts.{named_text}
 use Rattle.ol_named.specs.Lettered.{lettered}
+use Rattle.ol_named.proofs.LetteredTexts.{lettered_text}
 use Rattle.ol_binders.specs.Binders.{binders_of}
 use Rattle.ol_binders.specs.Laws.{AllNames}
 use Rattle.ol_binders.proofs.Letters.{letters_are_read}
@@ -21,7 +24,7 @@ use Rattle.ol_folds.specs.Laws.{unfolded}
 use Rattle.ol_folds.proofs.Smaller.{is_fold_of}
 use Rattle.ol_folds.proofs.Unfolding.{unfolded_is_term}
 use Rattle.ol_steps.specs.Steps.{Walk, starts, goes, glossary, last_binders}
-use Rattle.ol_steps.specs.Laws.{ReadsLetters, LettersReadAgain, FoldedLettersReadAgain}
+use Rattle.ol_steps.specs.Laws.{LettersReadAgain, FoldedLettersReadAgain}
 use Rattle.ol_steps.proofs.Words.{name_at, along, readable, folded_placed}
 
 -- below n binders
@@ -36,12 +39,25 @@ all_letters names n (tree.app f a) good few short placed =
     let p = and_parts (is_named_below (length names) f) (is_named_below (length names) a) placed in
     (all_letters names n f good few (omega (arith, short)) p.0, all_letters names n a good few (omega (arith, short)) p.1)
 
-reads : (names : List (List ℕ)) (t : Tree) → AreNames names → NoNameTwice names → length names < 2 ^ 32 →
-    depth t ≤ 1000 → is_below 0 t ≡ true → is_named_below (length names) t ≡ true → ReadsLetters names t
-reads names t good once few short bound placed = record {
-  text = named_is_read (lettered names 0 t) (all_letters names 0 t good few (omega (arith, short)) placed);
-  tree = letters_are_read names t once few (omega (arith, short)) bound placed;
-}
+-- a tree whose names are good, within the bounds of letters
+record IsReadable (names : List (List ℕ)) (t : Tree) : Type 0 where
+  good : AreNames names
+  once : NoNameTwice names
+  few : length names < 2 ^ 32
+  short : depth t ≤ 1000
+  bound : is_below 0 t ≡ true
+  placed : is_named_below (length names) t ≡ true
+
+text_read : (names : List (List ℕ)) (t : Tree) → IsReadable names t →
+    IsText (named_text false (lettered names 0 t)) (lettered names 0 t)
+text_read names t h =
+    let short = h.short in
+    named_is_read (lettered names 0 t) (all_letters names 0 t h.good h.few (omega (arith, short)) h.placed)
+
+tree_read : (names : List (List ℕ)) (t : Tree) → IsReadable names t → numbered names [] (lettered names 0 t) ≡ t
+tree_read names t h =
+    let short = h.short in
+    letters_are_read names t h.once h.few (omega (arith, short)) h.bound h.placed
 
 -- the last term of a walk
 last_within : (order : Order) (t : Tree) {terms : List Tree} {v : Tree} → IsWithin t → Walk order t terms v → IsWithin v
@@ -52,8 +68,18 @@ pub letters_read_again : LettersReadAgain
 letters_read_again order bytes source v terms i within few walk =
     let names = names_of source in
     let r = along order names (number source) (binders_of source) (readable bytes source i) walk in
-    reads names v (names_good bytes source i) (names_differ source) few
-    (last_within order (number source) within walk).1 r.bound r.placed
+    let h : IsReadable names v = record {
+      good = names_good bytes source i;
+      once = names_differ source;
+      few = few;
+      short = (last_within order (number source) within walk).1;
+      bound = r.bound;
+      placed = r.placed;
+    } in
+    record {
+      text = subst (λ (text : List ℕ). IsText text (lettered names 0 v)) (lettered_text names false 0 v) (text_read names v h);
+      tree = tree_read names v h;
+    }
 
 pub folded_letters_read_again : FoldedLettersReadAgain
 folded_letters_read_again order at n bytes source v terms i within few walk =
@@ -67,12 +93,20 @@ folded_letters_read_again order at n bytes source v terms i within few walk =
             (names_differ source) first.words r in
     let deep = (is_fold_of g.first g.values at v).deep in
     let last = (last_within order (number source) within walk).1 in
-    let l = reads g.names x p.good p.once few (omega (arith, deep, last)) p.bound p.placed in (
+    let h : IsReadable g.names x = record {
+      good = p.good;
+      once = p.once;
+      few = few;
+      short = omega (arith, deep, last);
+      bound = p.bound;
+      placed = p.placed;
+    } in
+    let same = tree_read g.names x h in (
       lettered g.names 0 x,
       record {
         is = refl;
-        text = l.text;
-        folded = l.tree;
-        tree = ap (unfolded g.first g.values) l.tree ∙ unfolded_is_term g.first g.values at v r.placed;
+        text = text_read g.names x h;
+        folded = same;
+        tree = ap (unfolded g.first g.values) same ∙ unfolded_is_term g.first g.values at v r.placed;
       },
     )

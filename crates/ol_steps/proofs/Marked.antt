@@ -32,7 +32,7 @@ use Rattle.ol_steps.specs.declared.stepping.Shown.{Shown}
 use Rattle.ol_steps.specs.Steps.{Glossary, shown_term}
 use Rattle.ol_steps.specs.Laws.{IsRedex, MarksRedex, RedexIsMarked, StandsForAbstraction, IsFoldedRedex, FoldedRedexIsMarked}
 use Rattle.ol_steps.specs.Laws.{leads_to_part, binders_round, binders_along, UnfoldsToNext}
-use Rattle.ol_steps.specs.Laws.{PartsAreThere, NamedPartIsSubterm, LetteredPartIsSubterm, PartIsRead}
+use Rattle.ol_steps.specs.Laws.{PartsAreThere, BindersAlongFit, NamedPartIsSubterm, LetteredPartIsSubterm, PartIsRead}
 
 -- one move more
 pub take_on : (ms : List ℕ) (k m : ℕ) → slice_get ms k ≡ Some m → take (suc k) ms ≡ take k ms ++ m ∷ []
@@ -342,6 +342,45 @@ pub parts_are_there : PartsAreThere
 parts_are_there true names t s at fits =
     led names t (own.named names [] t s) at (named_shows names [] t s (fits refl))
 parts_are_there false names t s at fits = led names t (lettered names 0 t) at (lettered_shows names 0 t)
+
+-- ---- the binders in a subterm have its shape
+
+along_root : (s : Binders) → binders_along s [] ≡ s
+along_root binders.leaf = refl
+along_root (binders.lam x s) = refl
+along_root (binders.app r s) = refl
+
+root_fits : (t v : Tree) (s : Binders) → Fits t s → Some t ≡ Some v → Fits v (binders_along s [])
+root_fits t v s fits h = subst (λ (r : Binders). Fits v r) (sym (along_root s))
+    (subst (λ (w : Tree). Fits w s) (same_Some t v h) fits)
+
+pub binders_along_fit : BindersAlongFit
+binders_along_fit (tree.var k) v s [] fits h = root_fits (tree.var k) v s fits h
+binders_along_fit (tree.var k) v s (m ∷ at) fits h = absurd (cc)
+binders_along_fit (tree.free k) v s [] fits h = root_fits (tree.free k) v s fits h
+binders_along_fit (tree.free k) v s (m ∷ at) fits h = absurd (cc)
+binders_along_fit (tree.lam t) v s [] fits h = root_fits (tree.lam t) v s fits h
+binders_along_fit (tree.lam t) v binders.leaf (m ∷ at) fits h = absurd fits
+binders_along_fit (tree.lam t) v (binders.lam x s) (m ∷ at) fits h = go (m == 0) h (binders_along_fit t v s at fits)
+  where
+    go : (b : Bool) → (if b then subterm_along t at else None) ≡ Some v →
+        (subterm_along t at ≡ Some v → Fits v (binders_along s at)) → Fits v (binders_along s at)
+    go true i more = more i
+    go false i more = absurd (cc)
+binders_along_fit (tree.lam t) v (binders.app r s) (m ∷ at) fits h = absurd fits
+binders_along_fit (tree.app f a) v s [] fits h = root_fits (tree.app f a) v s fits h
+binders_along_fit (tree.app f a) v binders.leaf (m ∷ at) fits h = absurd fits
+binders_along_fit (tree.app f a) v (binders.lam x s) (m ∷ at) fits h = absurd fits
+binders_along_fit (tree.app f a) v (binders.app r s) (m ∷ at) fits h =
+    go (m == 1) (m == 2) h (binders_along_fit f v r at fits.0) (binders_along_fit a v s at fits.1)
+  where
+    go : (c d : Bool) → (if c then subterm_along f at else if d then subterm_along a at else None) ≡ Some v →
+        (subterm_along f at ≡ Some v → Fits v (binders_along r at)) →
+        (subterm_along a at ≡ Some v → Fits v (binders_along s at)) →
+        Fits v (if c then binders_along r at else binders_along s at)
+    go true d i more rest = more i
+    go false true i more rest = rest i
+    go false false i more rest = absurd (cc)
 
 -- ---- the part is that subterm with names
 

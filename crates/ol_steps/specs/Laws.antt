@@ -1,9 +1,10 @@
--- What a term that comes back says of the first term, what carets stand under, that what is printed is read again, and
--- that how terms are shown changes no end.
+-- What a term that comes back says of the first term, what carets stand under, and what stands at an address. That what
+-- is printed is read again, and that how terms are shown changes no end.
 use Rattle.std.specs.Prelude.{◌≡◌, ℕ, ◌+◌, ◌^◌, ◌<◌, ◌==◌, Bool, true, false, if◌then◌else◌, ◌⊎◌, List, [], ◌∷◌, ◌++◌, codes, length}
 use Rattle.std.specs.Prelude.{slice_get, slice_index_or, Option, Some, is_some, IsSome}
 use Rattle.ol_term.specs.Trees as tree
 use Rattle.ol_term.specs.Trees.{Tree, is_named_below}
+use Rattle.ol_term.specs.Texts.{text_of_term}
 use Rattle.ol_beta.specs.Beta.{IsWithin}
 use Rattle.ol_law_meaning.specs.Shows.{BetaReduces}
 use Rattle.ol_law_confluence.specs.Reductions.{HasNormalForm, HasHeadNormalForm}
@@ -95,13 +96,13 @@ FoldedRedexIsMarked = (how : Shown) (g : Glossary) (t : Tree) (s : Binders) (at 
     MarksRedex (IsFoldedRedex g) how.named g.names (shown_tree how g t) (pruned (shown_tree how g t) s) at
     (shown_term how.named g.names (shown_tree how g t) (pruned (shown_tree how g t) s))
 
--- the names of the binders round the subterm at an address, the innermost first
+-- the names of the binders round the part at an address of a term with names, the innermost first
 abbrev pub binders_round : Named → List ℕ → List (List ℕ)
 binders_round (lam x t) (m ∷ at) = binders_round t at ++ x ∷ []
 binders_round (app f a) (m ∷ at) = if m == 1 then binders_round f at else binders_round a at
 binders_round t at = []
 
--- an address leads to a part of a term with names
+-- an address leads to a part of a term with names; its moves are those of contraction
 abbrev pub leads_to_part : Named → List ℕ → Bool
 leads_to_part u [] = true
 leads_to_part (var x) (m ∷ at) = false
@@ -114,20 +115,25 @@ abbrev pub PartsAreThere : Type 0
 PartsAreThere = (own : Bool) (names : List (List ℕ)) (t : Tree) (s : Binders) (at : List ℕ) → (own ≡ true → Fits t s) →
     leads_to_part (shown_term own names t s) at ≡ is_some (subterm_along t at)
 
--- the names of the binders in the subterm at an address
+-- the names of the binders in the subterm to which an address leads
 abbrev pub binders_along : Binders → List ℕ → Binders
 binders_along (binders.lam x s) (m ∷ at) = binders_along s at
 binders_along (binders.app r s) (m ∷ at) = if m == 1 then binders_along r at else binders_along s at
 binders_along s at = s
 
--- what stands at an address of a tree with names is the tree's subterm there, with its binders' names, below the binders
--- round it
+-- they have the shape of that subterm
+abbrev pub BindersAlongFit : Type 0
+BindersAlongFit = (t v : Tree) (s : Binders) (at : List ℕ) → Fits t s → subterm_along t at ≡ Some v →
+    Fits v (binders_along s at)
+
+-- the part at an address of a tree with its binders' own names is the subterm there, with the own names of its binders,
+-- below the binders round it
 abbrev pub NamedPartIsSubterm : Type 0
 NamedPartIsSubterm = (names : List (List ℕ)) (t v : Tree) (s : Binders) (at : List ℕ) → Fits t s →
     subterm_along t at ≡ Some v →
     part (named names [] t s) at ≡ named names (binders_round (named names [] t s) at) v (binders_along s at)
 
--- and of a tree with letters it is the subterm with letters, below as many binders
+-- and with letters it is the subterm with letters, below as many binders as stand round the part
 abbrev pub LetteredPartIsSubterm : Type 0
 LetteredPartIsSubterm = (names : List (List ℕ)) (t v : Tree) (at : List ℕ) → subterm_along t at ≡ Some v →
     part (lettered names 0 t) at ≡ lettered names (length (binders_round (lettered names 0 t) at)) v
@@ -168,7 +174,7 @@ ReadsAgain = (order : Order) (bytes : List ℕ) (source : Named) (v : Tree) (ter
 
 -- A tree whose binders have letters: what is printed is read again, as a term of the same tree.
 pub record ReadsLetters (names : List (List ℕ)) (t : Tree) : Type 0 where
-  pub text : IsText (named_text false (lettered names 0 t)) (lettered names 0 t)
+  pub text : IsText (text_of_term names t) (lettered names 0 t)
   pub tree : numbered names [] (lettered names 0 t) ≡ t
 
 -- it is so with each term of a walk from the term of a text, if steps are made from that

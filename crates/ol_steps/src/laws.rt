@@ -1,7 +1,7 @@
-//! Laws of terms that come back, of carets, of names and of the end of an answer: no code, only
-//! what follows from the definitions.
+//! Laws of terms that come back, of carets, of addresses, of names and of the end of an answer: no
+//! code, only what follows from the definitions.
 
-ghost use Rattle.ol_steps.specs.Laws.{EachStepCounts, FoldedLettersReadAgain, FoldedReadsAgain, FoldedRedexIsMarked, LetteredPartIsSubterm, LettersReadAgain, NamedPartIsSubterm, NoLetSameAnswer, PartIsRead, PartsAreThere, ReadsAgain, RedexIsMarked, ReturnIsEndless, ReturnHasNone, ShowingChangesNoEnd, UnfoldsToNext};
+ghost use Rattle.ol_steps.specs.Laws.{BindersAlongFit, EachStepCounts, FoldedLettersReadAgain, FoldedReadsAgain, FoldedRedexIsMarked, LetteredPartIsSubterm, LettersReadAgain, NamedPartIsSubterm, NoLetSameAnswer, PartIsRead, PartsAreThere, ReadsAgain, RedexIsMarked, ReturnIsEndless, ReturnHasNone, ShowingChangesNoEnd, UnfoldsToNext};
 ghost use Rattle.ol_steps.specs.Unfoldings.{LetsAreUnfolded, NoValueIsShown};
 
 /// Where a term of an order's walk is that of an earlier step, the order has no end: each term that
@@ -32,13 +32,14 @@ pub fn folded_redexes_are_marked()
     ensures unfolded { UnfoldsToNext }
 {}
 
-/// An address leads to a part of a term that is shown exactly if it leads to a subterm of the term,
-/// folded or not. The part is the subterm, as it is written below the binders round it. If the
-/// whole is read again as the term, the part is read below these binders as the subterm. That the
-/// whole is read so say `names_are_read_again`, `folds_are_read_again` and
-/// `letters_are_read_again`.
+/// Take a term as it is shown, folded or not. An address leads to a part of it exactly if it leads
+/// to a subterm of the tree. The part is that subterm, as it is written below the binders round it,
+/// with the names of its own binders. If the whole is read again as the tree, the part is read below
+/// the binders round it as the subterm. `names_are_read_again`, `folds_are_read_again` and
+/// `letters_are_read_again` say that the whole is read so.
 pub fn parts_are_subterms()
     ensures there { PartsAreThere }
+    ensures fits { BindersAlongFit }
     ensures named { NamedPartIsSubterm }
     ensures lettered { LetteredPartIsSubterm }
     ensures read { PartIsRead }

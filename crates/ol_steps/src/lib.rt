@@ -5,8 +5,8 @@
 //! - `finding`: whether a term is that of an earlier step
 //! - `showing`: terms as they are shown, and lets that are unfolded
 //! - `lines`: the lines of an answer
-//! - `laws`: what a term that comes back says, what carets stand under, what is read again, and
-//!   that how terms are shown changes no end
+//! - `laws`: what a term that comes back says, what carets stand under, what stands at an address,
+//!   what is read again, and that how terms are shown changes no end
 #![tactic(auto)]
 
 mod earlier;
