@@ -29,10 +29,10 @@ pub fn none_is_caught()
     ensures { NoneIsCaught }
 {}
 
-/// A term that is written with letters for its binders is read, with its free names, as the term:
-/// no binder takes what isn't its own. The term is closed but for free names, no two of these are
-/// the same, there are fewer than 2^32, and it is less than 2^64 deep. That no letter is a free name
-/// says `binder_names_are_new` of `ol_term`.
+/// Let a term be closed but for free names, and less than 2^64 deep. Let its free names be fewer than
+/// 2^32, and no two the same. If it is written with letters for its binders, it is read, with these
+/// names, as the term: no binder takes what isn't its own. Law `binder_names_are_new` of `ol_term`
+/// says that no letter is a free name.
 pub fn letters_are_read()
     ensures { LettersAreRead }
 {}

@@ -1,5 +1,5 @@
--- What a term that comes back says of the first term, what carets stand under, and what stands at an address. That what
--- is printed is read again, and that how terms are shown changes no end.
+-- What a term that comes back says of the first term, what carets stand under, and what stands at an address. Also that
+-- what is printed is read again, and that how terms are shown changes no end.
 use Rattle.std.specs.Prelude.{◌≡◌, ℕ, ◌+◌, ◌^◌, ◌<◌, ◌==◌, Bool, true, false, if◌then◌else◌, ◌⊎◌, List, [], ◌∷◌, ◌++◌, codes, length}
 use Rattle.std.specs.Prelude.{slice_get, slice_index_or, Option, Some, is_some, IsSome}
 use Rattle.ol_term.specs.Trees as tree
