@@ -7,6 +7,7 @@ use Rattle.ol_term.specs.Trees.{Tree, tree_of, term_size, depth}
 use Rattle.ol_parse.specs.Texts.{IsRefusedAt}
 use Rattle.ol_parse.specs.Parsed.{IsFileOf, IsTooDeep}
 use Rattle.ol_beta.specs.Beta.{IsWithin}
+use Rattle.ol_subjects.specs.Limited.{bytes_words, depth_words, size_words}
 use Rattle.ol_subjects.specs.declared.answers.End.{End}
 use Rattle.ol_subjects.specs.declared.answers.End.TheVariants.{Yes, No}
 use Rattle.ol_derivations.specs.Lines.{lines_of, is_left_out, all_left_out}
@@ -25,13 +26,13 @@ pub record IsTermLine (line : List ℕ) (t : Tree) (names : List (List ℕ)) : T
 -- Why a line has no such term, in words: it has too many bytes, it isn't in the grammar, or its term is too deep or too
 -- large. A column is counted in bytes, from 1.
 pub data IsNoTermLine (line : List ℕ) : List ℕ → Type 0 where
-  long : most_term_bytes < length line → IsNoTermLine line (codes "limit bytes 1048576")
+  long : most_term_bytes < length line → IsNoTermLine line bytes_words
   syntax_at : {at : ℕ} → length line ≤ most_term_bytes → IsRefusedAt line at →
       IsNoTermLine line (codes "syntax, column " ++ decimal (at + 1))
   deep : {d : ℕ} → length line ≤ most_term_bytes → IsTooDeep line d →
-      IsNoTermLine line (codes "limit depth 1000")
+      IsNoTermLine line depth_words
   large : {t : Tree} {names : List (List ℕ)} → length line ≤ most_term_bytes → IsFileOf line t names →
-      depth t ≤ most_depth → most_size < term_size t → IsNoTermLine line (codes "limit size 100000")
+      depth t ≤ most_depth → most_size < term_size t → IsNoTermLine line size_words
 
 -- what a line has
 abbrev pub IsRead : List ℕ → reads.Read → Type 0

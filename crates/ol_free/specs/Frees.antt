@@ -6,6 +6,7 @@ use Rattle.ol_term.specs.Trees.{Tree, depth}
 use Rattle.ol_parse.specs.Grammar.{Named, Token}
 use Rattle.ol_parse.specs.Texts.{Spells, spells_none, spells_one, IsText, IsRefusedAt}
 use Rattle.ol_parse.specs.Parsed.{IsFileOf, IsTooDeep}
+use Rattle.ol_subjects.specs.Limited.{depth_words}
 use Rattle.ol_subjects.specs.declared.answers.End.{End}
 use Rattle.ol_subjects.specs.declared.answers.End.TheVariants.{Yes, Refused}
 use Rattle.ol_free.specs.declared.placing.Place.{Place}
@@ -61,7 +62,7 @@ or_closed (b ∷ bs) = b ∷ bs
 pub data IsFree (bytes : List ℕ) : List ℕ → End → Type 0 where
   syntax_at : {at : ℕ} → IsRefusedAt bytes at →
       IsFree bytes (codes "syntax at byte " ++ decimal at ++ codes "\n") Refused
-  deep : {d : ℕ} → IsTooDeep bytes d → IsFree bytes (codes "limit depth 1000\n") Refused
+  deep : {d : ℕ} → IsTooDeep bytes d → IsFree bytes (depth_words ++ codes "\n") Refused
   told : {t : Tree} {names : List (List ℕ)} {lines : List ℕ} → IsFileOf bytes t names → depth t ≤ most_depth →
       AreFreeLines bytes lines → IsFree bytes (or_closed lines) Yes
 

@@ -1,7 +1,6 @@
 -- Bytes that don't stand in the text of a head, nor in a number.
 use Rattle.std.proofs.Common.{◌≡◌, ℕ, zero, suc, ◌+◌, ◌-◌, ◌/◌, ◌%◌, ◌≤◌, ◌==◌, Bool, true, false, cond, List, [], ◌∷◌, ◌++◌, drop, nat_eq, append_assoc, codes, refl, sym, ap, ◌∙◌, subst, arith}
 use Rattle.std.specs.Prelude.{not, ◌&&◌, slice_index, slice_index_or}
-use Rattle.core.proofs.fmt.DigitsParse.{glyph_decimal}
 use Rattle.std.specs.Fmt.{decimal, digits, digits_onto, digit_glyph}
 use Rattle.std.proofs.lemmas.Bool.Decides.{nat_tests}
 use Rattle.ol_term.specs.BinderNames.{candidate, binder_name, binder_number}
@@ -12,6 +11,7 @@ use Rattle.ol_readback.specs.declared.answers.HeadVar.{HeadVar}
 use Rattle.ol_readback.specs.declared.answers.HeadVar.TheVariants as var
 use Rattle.ol_readback.specs.declared.answers.ReadNode.{ReadNode}
 use Rattle.ol_readback.specs.declared.answers.ReadNode.TheVariants as node
+use Rattle.ol_subjects.proofs.Glyphs.{glyph_is}
 use Rattle.ol_equal.specs.Texts.{path_text}
 use Rattle.ol_equal.specs.Walking.{dotted}
 use Rattle.ol_heads.specs.Heads.{underscores, told_variable, head_text}
@@ -49,7 +49,7 @@ pub record IsOut (c : ℕ) : Type 0 where
 
 module _ (c : ℕ) (out : IsOut c) where
   glyph_lacks : (n : ℕ) → digit_glyph false (n % 10) ≡ c → ⊥
-  glyph_lacks n e = out.digit (48 + n % 10) (omega arith) (omega arith) (sym (glyph_decimal (n % 10) (omega arith)) ∙ e)
+  glyph_lacks n e = out.digit (48 + n % 10) (omega arith) (omega arith) (sym (glyph_is (n % 10) (omega arith)) ∙ e)
 
   digits_lack : (k n : ℕ) (acc : List ℕ) → Lacks c acc → Lacks c (digits_onto k 10 false n acc)
   digits_lack zero n acc h = h

@@ -3,6 +3,7 @@ use Rattle.std.proofs.Common.{◌≡◌, ℕ, ◌++◌, Bool, true, false, appen
 use Rattle.std.specs.Fmt.{decimal}
 use Rattle.std.specs.List.{AllZip}
 use Rattle.std.specs.declared.vec.Vec.{Vec}
+use Rattle.ol_subjects.specs.Limited.{bytes_words}
 use Rattle.ol_equal.specs.Paths.{IsPathTo}
 use Rattle.ol_equal.specs.Comparing.{IsComparison}
 use Rattle.ol_equal.specs.Texts.{compared_text}
@@ -82,12 +83,12 @@ unread_so bounds inputs wanted w text fine e t f =
     (subst (λ fine. IsGradeOf bounds inputs wanted work.Unread (codes "can't be read") fine) (sym f) IsGradeOf.unread))
 
 pub too_long_so : (bounds : Bounds) (inputs : List (List ℕ)) (wanted : List Seen) (w : Work) (text : List ℕ)
-    (fine : Bool) → w ≡ work.TooLong → text ≡ codes "limit bytes 1048576" → fine ≡ false →
+    (fine : Bool) → w ≡ work.TooLong → text ≡ bytes_words → fine ≡ false →
     IsGradeOf bounds inputs wanted w text fine
 too_long_so bounds inputs wanted w text fine e t f =
     subst (λ w. IsGradeOf bounds inputs wanted w text fine) (sym e)
     (subst (λ text. IsGradeOf bounds inputs wanted work.TooLong text fine) (sym t)
-    (subst (λ fine. IsGradeOf bounds inputs wanted work.TooLong (codes "limit bytes 1048576") fine) (sym f)
+    (subst (λ fine. IsGradeOf bounds inputs wanted work.TooLong bytes_words fine) (sym f)
     IsGradeOf.too_long))
 
 pub text_so : (bounds : Bounds) (inputs : List (List ℕ)) (wanted : List Seen) (w : Work) (bytes : Vec ℕ Global)

@@ -1,7 +1,7 @@
 -- What is said of a student never tells one text twice.
 use Rattle.std.proofs.Common.{◌≡◌, ℕ, ◌+◌, ◌-◌, ◌<◌, ◌^◌, Bool, List, [], ◌∷◌, ◌++◌, length, take, codes, refl, sym, subst, subst₂, arith}
 use Rattle.std.specs.Prelude.{slice_index_or}
-use Rattle.std.specs.Fmt.{decimal}
+use Rattle.std.specs.Fmt.{decimal, digits}
 use Rattle.std.specs.List.{AllZip}
 use Rattle.ol_readback.specs.Texts.{rounds}
 use Rattle.ol_parse.specs.Parsed.{AreNames}
@@ -10,6 +10,7 @@ use Rattle.ol_equal.specs.Comparing.{place_at}
 use Rattle.ol_equal.specs.Texts.{path_text, compared_text}
 use Rattle.ol_equal.specs.declared.answers.Compared.{Compared}
 use Rattle.ol_equal.specs.declared.answers.Compared.TheVariants.{Equal, Different, Cut}
+use Rattle.ol_subjects.specs.Limited.{bytes_words, depth_words, nodes_words}
 use Rattle.ol_derivations.specs.Lines.{lines_of}
 use Rattle.ol_heads.specs.Heads.{IsHeadText}
 use Rattle.ol_heads.proofs.Plain.{Lacks, lacks_both}
@@ -42,9 +43,10 @@ on_lacks words k h =
     (lacks_both 58 words (codes " on ") h (lacks_by 58 (codes " on ") refl)) (decimal_lacks 58 colon k)
 
 lack_lacks : (lack : Lack) → Lacks 58 (lack_words lack)
+unfolding digits
 lack_lacks lacks.Fuel = lacks_by 58 (codes "beyond the fuel") refl
-lack_lacks lacks.Depth = lacks_by 58 (codes "limit depth 1000") refl
-lack_lacks lacks.Nodes = lacks_by 58 (codes "limit nodes 200000") refl
+lack_lacks lacks.Depth = lacks_by 58 depth_words refl
+lack_lacks lacks.Nodes = lacks_by 58 nodes_words refl
 
 no_dot : ◌≡◌ {A = ℕ} 46 58 → ⊥
 no_dot e = omega (arith, e)
@@ -112,12 +114,13 @@ module _ (bounds : Bounds) (low : bounds.heads.most < 2 ^ 32) (solution : List �
   Told text = text ≡ words ++ heads_words head head
 
   fault_told : {bytes text : List ℕ} → IsNoTermText bytes text → Told text → ⊥
+  unfolding digits
   fault_told (IsNoTermText.long l) e =
-      no_colon words head (codes "limit bytes 1048576") (lacks_by 58 (codes "limit bytes 1048576") refl) e
+      no_colon words head bytes_words (lacks_by 58 bytes_words refl) e
   fault_told {bytes} (IsNoTermText.syntax_at {at = at} s r) e =
       no_colon words head (codes "syntax, " ++ place_words bytes at) (place_lacks bytes at) e
   fault_told (IsNoTermText.deep s d) e =
-      no_colon words head (codes "limit depth 1000") (lacks_by 58 (codes "limit depth 1000") refl) e
+      no_colon words head depth_words (lacks_by 58 depth_words refl) e
 
   module _ (student line : List ℕ) (w : Seen) (k : ℕ) (f : IsTermText student) (i : IsTermText line)
       (has : HasWholeTree bounds solution line w) where
@@ -145,11 +148,12 @@ module _ (bounds : Bounds) (low : bounds.heads.most < 2 ^ 32) (solution : List �
         (zip_at (HasWholeTree bounds solution) (IsRight bounds student) before passed line w after others p here) h e
 
     told : {work : Work} {text : List ℕ} {fine : Bool} → IsGradeOf bounds kept wanted work text fine → Told text → ⊥
+    unfolding digits
     told (IsGradeOf.of_text h) e = grade_told h e
     told IsGradeOf.unread e =
         no_colon words head (codes "can't be read") (lacks_by 58 (codes "can't be read") refl) e
     told IsGradeOf.too_long e =
-        no_colon words head (codes "limit bytes 1048576") (lacks_by 58 (codes "limit bytes 1048576") refl) e
+        no_colon words head bytes_words (lacks_by 58 bytes_words refl) e
 
 pub no_head_twice : NoHeadTwice
 no_head_twice bounds inputs solution kept wanted work words head fine low is f all h =

@@ -16,6 +16,7 @@ use Rattle.ol_equal.specs.declared.answers.Compared.TheVariants.{Equal}
 use Rattle.ol_heads.specs.Heads.{all_names, IsHeadText}
 use Rattle.ol_derivations.specs.Lines.{lines_of, is_left_out}
 use Rattle.ol_derivations.specs.Derivations.{IsTermLine, IsNoTermLine, line_text}
+use Rattle.ol_subjects.specs.Limited.{bytes_words, depth_words}
 use Rattle.ol_subjects.specs.declared.answers.End.{End}
 use Rattle.ol_subjects.specs.declared.answers.End.TheVariants.{Yes, No, Refused}
 use Rattle.ol_grades.specs.declared.reading.Bounds.{Bounds}
@@ -62,11 +63,11 @@ place_words bytes at = let front = lines_of (take at bytes) in
 
 -- why some bytes are no function: too many of them, not in the grammar, or a term that is too deep
 pub data IsNoTermText (bytes : List ℕ) : List ℕ → Type 0 where
-  long : most_term_bytes < length bytes → IsNoTermText bytes (codes "limit bytes 1048576")
+  long : most_term_bytes < length bytes → IsNoTermText bytes bytes_words
   syntax_at : {at : ℕ} → length bytes ≤ most_term_bytes → IsRefusedAt bytes at →
       IsNoTermText bytes (codes "syntax, " ++ place_words bytes at)
   deep : {d : ℕ} → length bytes ≤ most_term_bytes → IsTooDeep bytes d →
-      IsNoTermText bytes (codes "limit depth 1000")
+      IsNoTermText bytes depth_words
 
 -- ---- a student against the solution
 
@@ -127,7 +128,7 @@ pub data IsGradeOf (bounds : Bounds) (inputs : List (List ℕ)) (wanted : List S
       IsGrade bounds inputs wanted bytes.items words fine →
       IsGradeOf bounds inputs wanted (work.Text bytes) words fine
   unread : IsGradeOf bounds inputs wanted work.Unread (codes "can't be read") false
-  too_long : IsGradeOf bounds inputs wanted work.TooLong (codes "limit bytes 1048576") false
+  too_long : IsGradeOf bounds inputs wanted work.TooLong bytes_words false
 
 -- a line about a file
 abbrev pub file_line : (name words : List ℕ) → List ℕ

@@ -10,6 +10,7 @@ use Rattle.ol_demand.specs.Answers.{start_of, IsAnswer}
 use Rattle.ol_demand.specs.Demands.{HasMoreSteps}
 use Rattle.ol_readback.specs.Terms.{HasAllHeads}
 use Rattle.ol_readback.specs.Texts.{AreNamed}
+use Rattle.ol_subjects.specs.Limited.{depth_words, nodes_words}
 use Rattle.ol_subjects.specs.Subjects.{IsNetOfTerm}
 use Rattle.ol_grades.specs.declared.reading.Bounds.{Bounds}
 use Rattle.ol_grades.specs.declared.holding.Seen.{Seen}
@@ -46,8 +47,8 @@ pub data HasNoTree (bounds : Bounds) (function line : List ℕ) : Lack → Type 
 
 abbrev pub lack_words : Lack → List ℕ
 lack_words lack.Fuel = codes "beyond the fuel"
-lack_words lack.Depth = codes "limit depth 1000"
-lack_words lack.Nodes = codes "limit nodes 200000"
+lack_words lack.Depth = depth_words
+lack_words lack.Nodes = nodes_words
 
 -- a tree in which each place has a head
 abbrev pub HasWholeTree : Bounds → (function line : List ℕ) → Seen → Type 0

@@ -2,7 +2,6 @@
 use Rattle.std.proofs.Common.{◌≡◌, ℕ, zero, suc, ◌+◌, ◌==◌, ◌%◌, ◌/◌, inl, inr, Bool, true, false, cond, nat_eq, not}
 use Rattle.std.proofs.Common.{List, [], ◌∷◌, ◌++◌, append_assoc, codes, Option, Some, refl, sym, ap, ◌∙◌, subst, arith}
 use Rattle.std.specs.Prelude.{◌&&◌, if◌then◌else◌}
-use Rattle.core.proofs.fmt.DigitsParse.{glyph_decimal}
 use Rattle.std.specs.Fmt.{decimal, digits, digits_onto, digit_glyph}
 use Rattle.std.proofs.lemmas.Bool.{ne_eqb, and_parts, not-true}
 use Rattle.ol_term.specs.Trees.{Tree}
@@ -13,6 +12,8 @@ use Rattle.ol_strategies.specs.declared.orders.Order.TheVariants as order
 use Rattle.ol_strategies.specs.declared.orders.Reached.{Reached}
 use Rattle.ol_strategies.specs.declared.orders.Reached.TheVariants as word
 use Rattle.ol_parse.specs.Texts.{IsLine}
+use Rattle.ol_subjects.specs.Limited.{depth_words, nodes_words}
+use Rattle.ol_subjects.proofs.Glyphs.{glyph_is}
 use Rattle.ol_term.specs.Texts.{text_of_term}
 use Rattle.ol_named.specs.NamedTexts.{named_text}
 use Rattle.ol_binders.specs.Naming as own
@@ -41,7 +42,7 @@ both_lines (b ∷ bs) cs h i = (h.0, both_lines bs cs h.1 i)
 
 glyph_line : (n : ℕ) → nat_eq (digit_glyph false (n % 10)) 10 ≡ false
 glyph_line n =
-    ne_eqb (digit_glyph false (n % 10)) 10 (λ e. let i = glyph_decimal (n % 10) (omega arith) in absurd (omega (arith, e, i)))
+    ne_eqb (digit_glyph false (n % 10)) 10 (λ e. let i = glyph_is (n % 10) (omega arith) in absurd (omega (arith, e, i)))
 
 digits_line : (k n : ℕ) (bs : List ℕ) → IsLine bs → IsLine (digits_onto k 10 false n bs)
 digits_line zero n bs h = h
@@ -136,11 +137,13 @@ syntax_one at = (
   both_lines (codes "syntax at byte ") (decimal at) (is_line (codes "syntax at byte ") refl) (decimal_line at),
 )
 
-pub deep_one : OneLine (codes "limit depth 1000\n")
-deep_one = (codes "limit depth 1000", refl, is_line (codes "limit depth 1000") refl)
+pub deep_one : OneLine (depth_words ++ codes "\n")
+unfolding digits
+deep_one = (depth_words, refl, is_line depth_words refl)
 
-pub large_one : OneLine (codes "limit nodes 200000\n")
-large_one = (codes "limit nodes 200000", refl, is_line (codes "limit nodes 200000") refl)
+pub large_one : OneLine (nodes_words ++ codes "\n")
+unfolding digits
+large_one = (nodes_words, refl, is_line nodes_words refl)
 
 -- ---- it is the last one
 

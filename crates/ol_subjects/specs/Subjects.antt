@@ -16,6 +16,7 @@ use Rattle.ol_netfile.specs.declared.faults.NetFault.{NetFault}
 use Rattle.ol_netfile.specs.declared.faults.NetFault.TheVariants.{NoMemory}
 use Rattle.ol_subjects.specs.declared.subjects.Subject.{Subject}
 use Rattle.ol_subjects.specs.declared.subjects.Subject.TheVariants.{Term, Net}
+use Rattle.ol_subjects.specs.Limited.{depth_words, nodes_words}
 use Rattle.ol_limits.specs.Limits.{most_depth, most_net_bytes, most_nodes, most_term_bytes}
 
 -- The bytes are a text of this term with these free names. It is at most 1,000 deep, and its net has
@@ -46,10 +47,10 @@ pub data RefusesTerm (translation : Translation) (bytes : List ℕ) (text : List
   syntax_at : (at : ℕ) → IsRefusedAt bytes at →
       text ≡ codes "syntax at byte " ++ decimal at ++ codes "\n" →
       RefusesTerm translation bytes text
-  deep : (d : ℕ) → IsTooDeep bytes d → text ≡ codes "limit depth 1000\n" →
+  deep : (d : ℕ) → IsTooDeep bytes d → text ≡ depth_words ++ codes "\n" →
       RefusesTerm translation bytes text
   large : (t : Tree) (names : List (List ℕ)) → IsFileOf bytes t names → depth t ≤ most_depth →
-      most_nodes < size_of_translation translation t → text ≡ codes "limit nodes 200000\n" →
+      most_nodes < size_of_translation translation t → text ≡ nodes_words ++ codes "\n" →
       RefusesTerm translation bytes text
 
 -- The line by which a file with a net is refused: that of its fault.

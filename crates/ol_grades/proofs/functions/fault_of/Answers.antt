@@ -1,11 +1,14 @@
 use Rattle.std.proofs.Common.{◌++◌, codes, refl, arith}
+use Rattle.std.specs.Fmt.{digits}
 use Rattle.ol_parse.specs.Texts.{IsRefusedAt}
+use Rattle.ol_subjects.specs.Limited.{bytes_words, depth_words}
 use Rattle.ol_grades.specs.Grades.{IsNoTermText, place_words}
 use Rattle.ol_grades.proofs.Walks.{told_so}
 use Rattle.ol_grades.proofs.functions.fault_of.Goals as goal
 
 pub returns-then-bytes : goal.returns-then-bytes
-returns-then-bytes c = told_so c.args.bytes.now (codes "limit bytes 1048576") c.in_ok-words.words.items
+unfolding digits
+returns-then-bytes c = told_so c.args.bytes.now bytes_words c.in_ok-words.words.items
     c.in_ok-words.ensures (IsNoTermText.long (omega (arith, c.if-bytes.true)))
 
 pub syntax_words-requires : goal.syntax_words-requires
@@ -23,7 +26,8 @@ returns-in_ok-words-in-Syntax c =
     (IsNoTermText.syntax_at {at = c.in-Syntax.at} (omega (arith, c.if-bytes.false)) told)
 
 pub returns-in_ok-words-in-Depth : goal.returns-in_ok-words-in-Depth
+unfolding digits
 returns-in_ok-words-in-Depth c =
     let told = (c.in-Err.ensures.too_deep (λ e. absurd (cc)) c.in-Depth.depth).0 (rw c.in-Depth.is refl) in
-    told_so c.args.bytes.now (codes "limit depth 1000") c.in_ok-words-in-Depth.words.items
+    told_so c.args.bytes.now depth_words c.in_ok-words-in-Depth.words.items
     c.in_ok-words-in-Depth.ensures (IsNoTermText.deep {d = c.in-Depth.depth} (omega (arith, c.if-bytes.false)) told)

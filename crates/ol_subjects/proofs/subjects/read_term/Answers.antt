@@ -1,4 +1,5 @@
 use Rattle.std.proofs.Common.{◌<◌, ◌≤◌, ◌⊎◌, inl, inr, refl, arith}
+use Rattle.std.specs.Fmt.{digits}
 use Rattle.std.proofs.lemmas.Bool.{cases_lt}
 use Rattle.ol_term.specs.Trees.{tree_of}
 use Rattle.ol_translate.specs.Sizes.{size_of_translation}
@@ -26,6 +27,7 @@ returns-in-Ok-translate c =
     go (inr small) = small
 
 pub returns-in-Ok : goal.returns-in-Ok
+unfolding digits
 returns-in-Ok c =
     let p = c.in-Ok.ensures in
     let past = (c.in-Err-translate.ensures.too_many (λ e. absurd (cc))).0 (rw c.in-TooMany.is refl) in
@@ -37,6 +39,7 @@ returns-in-Syntax c =
     syntax_at c.in-Syntax.at told c.in_ok-text-in-Syntax.ensures
 
 pub returns : goal.returns
+unfolding digits
 returns c =
     let told = (c.in-Err.ensures.too_deep (λ e. absurd (cc)) c.in-Depth.depth).0 (rw c.in-Depth.is refl) in
     deep c.in-Depth.depth told c.in_ok-text-in-Depth.ensures
