@@ -7,7 +7,6 @@ use Rattle.ol_parse.specs.Grammar.{Token, name, let_key, in_key, lambda, open_br
 use Rattle.ol_parse.specs.Texts.{Spells}
 use Rattle.ol_parse.specs.declared.faults.ParseFault.{ParseFault}
 use Rattle.ol_parse.specs.declared.faults.ParseFault.TheVariants.{NoMemory, Syntax, Depth}
-use Rattle.ol_subjects.specs.Limited.{depth_words}
 use Rattle.ol_free.specs.Occurrences.{is_unbound}
 use Rattle.ol_free.specs.Frees.{lines_of}
 use Rattle.ol_free.specs.declared.placing.Place.{Place}
@@ -115,4 +114,4 @@ pub record IsLeft (lines so_far : List ℕ) (p : Place) (m : Mode) (ss : List Sc
 abbrev pub IsRefusal : ParseFault → List ℕ → Type 0
 IsRefusal NoMemory text = ⊥
 IsRefusal (Syntax at) text = text ≡ codes "syntax at byte " ++ decimal at ++ codes "\n"
-IsRefusal (Depth d) text = text ≡ depth_words ++ codes "\n"
+IsRefusal (Depth d) text = text ≡ codes "limit depth 1000\n"

@@ -1,4 +1,5 @@
 use Rattle.std.proofs.Common.{◌≡◌, rules}
+use Rattle.std.specs.Fmt.{digits}
 use Rattle.ol_grades.specs.Inside.{seen_lines}
 use Rattle.ol_grades.proofs.Said.{text_so, too_long_so, unread_so}
 use Rattle.ol_grades.proofs.grading.told_of.Goals as goal
@@ -17,6 +18,7 @@ returns-in_ok-told-in-Unread c =
     t.told.fine c.in-Unread.is t.ensures.words t.ensures.fine
 
 pub returns-in_ok-told-in-TooLong : goal.returns-in_ok-told-in-TooLong
+unfolding digits
 returns-in_ok-told-in-TooLong c =
     let t = c.in_ok-told-in-TooLong in
     too_long_so c.args.bounds (seen_lines c.args.inputs.now) c.args.wanted.now.items c.args.work.now t.told.words.items
