@@ -90,7 +90,7 @@ folded_letters_read_again order at n bytes source v terms i within few walk =
     let r = along order names (number source) (binders_of source) first walk in
     let x = folded_at g.first g.values at v in
     let p = folded_placed names n (number source) (binders_of source) at v w (names_good bytes source i)
-            (names_differ source) first.words r in
+    (names_differ source) first.words r in
     let deep = (is_fold_of g.first g.values at v).deep in
     let last = (last_within order (number source) within walk).1 in
     let h : IsReadable g.names x = record {
