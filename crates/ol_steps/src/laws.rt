@@ -32,11 +32,11 @@ pub fn folded_redexes_are_marked()
     ensures unfolded { UnfoldsToNext }
 {}
 
-/// Take a tree, folded or not, and the term as which it is shown. An address leads to a part of the
-/// term exactly if it leads to a subterm of the tree. The part is that subterm, as it is written below the binders round it,
-/// with the names of its own binders. If the whole is read again as the tree, the part is read below
-/// the binders round it as the subterm. `names_are_read_again`, `folds_are_read_again` and
-/// `letters_are_read_again` say that the whole is read so.
+/// Let a tree, folded or not, be shown as a term. An address leads to a part of the term exactly if
+/// it leads to a subterm of the tree. The part is that subterm, as it is written below the binders
+/// round it, with the names of its own binders. If the whole is read again as the tree, the part is
+/// read below the binders round it as the subterm. `names_are_read_again`, `folds_are_read_again`
+/// and `letters_are_read_again` say that the whole is read so.
 pub fn parts_are_subterms()
     ensures there { PartsAreThere }
     ensures fits { BindersAlongFit }
@@ -55,9 +55,9 @@ pub fn names_are_read_again()
 
 /// Let steps be made from the source, which has fewer than 4,294,967,296 free names. If each term of
 /// a walk is printed with letters for its binders, it is read again, with these names, as a term of
-/// the same tree. Let parts be written by the names of lets, and both sorts of names together be
-/// fewer than that. Then it is read again as the folded term, with the names of both. If the lets'
-/// values are put in the places of their names, it is the term of the walk.
+/// the same tree. Let parts be written by the names of lets, and let these and the free names
+/// together be fewer than that. Then what is printed is read again as the folded term, with all these
+/// names. If the lets' values are put in the places of their names, it is the term of the walk.
 pub fn letters_are_read_again()
     ensures plain { LettersReadAgain }
     ensures folded { FoldedLettersReadAgain }
