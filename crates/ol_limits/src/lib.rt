@@ -1,4 +1,4 @@
-//! Most limits of what is read, made ready, rewritten and printed, each in one place; and numbers
+//! The limits of what is read, made ready, rewritten and printed, each in one place; and numbers
 //! that keep theirs.
 //!
 //! Clauses have the limits from specs/Limits.antt, where they stand as numerals. So a constant of
