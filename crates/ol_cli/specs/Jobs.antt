@@ -1,5 +1,5 @@
 -- What the words ask for, the files of it, and more definitions by cases of commands than any other file. A new command
--- has its lines in the second part, under each definition whose last line isn't true of it.
+-- on one term file has its lines in the second part, under each definition whose last line isn't true of it.
 use Rattle.std.specs.Prelude.{◌≡◌, ℕ, ◌≤◌, true, false, Bool, Option, None, Some, List, [], ◌∷◌, String, length, slice_get}
 use Rattle.std.specs.Prelude.{slice_index_or}
 use Rattle.std.specs.declared.alloc.Global.{Global}

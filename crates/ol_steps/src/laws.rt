@@ -55,9 +55,10 @@ pub fn names_are_read_again()
 
 /// Let steps be made from the source, which has fewer than 4,294,967,296 free names. If each term of
 /// a walk is printed with letters for its binders, it is read again, with these names, as a term of
-/// the same tree. Let parts be written by the names of lets, and let these and the free names
-/// together be fewer than that. Then what is printed is read again as the folded term, with all these
-/// names. If the lets' values are put in the places of their names, it is the term of the walk.
+/// the same tree. Let parts be written by the names of lets, and let the names of lets and the free
+/// names together be fewer than 4,294,967,296. Then what is printed is read again as the folded
+/// term, with all these names. If the lets' values are put in the places of their names, it is the
+/// term of the walk.
 pub fn letters_are_read_again()
     ensures plain { LettersReadAgain }
     ensures folded { FoldedLettersReadAgain }
