@@ -12,6 +12,7 @@ use Rattle.ol_rules.specs.Runs.{IsRun, IsOneThread}
 use Rattle.ol_rules.specs.declared.journal.Entry.{Entry}
 use Rattle.ol_rules.specs.declared.journal.NodeName.{NodeName}
 use Rattle.ol_rules.specs.declared.journal.NodeName.TheVariants.{Init}
+use Rattle.ol_law_unstuck.specs.Rings.{HasNoRing}
 use Rattle.ol_law_endings.specs.Walks.{AreBounded}
 use Rattle.ol_law_endings.specs.Weights.{weight, WeighsAtMost}
 
@@ -64,3 +65,7 @@ abbrev pub BoundedGraphRunsEnd : Type 0
 BoundedGraphRunsEnd = (N : NamedNet ℕ) (b : ℕ) → IsNet N → AreBounded N b →
     (g : Graph) → IsNet (net_of g) → SameNet (net_of g) N →
     RunsEndWithin g (length N.nodes * weight (suc b))
+
+-- A net that has a weight has no ring of principal ports: a walk that rises into one never ends.
+abbrev pub LightHasNoRing : Type 0 → Type 0
+LightHasNoRing A = (N : NamedNet A) (m : ℕ) → IsNet N → WeighsAtMost N m → HasNoRing N

@@ -5,7 +5,12 @@ use Rattle.std.specs.Prelude.{◌≡◌, ℕ, true, false, Bool, List, Some, ◌
 use Rattle.ol_beta.specs.Beta.{contracted}
 use Rattle.ol_law_confluence.specs.Reductions.{WeakStep, weak_beta, weak_before}
 use Rattle.ol_net.specs.Graph.{Graph}
-use Rattle.ol_net.specs.Nets.{IsNet, SameNet}
+use Rattle.ol_net.specs.Nets.{NamedNet, IsNet, SameNet, net_under}
+use Rattle.ol_rules.specs.Runs.{IsRun}
+use Rattle.ol_rules.specs.declared.journal.Entry.{Entry}
+use Rattle.ol_rules.specs.declared.journal.NodeName.{NodeName}
+use Rattle.ol_rules.specs.declared.journal.NodeName.TheVariants.{Init}
+use Rattle.ol_law_unstuck.specs.Rings.{HasNoRing}
 use Rattle.ol_net.specs.Numbered.{net_of}
 use Rattle.ol_term.specs.Trees.{Tree, var, free, lam, app}
 use Rattle.ol_term.specs.declared.translations.Translation.{Translation}
@@ -40,14 +45,20 @@ pub data Normalises : Bool → Tree → Type 0 where
 abbrev pub StrongByRules : Type 0
 StrongByRules = (t : Tree) → IsStronglyNormalising t ↔ Normalises false t
 
--- What isn't proved: in the net of a strongly normalising term walks are bounded.
+-- In the net of a strongly normalising term, by either translation, walks are bounded.
 abbrev pub StrongIsBounded : Type 0
 StrongIsBounded = (τ : Translation) (t : Tree) (names : ℕ) → HasNames t names →
     IsStronglyNormalising t → (b : ℕ) × AreBounded (translation_of τ t names) b
 
--- If it were, every run of such a net would end, within a number that the net tells.
-abbrev pub StrongEndsIfBounded : Type 0
-StrongEndsIfBounded = StrongIsBounded →
-    (τ : Translation) (t : Tree) (names : ℕ) → HasNames t names → IsStronglyNormalising t →
-    (n : ℕ) × ((g : Graph) → IsNet (net_of g) →
+-- So every run of such a net ends, within a number that the net tells.
+abbrev pub StrongEnds : Type 0
+StrongEnds = (τ : Translation) (t : Tree) (names : ℕ) → HasNames t names →
+    IsStronglyNormalising t → (n : ℕ) × ((g : Graph) → IsNet (net_of g) →
     SameNet (net_of g) (translation_of τ t names) → RunsEndWithin g n)
+
+-- And no run leads to a ring of principal ports.
+abbrev pub StrongHasNoRing : Type 0
+StrongHasNoRing = (τ : Translation) (t : Tree) (names : ℕ) → HasNames t names →
+    IsStronglyNormalising t → (g : Graph) → IsNet (net_of g) →
+    SameNet (net_of g) (translation_of τ t names) → (journal : List Entry)
+    (M : NamedNet NodeName) → IsRun (net_under Init (net_of g)) 0 journal M → HasNoRing M

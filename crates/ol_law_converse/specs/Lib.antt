@@ -1,0 +1,2 @@
+-- What clauses of public functions rest on.
+pub mod Laws
