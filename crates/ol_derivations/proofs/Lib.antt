@@ -6,3 +6,4 @@ pub mod Unique
 pub mod NormalForms
 pub mod Redexes
 pub mod Seeking
+pub mod Conversion

@@ -7,6 +7,7 @@ pub mod Reductions
 pub mod Verdicts
 pub mod Derivations
 pub mod Laws
+pub mod Conversion
 -- What only contracts of private functions and proofs cite.
 pub mod Inside
 pub mod Searches

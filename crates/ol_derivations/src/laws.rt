@@ -1,5 +1,6 @@
 //! Laws of derivations: no code, only what follows from the definitions.
 
+ghost use Rattle.ol_derivations.specs.Conversion.{ApartIsNotConvertible};
 ghost use Rattle.ol_derivations.specs.Laws.{NoneIsMissed, OneAnswer, OneVerdict, YesIsRight};
 
 /// If the answer is `Yes`, the file has a first term, and each further one comes from the one
@@ -23,4 +24,9 @@ pub fn none_is_missed()
 /// A file has one answer.
 pub fn one_answer()
     ensures { OneAnswer }
+{}
+
+/// Terms that are told to be `not convertible` aren't, whatever is reduced.
+pub fn apart_is_not_convertible()
+    ensures { ApartIsNotConvertible }
 {}

@@ -24,7 +24,7 @@ mod telling;
 mod walking;
 
 pub use judging::{Verdict, judge};
-pub use laws::{none_is_missed, one_answer, one_verdict, yes_is_right};
+pub use laws::{apart_is_not_convertible, none_is_missed, one_answer, one_verdict, yes_is_right};
 pub use lines::{Read, lines_of, read_line, words_of};
 pub use tables::add_names;
 pub use telling::line_text;

@@ -40,7 +40,7 @@ use Rattle.ol_law_families.proofs.MetSeen.{SeenBy, comes_seen}
 use Rattle.ol_law_families.proofs.Wanting.{wanted_degree}
 
 -- where each place has a head nothing waits, and all that were asked have one
-asked_all : (ps : List ReadNode) (ss : List Subterm) → HasAllHeads (ps ++ map (λ s. node.Cut) ss) →
+pub asked_all : (ps : List ReadNode) (ss : List Subterm) → HasAllHeads (ps ++ map (λ s. node.Cut) ss) →
     HasAllHeads ps × (ss ≡ [])
 asked_all [] [] h = (tt, refl)
 asked_all [] (s ∷ ss) h = absurd h
@@ -50,7 +50,7 @@ asked_all (node.Cut ∷ ps) ss h = absurd h
 
 module _ (τ : Translation) (T : Labelled) (names : ℕ) (h : HasNames (erased T) names) (letter : ℕ → ℕ → ℕ)
     (are : AreLettered τ letter T 0 0 0) where
-  at_port : (y : Place) (v : Level) (c : Context) (p : Site) (m : Comes τ (erased T) (at y v c) p) (q : ℕ) →
+  pub at_port : (y : Place) (v : Level) (c : Context) (p : Site) (m : Comes τ (erased T) (at y v c) p) (q : ℕ) →
       y ≡ place q → SeenBy τ T names h letter are q (cons v c) (word_of T p m.matched)
   at_port y v c p m q e = subst (λ y. (m : Comes τ (erased T) (at y v c) p) →
       SeenBy τ T names h letter are q (cons v c) (word_of T p m.matched)) (sym e) (λ m. comes_seen τ T names h letter are

@@ -52,7 +52,7 @@ use Rattle.ol_law_frugal.proofs.Wanted.{one_step, arg_stops}
 -- ---- head steps to a head normal form
 
 -- from a term on the way they lead to it too
-rest_of : {P u l : Tree} {m j : ℕ} {q : Place} {a : Level} {k : ℕ} → Steps P u m → Steps P l j → Normal l q a k →
+pub rest_of : {P u l : Tree} {m j : ℕ} {q : Place} {a : Level} {k : ℕ} → Steps P u m → Steps P l j → Normal l q a k →
     outer u ≤ outer l
 rest_of done s n = outer_along s
 rest_of (step h s) done n = absurd (normal_stops n h)
@@ -391,7 +391,7 @@ module _ (τ : Translation) (t : Tree) (names : ℕ) (h : HasNames t names) wher
   none_waits q X F n o = elim o [ ]
 
   -- a place to which walks from the root lead is a port of the net
-  port_of_place : {y : Place} {v : Level} → Reached τ t y v → (q : ℕ) × (y ≡ place q)
+  pub port_of_place : {y : Place} {v : Level} → Reached τ t y v → (q : ℕ) × (y ≡ place q)
   port_of_place (begun n l e) = (0, refl)
   port_of_place (walked {p = p} {q = q} {v = v} {w = w} {c = c} {d = d} {n = n} r l) =
       let x = port_of_place r in

@@ -44,7 +44,7 @@ module _ (τ : Translation) where
 
   -- ---- before a head step
 
-  place_back : {t t' : Tree} (h : HeadStep t t') {y : Place} {w : Level} → Reached t' y w →
+  pub place_back : {t t' : Tree} (h : HeadStep t t') {y : Place} {w : Level} → Reached t' y w →
       (v : Level) × Same τ h y v w × Reached t y v
   place_back {t} h (begun n f e) =
       let g = outer_grows h in
@@ -99,7 +99,7 @@ module _ (τ : Translation) where
     pub reached : Reached (erased T) wanted.place wanted.first
     pub alike : AreAlike (word_of T site wanted.comes.matched) g
 
-  abbrev labelled : (t : Tree) (U : Labelled) (q : Site) → IsMatched τ t q → Signs
+  abbrev pub labelled : (t : Tree) (U : Labelled) (q : Site) → IsMatched τ t q → Signs
   labelled t U q n = signs_of (function_label U q) ++ word_along U n.trail
 
   same_word : (t : Tree) (U : Labelled) (q q' : Site) → q ≡ q' → (y : IsMatched τ t q') (x : IsMatched τ t q) →
@@ -108,7 +108,7 @@ module _ (τ : Translation) where
       AreAlike (labelled t U q' y) (labelled t U q x)) e (λ y x. tree_word τ t U q y x)
 
   module _ {T U : Labelled} {d : Label} (k : Step τ T d U) where
-    comes_back : (q : Site) (y : Place) (v w : Level) (c : Context) → Same τ k.step y v w →
+    pub comes_back : (q : Site) (y : Place) (v w : Level) (c : Context) → Same τ k.step y v w →
         (n : Comes τ k.tree (at y w c) q) → (p : Site) × (m : Comes τ (erased T) (at y v c) p)
         × AreAlike (word_of T p m.matched) (labelled k.tree U q n.matched)
     comes_back q y v w c e n =
@@ -215,25 +215,25 @@ module _ (τ : Translation) where
 
   -- ---- in an argument of a head normal form
 
-  abbrev deep_at : {u P : Tree} {i : ℕ} → Arg u i P → Spot → Spot
+  abbrev pub deep_at : {u P : Tree} {i : ℕ} → Arg u i P → Spot → Spot
   deep_at (last s) z = arg empty z
   deep_at (earlier s k) z = fun (deep_at k z)
   deep_at (inner k) z = body (deep_at k z)
 
-  deep_site : {u P : Tree} {i : ℕ} (k : Arg u i P) (p : Site) (s : Spot) →
+  pub deep_site : {u P : Tree} {i : ℕ} (k : Arg u i P) (p : Site) (s : Spot) →
       deep_at k (spot_in p s) ≡ spot_in (put_in k empty p) s
   deep_site (last s) p z = refl
   deep_site (earlier s k) p z = ap fun (deep_site k p z)
   deep_site (inner k) p z = ap body (deep_site k p z)
 
-  sunk : {u P : Tree} {i : ℕ} (k : Arg u i P) {s z : Spot} {n : ℕ} → Trail (Edge τ P) s z n →
+  pub sunk : {u P : Tree} {i : ℕ} (k : Arg u i P) {s z : Spot} {n : ℕ} → Trail (Edge τ P) s z n →
       Trail (Edge τ u) (deep_at k s) (deep_at k z) n
   sunk (last s) t = tr_arg t
   sunk (earlier s k) t = tr_fun (sunk k t)
   sunk (inner k) t = tr_body (sunk k t)
 
   -- from where a spot of its interface stands
-  enters : {u P : Tree} {i : ℕ} (k : Arg u i P) (p q : Place) (v b : Level) (c d : Context) →
+  pub enters : {u P : Tree} {i : ℕ} (k : Arg u i P) (p q : Place) (v b : Level) (c d : Context) →
       StandsAt τ k empty p v c q b d → Deep τ u (at q b d) (deep_at k (at p v c))
   enters (last {R = R} {P = P} {y = y} {a = a} {i = i} s) p q v b c d (hat_root {z = z} e f g) = record {
     weight = _;
@@ -274,13 +274,13 @@ module _ (τ : Translation) where
   any_later (inner k) p r v b' c d l (hat_up {q = q} {b = b} h up) =
       let x = any_later k p q v b c d l h in (x.0, hat_up x.1 up)
 
-  record Seen {u P : Tree} {i : ℕ} (k : Arg u i P) (x : Place) (v : Level) : Type 0 where
-    place : Place
-    level : Level
-    reached : Reached u place level
-    stands : (c : Context) → (d : Context) × StandsAt τ k empty x v c place level d
+  pub record Seen {u P : Tree} {i : ℕ} (k : Arg u i P) (x : Place) (v : Level) : Type 0 where
+    pub place : Place
+    pub level : Level
+    pub reached : Reached u place level
+    pub stands : (c : Context) → (d : Context) × StandsAt τ k empty x v c place level d
 
-  reached_up : {u P : Tree} {i : ℕ} (k : Arg u i P) {q : Place} {a : Level} {j : ℕ} → Normal u q a j →
+  pub reached_up : {u P : Tree} {i : ℕ} (k : Arg u i P) {q : Place} {a : Level} {j : ℕ} → Normal u q a j →
       {x : Place} {v : Level} → Reached P x v → Seen k x v
   reached_up {u} k {q} {a} n {v = v} (begun m f e) = record {
     place = q;

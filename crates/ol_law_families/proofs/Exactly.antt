@@ -169,13 +169,13 @@ module _ {B : Type 0} (m : ℕ → B) (M : NamedNet B) (n : IsNet M) (τ : Trans
 module _ (ToldBy : Route NodeName → Label → Type 0) (alike : (s : Route NodeName) (d e : Label) → ToldBy s d →
     ToldBy s e → d ≡ e) (apart : (s u : Route NodeName) (d : Label) → ToldBy s d → ToldBy u d → s ≡ u)
     (ds : List Label) where
-  record Labels (ss : List (Route NodeName)) : Type 0 where
-    labels : List Label
-    different : AreDifferent labels
-    within : (e : Label) → IsIn e labels → IsIn e ds
-    count : length ss ≡ length labels
-    back : (e : Label) → IsIn e labels → (s : Route NodeName) × IsIn s ss × ToldBy s e
-    each : (s : Route NodeName) → IsIn s ss → (e : Label) × IsIn e labels × ToldBy s e
+  pub record Labels (ss : List (Route NodeName)) : Type 0 where
+    pub labels : List Label
+    pub different : AreDifferent labels
+    pub within : (e : Label) → IsIn e labels → IsIn e ds
+    pub count : length ss ≡ length labels
+    pub back : (e : Label) → IsIn e labels → (s : Route NodeName) × IsIn s ss × ToldBy s e
+    pub each : (s : Route NodeName) → IsIn s ss → (e : Label) × IsIn e labels × ToldBy s e
 
   one_more_label : (s : Route NodeName) (ss : List (Route NodeName)) → routes.AreDifferent (s ∷ ss) → Labels ss →
       (e : Label) → IsIn e ds → ToldBy s e → Labels (s ∷ ss)
@@ -205,7 +205,7 @@ module _ (ToldBy : Route NodeName → Label → Type 0) (alike : (s : Route Node
       each' u (inl q) = (e, inl refl, subst (λ u. ToldBy u e) (sym q) t)
       each' u (inr j) = let b = x.each u j in (b.0, inr b.1, b.2)
 
-  labels_of : (ss : List (Route NodeName)) → routes.AreDifferent ss →
+  pub labels_of : (ss : List (Route NodeName)) → routes.AreDifferent ss →
       ((s : Route NodeName) → IsIn s ss → (e : Label) × IsIn e ds × ToldBy s e) → Labels ss
   labels_of [] d f = record {
     labels = [];
@@ -253,16 +253,16 @@ module _ (τ : Translation) (T : Labelled) (names : ℕ) (h : HasNames (erased T
   ToldBy s e = (g : Signs) × IsTold Init (net_under Init K) start.net τ T names h I letter are s g × AreAlike g
       (signs_of e)
 
-  alike : (s : Route NodeName) (d e : Label) → ToldBy s d → ToldBy s e → d ≡ e
+  pub alike : (s : Route NodeName) (d e : Label) → ToldBy s d → ToldBy s e → d ≡ e
   alike s d e a b = alike_is_one d e (λ r x. sym (a.2 r x)
       ∙ told_alike Init (net_under Init K) start.net τ T names h I letter are s a.0 b.0 a.1 b.1 r x ∙ b.2 r x)
 
-  apart : (s u : Route NodeName) (d : Label) → ToldBy s d → ToldBy u d → s ≡ u
+  pub apart : (s u : Route NodeName) (d : Label) → ToldBy s d → ToldBy u d → s ≡ u
   apart s u d a b = told_one Init (net_under Init K) start.net τ T names h I letter are atoms s u a.0 b.0 a.1 b.1
       (λ r x. a.2 r x ∙ sym (b.2 r x))
 
   -- the word of a redex that is seen is that of the one to which the walk over the term comes
-  seen_told : (s : Route NodeName) (p : ℕ) (c : Context) → IsSeen (net_under Init K) p c s → (P : Label → Type 0) →
+  pub seen_told : (s : Route NodeName) (p : ℕ) (c : Context) → IsSeen (net_under Init K) p c s → (P : Label → Type 0) →
       ((q : Site) (m : Comes τ (erased T) (at (place p) (c 0) (tail c)) q) → (d : Label) × P d
       × AreAlike (word_of T q m.matched) (signs_of d)) →
       (d : Label) × P d × ToldBy s d

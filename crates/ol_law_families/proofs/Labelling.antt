@@ -137,7 +137,7 @@ each_term_has_letters t = (
 -- ---- steps
 
 -- where the one is something, so is the other
-abbrev SomeToo : Option Labelled → Option Label → Type 0
+abbrev pub SomeToo : Option Labelled → Option Label → Type 0
 SomeToo o p = (U : Labelled) → o ≡ Some U → (w : Label) × (p ≡ Some w)
 
 none_some : {X : Type 0} {x : X} → None ≡ Some x → ⊥
@@ -163,7 +163,7 @@ applied_too (labels.lam b v) c w = λ U e. (v, refl)
 applied_too (labels.app f a v) c w = none_too None
 
 -- each step has a degree
-has_degree : (T : Labelled) (at : List ℕ) → SomeToo (contracted T at) (degree T at)
+pub has_degree : (T : Labelled) (at : List ℕ) → SomeToo (contracted T at) (degree T at)
 has_degree (labels.var k w) at = none_too None
 has_degree (labels.free k w) at = none_too None
 has_degree (labels.lam t w) [] = none_too None
@@ -179,7 +179,7 @@ has_degree (labels.app f c w) (m ∷ at) =
     (if_too (m == 2) (option_map (λ a. labels.app f a w) (contracted c at)) None (degree c at) None
     (map_too (λ a. labels.app f a w) (contracted c at) (degree c at) (has_degree c at)) (none_too None))
 
-erased_some : (o : Option Labelled) (u : Tree) → option_map erased o ≡ Some u →
+pub erased_some : (o : Option Labelled) (u : Tree) → option_map erased o ≡ Some u →
     (U : Labelled) × (o ≡ Some U) × (erased U ≡ u)
 erased_some None u e = absurd (none_some e)
 erased_some (Some U) u e = (U, refl, same_Some (erased U) u e)

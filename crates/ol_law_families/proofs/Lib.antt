@@ -36,3 +36,4 @@ pub mod Exactly
 pub mod HeadFamilies
 pub mod AllFamilies
 pub mod Labelling
+pub mod Entries

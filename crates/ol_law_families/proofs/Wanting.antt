@@ -36,7 +36,7 @@ use Rattle.ol_law_families.proofs.Sides.{site_has_one_word}
 module _ {τ : Translation} {T U : Labelled} {d : Label} {t' : Tree} {S : Place → Level → Level →
     Type 0} (w : Keeps τ (erased T) t' T U S d) where
   -- a walk from a place goes on to the redex that is left, with its word
-  comes_on : (p : Site) (y : Place) (v v' : Level) (c : Context) (m : Comes τ (erased T) (at y v c) p) → S y v v' →
+  pub comes_on : (p : Site) (y : Place) (v v' : Level) (c : Context) (m : Comes τ (erased T) (at y v c) p) → S y v v' →
       (p ≡ w.redex) ⊎ ((q : Site) × (k : Comes τ t' (at y v' c) q)
       × AreAlike (word_of T p m.matched) (signs_of (function_label U q) ++ word_along U k.matched.trail))
   comes_on p y v v' c m e =

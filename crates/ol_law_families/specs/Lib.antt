@@ -7,3 +7,4 @@ pub mod Families
 pub mod HeadFamilies
 pub mod AllFamilies
 pub mod Labelling
+pub mod Entries

@@ -4,6 +4,7 @@
 #![tactic(auto)]
 
 ghost use Rattle.ol_law_families.specs.AllFamilies.{BetasAreFamilies};
+ghost use Rattle.ol_law_families.specs.Entries.{BetasSpellFamilies};
 ghost use Rattle.ol_law_families.specs.Families.{LabelsHaveTheirSigns, SignsTellRoutes};
 ghost use Rattle.ol_law_families.specs.Families.{NoMoreBetasThanFamilies};
 ghost use Rattle.ol_law_families.specs.Families.{BetasAreNoMoreThanFamilies};
@@ -140,4 +141,13 @@ pub fn labels_can_be_had()
     ensures letters { EachTermHasLetters }
     ensures steps { LeftmostIsLabelled }
     ensures erased { LabelledIsLeftmost }
+{}
+
+/// The beta steps of demand order are the families that leftmost reduction contracts, one by one. Let
+/// each subterm of a term have a letter of its own, and let leftmost reduction of the labelled term
+/// end in a normal form. Then each beta step of a demand run that has a head at each place comes from
+/// a route of the term's net that spells a degree, no two spell the same one, and each degree is
+/// spelled.
+pub fn betas_spell_families()
+    ensures { BetasSpellFamilies }
 {}

@@ -197,11 +197,11 @@ each_head_degree_is_needed T v V ds us l c n d i =
 
 -- ---- head reduction with the labels
 
-record Labels (T : Labelled) (v : Tree) : Type 0 where
-  term : Labelled
-  degrees : List Label
-  heads : HeadReduces T degrees term
-  is : erased term ≡ v
+pub record Labels (T : Labelled) (v : Tree) : Type 0 where
+  pub term : Labelled
+  pub degrees : List Label
+  pub heads : HeadReduces T degrees term
+  pub is : erased term ≡ v
 
 step_erased : (T : Labelled) {u : Tree} {at : List ℕ} → shows.IsHeadAddress at →
     beta.contracted (erased T) at ≡ Some u →
@@ -217,7 +217,7 @@ step_erased T {u} c e =
       same_step (erased T) l.1 (sym (labels_erase T l.0) ∙ ap (option_map erased) l.3) k.1 k.2,
     )
 
-with_labels : {t v : Tree} → shows.HeadReduces t v → (T : Labelled) → erased T ≡ t → Labels T v
+pub with_labels : {t v : Tree} → shows.HeadReduces t v → (T : Labelled) → erased T ≡ t → Labels T v
 with_labels shows.ready T q = record { term = T; degrees = []; heads = readings.ready; is = q }
 with_labels (shows.contract {u = u} {at = at} c e r) T q =
     let s =

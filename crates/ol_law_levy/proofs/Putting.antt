@@ -30,7 +30,7 @@ before_joined v w (free k x) = ap (free k) (sym (joined_joined v w x))
 before_joined v w (lam t x) = ap (lam t) (sym (joined_joined v w x))
 before_joined v w (app f a x) = ap (app f a) (sym (joined_joined v w x))
 
-before_none : (t : Labelled) → before none t ≡ t
+pub before_none : (t : Labelled) → before none t ≡ t
 before_none (var y w) = refl
 before_none (free f w) = refl
 before_none (lam t w) = refl
@@ -53,7 +53,7 @@ before_ren v ξ (app t u w) = refl
 ren_like : {ξ ζ : ℕ → ℕ} → ((y : ℕ) → ξ y ≡ ζ y) → (t : Labelled) → ren ξ t ≡ ren ζ t
 ren_like h t = λ i. ren (λ y. h y i) t
 
-ren_ren : (t : Labelled) (ζ ξ : ℕ → ℕ) → ren ζ (ren ξ t) ≡ ren (λ y. ζ (ξ y)) t
+pub ren_ren : (t : Labelled) (ζ ξ : ℕ → ℕ) → ren ζ (ren ξ t) ≡ ren (λ y. ζ (ξ y)) t
 ren_ren (var y w) ζ ξ = refl
 ren_ren (free f w) ζ ξ = refl
 ren_ren (lam t w) ζ ξ =
@@ -79,14 +79,14 @@ before_inst v σ (free f w) = refl
 before_inst v σ (lam t w) = refl
 before_inst v σ (app t u w) = refl
 
-inst_like : {σ τ : ℕ → Labelled} → ((y : ℕ) → σ y ≡ τ y) → (t : Labelled) → inst σ t ≡ inst τ t
+pub inst_like : {σ τ : ℕ → Labelled} → ((y : ℕ) → σ y ≡ τ y) → (t : Labelled) → inst σ t ≡ inst τ t
 inst_like h t = λ i. inst (λ y. h y i) t
 
 up_after_ren : (σ : ℕ → Labelled) (ξ : ℕ → ℕ) (y : ℕ) → up σ (up_ren ξ y) ≡ up (λ y. σ (ξ y)) y
 up_after_ren σ ξ zero = refl
 up_after_ren σ ξ (suc y) = refl
 
-inst_ren : (t : Labelled) (σ : ℕ → Labelled) (ξ : ℕ → ℕ) →
+pub inst_ren : (t : Labelled) (σ : ℕ → Labelled) (ξ : ℕ → ℕ) →
     inst σ (ren ξ t) ≡ inst (λ y. σ (ξ y)) t
 inst_ren (var y w) σ ξ = refl
 inst_ren (free f w) σ ξ = refl
@@ -99,7 +99,7 @@ ren_after_up : (ξ : ℕ → ℕ) (σ : ℕ → Labelled) (y : ℕ) →
 ren_after_up ξ σ zero = refl
 ren_after_up ξ σ (suc y) = ren_ren (σ y) (up_ren ξ) suc ∙ sym (ren_ren (σ y) suc ξ)
 
-ren_inst : (t : Labelled) (ξ : ℕ → ℕ) (σ : ℕ → Labelled) →
+pub ren_inst : (t : Labelled) (ξ : ℕ → ℕ) (σ : ℕ → Labelled) →
     ren ξ (inst σ t) ≡ inst (λ y. ren ξ (σ y)) t
 ren_inst (var y w) ξ σ = before_ren w ξ (σ y)
 ren_inst (free f w) ξ σ = refl
@@ -111,7 +111,7 @@ inst_after_up : (τ σ : ℕ → Labelled) (y : ℕ) → inst (up τ) (up σ y) 
 inst_after_up τ σ zero = refl
 inst_after_up τ σ (suc y) = inst_ren (σ y) (up τ) suc ∙ sym (ren_inst (σ y) suc τ)
 
-inst_inst : (t : Labelled) (τ σ : ℕ → Labelled) → inst τ (inst σ t) ≡ inst (λ y. inst τ (σ y)) t
+pub inst_inst : (t : Labelled) (τ σ : ℕ → Labelled) → inst τ (inst σ t) ≡ inst (λ y. inst τ (σ y)) t
 inst_inst (var y w) τ σ = before_inst w τ (σ y)
 inst_inst (free f w) τ σ = refl
 inst_inst (lam t w) τ σ =
@@ -139,13 +139,13 @@ up_of_ren : (ξ : ℕ → ℕ) (y : ℕ) → var (up_ren ξ y) none ≡ up (λ y
 up_of_ren ξ zero = refl
 up_of_ren ξ (suc y) = refl
 
-ren_is : (t : Labelled) (ξ : ℕ → ℕ) → ren ξ t ≡ inst (λ y. var (ξ y) none) t
+pub ren_is : (t : Labelled) (ξ : ℕ → ℕ) → ren ξ t ≡ inst (λ y. var (ξ y) none) t
 ren_is (var y w) ξ = ap (var (ξ y)) (sym (joined_none w))
 ren_is (free f w) ξ = refl
 ren_is (lam t w) ξ = ap (λ b. lam b w) (ren_is t (up_ren ξ) ∙ inst_like (up_of_ren ξ) t)
 ren_is (app t u w) ξ = λ i. app (ren_is t ξ i) (ren_is u ξ i) w
 
-ren_same : (ξ : ℕ → ℕ) → ((y : ℕ) → ξ y ≡ y) → (t : Labelled) → ren ξ t ≡ t
+pub ren_same : (ξ : ℕ → ℕ) → ((y : ℕ) → ξ y ≡ y) → (t : Labelled) → ren ξ t ≡ t
 unfolding plain
 ren_same ξ h t = ren_like h t ∙ ren_is t (λ y. y) ∙ inst_plain t
 
@@ -234,7 +234,7 @@ inst_point σ c zero = sym (before_none (inst σ c))
 inst_point σ c (suc y) =
     before_none (σ y) ∙ sym (inst_ren (σ y) (point (inst σ c)) suc ∙ inst_plain (σ y))
 
-inst_substituted : (σ : ℕ → Labelled) (c t : Labelled) →
+pub inst_substituted : (σ : ℕ → Labelled) (c t : Labelled) →
     inst σ (substituted c 0 t) ≡ substituted (inst σ c) 0 (inst (up σ) t)
 inst_substituted σ c t =
     ap (inst σ) (substituted_inst c t) ∙ inst_inst t σ (point c) ∙ inst_like (inst_point σ c) t

@@ -17,7 +17,7 @@ module _ (P : Label → Type 0) where
 
   -- ---- under substitution
 
-  parallel_before : {t u : Labelled} (x : Label) → Parallel P t u →
+  pub parallel_before : {t u : Labelled} (x : Label) → Parallel P t u →
       Parallel P (before x t) (before x u)
   parallel_before x of_var = of_var
   parallel_before x of_free = of_free
@@ -27,7 +27,7 @@ module _ (P : Label → Type 0) where
       subst (λ u. Parallel P (app (lam M v) N (joined x w)) u) (sym (before_reduct x w v N' M'))
       (of_redex i p q)
 
-  parallel_ren : {t u : Labelled} (ξ : ℕ → ℕ) → Parallel P t u → Parallel P (ren ξ t) (ren ξ u)
+  pub parallel_ren : {t u : Labelled} (ξ : ℕ → ℕ) → Parallel P t u → Parallel P (ren ξ t) (ren ξ u)
   parallel_ren ξ of_var = of_var
   parallel_ren ξ of_free = of_free
   parallel_ren ξ (of_lam p) = of_lam (parallel_ren (up_ren ξ) p)
@@ -41,7 +41,7 @@ module _ (P : Label → Type 0) where
   parallel_up h zero = of_var
   parallel_up h (suc y) = parallel_ren suc (h y)
 
-  parallel_inst : {t u : Labelled} (σ τ : ℕ → Labelled) → ((y : ℕ) → Parallel P (σ y) (τ y)) →
+  pub parallel_inst : {t u : Labelled} (σ τ : ℕ → Labelled) → ((y : ℕ) → Parallel P (σ y) (τ y)) →
       Parallel P t u → Parallel P (inst σ t) (inst τ u)
   parallel_inst σ τ h (of_var {y = y} {w = w}) = parallel_before w (h y)
   parallel_inst σ τ h of_free = of_free

@@ -4,7 +4,8 @@ use Rattle.ol_beta.specs.Leftmost.{IsNormal}
 use Rattle.ol_demand.specs.Answers.{start_of}
 use Rattle.ol_demand.specs.Demands.{Asking, Turns, IsDemandRun}
 use Rattle.ol_law_edges.specs.Edges.{IsIn}
-use Rattle.ol_law_meaning.specs.Shows.{IsHeadNormal}
+use Rattle.ol_law_frugal.specs.Steps.{steps_of}
+use Rattle.ol_law_meaning.specs.Shows.{BetaReduces, IsHeadNormal}
 use Rattle.ol_net.specs.Graph.{Graph}
 use Rattle.ol_net.specs.Nets.{NamedNet, IsNet, SameNet}
 use Rattle.ol_net.specs.Numbered.{net_of}
@@ -16,6 +17,7 @@ use Rattle.ol_readback.specs.declared.answers.ReadNode.{ReadNode}
 use Rattle.ol_rules.specs.Counting.{times_applied}
 use Rattle.ol_rules.specs.declared.journal.Entry.{Entry}
 use Rattle.ol_rules.specs.declared.journal.NodeName.{NodeName}
+use Rattle.ol_term.specs.Trees.{Tree}
 use Rattle.ol_term.specs.declared.translations.Translation.{Translation}
 use Rattle.ol_translate.specs.Names.{HasNames}
 use Rattle.ol_translate.specs.Translation.{translation_of}
@@ -94,3 +96,13 @@ DemandIsAsShortForAHead = (τ : Translation) (T V : Labelled) (us : List Label) 
     IsDemandRun (start_of g) 1 journal places M →
     (ds : List Label) × (W : Labelled) × HeadFamilies T ds W × IsHeadNormal (erased W)
     × (times_applied rule.Beta journal ≡ length ds)
+
+-- In the words of plain terms: no reduction of a term to a normal form, of whatever redexes in whatever order, has fewer
+-- steps than a demand run of the term's net makes beta steps.
+abbrev pub NeverMoreThanAny : Type 0
+NeverMoreThanAny = (τ : Translation) (t v : Tree) (r : BetaReduces t v) → IsNormal v →
+    (names : ℕ) → HasNames t names →
+    (g : Graph) → IsNet (net_of g) → SameNet (net_of g) (translation_of τ t names) →
+    (heads turns : ℕ) (journal : List Entry) (places : List ReadNode) (M : NamedNet NodeName)
+    (a : Asking) → Turns (start_of g) heads turns journal places M a →
+    times_applied rule.Beta journal ≤ steps_of r

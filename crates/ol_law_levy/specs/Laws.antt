@@ -1,10 +1,10 @@
 -- No way of contracting redexes of one family at once brings a term to its normal form by fewer steps
 -- than there are families that leftmost reduction contracts (Lévy): the laws.
-use Rattle.std.specs.Prelude.{◌≡◌, ◌≤◌, List, length, ◌↔◌}
-use Rattle.ol_beta.specs.Leftmost.{IsNormal}
+use Rattle.std.specs.Prelude.{◌≡◌, ℕ, ◌≤◌, List, [], ◌∷◌, Some, length, ◌↔◌}
+use Rattle.ol_beta.specs.Leftmost.{leftmost, IsNormal}
 use Rattle.ol_law_edges.specs.Edges.{IsIn}
 use Rattle.ol_law_meaning.specs.Shows.{IsHeadNormal}
-use Rattle.ol_law_optimal.specs.Labels.{Label, Labelled, erased, LeftmostContracts}
+use Rattle.ol_law_optimal.specs.Labels.{Label, Labelled, erased, degree, LeftmostContracts}
 use Rattle.ol_law_families.specs.Families.{labels_in, IsLetter}
 use Rattle.ol_law_families.specs.Readings.{AreDifferent, HeadReduces}
 use Rattle.ol_law_levy.specs.Reductions.{Contracts, FamilyStep, FamilyReduces, Parallel, WholeFamily}
@@ -101,3 +101,29 @@ FewestForAHead = (T v : Labelled) (ds : List Label) → HeadReduces T ds v →
     IsHeadNormal (erased v) → ((w : Label) → IsIn w (labels_in T) → IsLetter w) →
     (es : List Label) × (V : Labelled) × HeadFamilies T es V × IsHeadNormal (erased V)
     × AreDifferent es × ((d : Label) → IsIn d es ↔ IsIn d ds)
+
+-- ---- call-by-need
+
+-- Call-by-need (Lévy): whole families, each time that of some redex that is needed in the term at hand.
+pub data NeededFamilies : Labelled → List Label → Labelled → Type 0 where
+  ready : {t : Labelled} → NeededFamilies t [] t
+  contract : {t u v : Labelled} {d : Label} {ds : List Label} (at : List ℕ) →
+      degree t at ≡ Some d → IsNeeded t d → WholeFamily d t u → NeededFamilies u ds v →
+      NeededFamilies t (d ∷ ds) v
+
+-- what is needed after whole families were contracted was needed before
+abbrev pub NeedGoesBack : Type 0
+NeedGoesBack = (T U : Labelled) (ds : List Label) → WholeFamilies T ds U →
+    (d : Label) → IsNeeded U d → IsNeeded T d
+
+-- So call-by-need is never longer than a reduction by families to a normal form,
+abbrev pub CallByNeedIsFewest : Type 0
+CallByNeedIsFewest = (T V W : Labelled) (ds cs : List Label) → NeededFamilies T ds V →
+    ((w : Label) → IsIn w (labels_in T) → IsLetter w) →
+    FamilyReduces T cs W → IsNormal (erased W) → length ds ≤ length cs
+
+-- and as long as a redex is left it can go on: the leftmost redex is needed. So it ends in a normal
+-- form, if there is one.
+abbrev pub CallByNeedGoesOn : Type 0
+CallByNeedGoesOn = (T : Labelled) (at : List ℕ) → leftmost (erased T) ≡ Some at →
+    (d : Label) × (degree T at ≡ Some d) × IsNeeded T d
