@@ -4,6 +4,9 @@ use Rattle.std.specs.Prelude.{[], ◌∷◌, length, true}
 use Rattle.ol_beta.specs.Leftmost.{IsNormal}
 use Rattle.ol_law_families.proofs.Labelling.{leftmost_is_labelled}
 use Rattle.ol_io.specs.Outside.{Appended}
+use Rattle.ol_law_levy.specs.FirstHeads.{HasFirstHeads, HaveHeads}
+use Rattle.ol_law_levy.proofs.AskedPrinted.{filled_has_heads, heads_found, labelled, no_shorter_reduction}
+use Rattle.ol_law_levy.proofs.AskedReached.{no_longer_to, as_short_to}
 use Rattle.ol_law_levy.proofs.Demanding.{is_no_longer, is_as_short}
 use Rattle.ol_law_levy.proofs.Steps.{leftmost_families_are_families}
 use Rattle.ol_law_lines.proofs.Lines.{holes_are_no_text}
@@ -34,7 +37,7 @@ use Rattle.ol_cli.proofs.DemandRuns.{is_start}
 use Rattle.ol_cli.proofs.NormalLines.{run_printed, demand_printed, file_of}
 use Rattle.ol_cli.proofs.OneAnswer.{file_names}
 use Rattle.ol_cli.specs.Demand.{Demands}
-use Rattle.ol_cli.specs.NormalForms.{PrintsCounts, CountsSay, NoneIsStuck, AreFewest, BetasAreFewest}
+use Rattle.ol_cli.specs.NormalForms.{PrintsCounts, CountsSay, NoneIsStuck, AreFewest, BetasAreFewest, AreFewestTo, BetasAreFewestTo}
 use Rattle.ol_cli.specs.Run.{Prints}
 use Rattle.ol_cli.specs.Sources.{PrintsTree, DemandsTree, TellsTree, WritesTree}
 use Rattle.ol_cli.specs.Texts.{answer_text}
@@ -148,3 +151,45 @@ writes_fewest words bytes old new w translation fuel heads name j source is =
     demand_counts is old new r.2 r.1 (AreFewest source)
     (fewest translation source fuel heads r.0 (names_good bytes source is) (has_names is) r.1.demands
     (line_is_normal_form is (demand_printed r.1)))
+
+-- ---- and for so many heads
+
+-- of a demand run of the source's own net, of which this line is printed
+fewest_to : (translation : Translation) (source : Named) (fuel heads : ℕ) (text : List ℕ) →
+    HasNames (number source) (length (names_of source)) →
+    (d : DemandsTree translation (number source) (names_of source) fuel heads text) →
+    AreFewestTo heads source d.demands.term (times_applied rule.Beta d.demands.ends.journal)
+fewest_to translation source fuel heads text h d =
+    let names = names_of source in
+    let N = translation_of translation (number source) (length names) in
+    let is_net = translation_net translation (number source) (length names) h in
+    let start = is_start translation (number source) names is_net in
+    let e = d.demands.ends in
+    let r = e.run in
+    record {
+      fewer = λ T is own V ds f s.
+          no_longer_to translation heads T V ds f s own (number source) is (length names) h N is_net (same_refl N) start
+          r.turns e.journal r.asked_places e.net r.last r.run;
+      plain = λ v l s.
+          no_shorter_reduction translation heads (number source) v l s (length names) h N is_net (same_refl N) start
+          r.turns e.journal r.asked_places e.net r.last r.run;
+      places = e.tree;
+      shown = d.demands.shown;
+      found = λ can. heads_found translation heads (number source) can.0 can.1 can.2 (length names) h N is_net (same_refl N)
+          start e.journal e.tree e.net r;
+      as_many = λ all T is own.
+          let s = filled_has_heads true d.says.tree d.says.reduct d.says.fills heads
+          (subst (HaveHeads heads) (sym d.says.is_list) all) in
+          let l = labelled d.says.reduces T is in
+          let x = as_short_to translation heads T l.0 l.1 l.2 (subst (λ v. HasFirstHeads heads v) (sym l.3) s) own
+          (number source) is (length names) h N is_net (same_refl N) start e.journal e.tree e.net r in
+          (x.1, x.0, leftmost_families_are_families T x.1 x.0 x.2, x.3, x.4);
+    }
+
+pub writes_fewest_to : (words : List (String Global)) (bytes : List ℕ) (old new : Option (List ℕ)) →
+    WritesTree words bytes old new → BetasAreFewestTo words bytes old new
+unfolding demand_printed
+writes_fewest_to words bytes old new w translation fuel heads name j source is =
+    let r = w (jobs.Demand translation fuel heads name) (number source) (names_of source) j (file_of is) in
+    demand_counts is old new r.2 r.1 (AreFewestTo heads source)
+    (fewest_to translation source fuel heads r.0 (has_names is) r.1)

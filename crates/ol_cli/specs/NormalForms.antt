@@ -7,12 +7,17 @@ use Rattle.ol_io.specs.Outside.{Appended}
 use Rattle.ol_term.specs.declared.translations.Translation.{Translation}
 use Rattle.ol_term.specs.Trees.{Tree, var, free, lam, app}
 use Rattle.ol_parse.specs.Grammar.{Named}
+use Rattle.ol_parse.specs.Numbered.{names_of}
 use Rattle.ol_parse.specs.Texts.{IsLine, IsText}
 use Rattle.ol_beta.specs.Leftmost.{IsNormal}
 use Rattle.ol_law_meaning.specs.Shows.{BetaReduces}
 use Rattle.ol_law_optimal.specs.Labels.{Labelled, erased}
 use Rattle.ol_law_families.specs.Families.{HaveOwnLetters}
+use Rattle.ol_law_frugal.specs.Steps.{steps_of}
+use Rattle.ol_law_levy.specs.FirstHeads.{HasFirstHeads, HaveHeads, CanShow, NoneHasFewerTo, OneHasAsManyTo}
 use Rattle.ol_law_levy.specs.Reductions.{NoneHasFewer, OneHasAsMany}
+use Rattle.ol_readback.specs.Texts.{IsTextOf}
+use Rattle.ol_readback.specs.declared.answers.ReadNode.{ReadNode}
 use Rattle.ol_rules.specs.declared.journal.Counts.{Counts}
 use Rattle.ol_law_lines.specs.NormalForms.{by_names_of, IsNormalFormOf, HasNoNormalForm}
 use Rattle.ol_law_lines.specs.NormalForms.{AreConvertible}
@@ -122,6 +127,25 @@ abbrev pub BetasAreFewest : List (String Global) → List ℕ → Option (List �
 BetasAreFewest words bytes old new = (translation : Translation) (fuel heads : ℕ) (name : Text) →
     AskFor words (jobs.Demand translation fuel heads name) →
     (source : Named) → IsText bytes source → CountsSay (AreFewest source) old new
+
+-- The same for so many heads: the first ones, in preorder, of the source's Böhm tree. No reduction of the labelled term by
+-- family steps to a term that shows them has fewer steps than there are beta steps, nor has one of the plain term, of
+-- whatever redexes in whatever order. The line is a text of these places. If the source reduces to a term that shows so
+-- many heads, each of the first so many places has one; and if each has one, a reduction by family steps has just as many
+-- steps as there are beta steps.
+pub record AreFewestTo (heads : ℕ) (source : Named) (line : List ℕ) (beta : ℕ) : Type 0 where
+  pub fewer : (T : Labelled) → erased T ≡ by_names_of source source → HaveOwnLetters T → NoneHasFewerTo heads T beta
+  pub plain : (v : Tree) (r : BetaReduces (by_names_of source source) v) → HasFirstHeads heads v → beta ≤ steps_of r
+  pub places : List ReadNode
+  pub shown : IsTextOf (names_of source) places line
+  pub found : CanShow heads (by_names_of source source) → HaveHeads heads places
+  pub as_many : HaveHeads heads places → (T : Labelled) → erased T ≡ by_names_of source source →
+      HaveOwnLetters T → OneHasAsManyTo heads T beta
+
+abbrev pub BetasAreFewestTo : List (String Global) → List ℕ → Option (List ℕ) → Option (List ℕ) → Type 0
+BetasAreFewestTo words bytes old new = (translation : Translation) (fuel heads : ℕ) (name : Text) →
+    AskFor words (jobs.Demand translation fuel heads name) →
+    (source : Named) → IsText bytes source → CountsSay (AreFewestTo heads source) old new
 
 -- ---- words without options
 
