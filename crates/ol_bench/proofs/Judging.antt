@@ -11,7 +11,7 @@ use Rattle.ol_io.proofs.Readings.{Consumed-more, front-Consumed, front-nothing, 
 use Rattle.ol_net.specs.Graph.{Graph}
 use Rattle.ol_objects.specs.declared.layouts.Layout.{Layout}
 use Rattle.ol_objects.specs.declared.layouts.Layout.TheVariants.{Lines, Object}
-use Rattle.ol_memory.specs.declared.NoMemory.{NoMemory}
+use Rattle.ol_limits.specs.declared.NoMemory.{NoMemory}
 use Rattle.ol_subjects.specs.declared.answers.Answer.{Answer}
 use Rattle.ol_subjects.specs.declared.answers.End.{End}
 use Rattle.ol_subjects.specs.declared.answers.End.TheVariants.{Refused}

@@ -5,7 +5,7 @@ use Rattle.ol_io.specs.Readings.{Reading, gave, closed, IsReadOf}
 use Rattle.ol_io.specs.declared.calls.ReadAll.{ReadAll}
 use Rattle.ol_io.specs.declared.calls.ReadAll.TheVariants as read
 use Rattle.ol_limits.specs.Limits.{most_journal_bytes}
-use Rattle.ol_memory.specs.declared.NoMemory.{NoMemory}
+use Rattle.ol_limits.specs.declared.NoMemory.{NoMemory}
 use Rattle.ol_net.specs.Graph.{Graph}
 use Rattle.ol_objects.specs.declared.layouts.Layout.{Layout}
 use Rattle.ol_subjects.specs.declared.answers.Answer.{Answer}

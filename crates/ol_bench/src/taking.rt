@@ -9,7 +9,7 @@ ghost use Rattle.ol_bench.specs.Taking.{IsReadOnce, IsRefusal};
 
 use crate::asked::{Content, Given, most_of};
 use ol_io::{ReadAll, Source, read_all};
-use ol_memory::NoMemory;
+use ol_limits::NoMemory;
 use ol_subjects::{Answer, End, Subject, put, put_number};
 use std::alloc::Global;
 

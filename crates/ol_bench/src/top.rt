@@ -14,7 +14,7 @@ use crate::piecewise::check_by_pieces;
 use crate::taking::{bytes_of, refusal};
 use ol_grades::{Bounds as Following, Student, Work, grade};
 use ol_io::{ReadAll, Sink, Source, Written, write_all};
-use ol_memory::NoMemory;
+use ol_limits::NoMemory;
 use ol_subjects::{Answer, End, put};
 use ol_walks::{Wanted, frame_walk};
 use std::alloc::Global;

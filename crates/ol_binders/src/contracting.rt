@@ -6,7 +6,7 @@ ghost use Rattle.ol_binders.specs.Trees.{binders_in};
 ghost use Rattle.ol_binders.specs.Contraction.{applied, contracted, put_in};
 
 use crate::trees::{BinderTree, copied};
-use ol_memory::NoMemory;
+use ol_limits::NoMemory;
 use ol_term::Term;
 use std::alloc::Global;
 

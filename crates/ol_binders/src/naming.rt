@@ -11,7 +11,7 @@ ghost use Rattle.ol_binders.specs.Rounds.{names_round};
 
 use crate::rounds::{Round, name_of};
 use crate::trees::BinderTree;
-use ol_memory::NoMemory;
+use ol_limits::NoMemory;
 use ol_named::NamedTerm;
 use ol_term::{Names, Term};
 use std::alloc::Global;

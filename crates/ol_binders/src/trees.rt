@@ -4,7 +4,7 @@ ghost use Rattle.std.specs.Prelude.{◌≡◌, IfOk};
 ghost use Rattle.ol_binders.specs.Binders as binders;
 ghost use Rattle.ol_binders.specs.Trees.{binders_in};
 
-use ol_memory::NoMemory;
+use ol_limits::NoMemory;
 use std::alloc::Global;
 
 /// The names of a term's binders, in the term's shape. A `Leaf` belongs to a variable or a free

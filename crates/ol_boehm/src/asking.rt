@@ -15,7 +15,7 @@ ghost use Rattle.ol_boehm.specs.Asking.{HasRoom, IsPartFound, IsReply, KeepsUnle
 use crate::chaining::{End, end_of};
 use ol_context::Values;
 use ol_invariance::step_kept;
-use ol_memory::NoMemory;
+use ol_limits::NoMemory;
 use ol_net::{Net, NodeId};
 use ol_readback::{Asked, Asks, Frame, Head, leave_by};
 use ol_rules::StepFault;

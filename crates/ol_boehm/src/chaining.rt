@@ -8,7 +8,7 @@ ghost use Rattle.ol_context.specs.Shapes.{value, IsNumberOf, AreHeld, Extends, c
 ghost use Rattle.ol_boehm.specs.Chaining.{FindsNode, IsEndOf, IsHeldEnd, KeepsFirst};
 
 use ol_context::{Context, Cross, Val, Values, cross};
-use ol_memory::NoMemory;
+use ol_limits::NoMemory;
 use ol_net::{Facing, Net, NodeId, Port};
 use ol_readback::{Frame, Levels};
 use std::alloc::Global;

@@ -11,8 +11,7 @@ ghost use Rattle.ol_boehm.specs.Told.{TellsAll, IsTreeAnswer};
 ghost use Rattle.ol_boehm.specs.Inside.{TellsNet};
 
 use crate::asking::Parts;
-use ol_limits::{Fuel, Heads, MOST_FUEL};
-use ol_memory::NoMemory;
+use ol_limits::{Fuel, Heads, MOST_FUEL, NoMemory};
 use ol_net::Net;
 use ol_readback::{ReadNode, ReadTree, read, tree_text};
 use ol_subjects::{Answer, End, TermRead, put, read_term};

@@ -7,8 +7,7 @@ ghost use Rattle.ol_check_c.specs.Found.{IsFoundVerdict, AreFoundCounts, IsToldO
 
 use crate::answers::{RuleCounts, Verdict, counts_told, no_counts, verdict_of, verdict_with};
 use ol_explain::{checked, explained, tallied};
-use ol_limits::MOST_JOURNAL_BYTES;
-use ol_memory::NoMemory;
+use ol_limits::{MOST_JOURNAL_BYTES, NoMemory};
 use ol_subjects::{Subject, most_bytes};
 use ol_term::Translation;
 use std::alloc::Global;

@@ -1,7 +1,7 @@
 -- What a call comes to, by what its answer comes to and by what is written of it.
 use Rattle.std.proofs.Common.{◌≡◌, ◌∙◌, ap, ℕ, List, Option, None, String, Global, Result, Ok, Err}
 use Rattle.std.proofs.Common.{IfOk, inl, inr, refl, sym, subst}
-use Rattle.ol_memory.specs.declared.NoMemory as no_memory
+use Rattle.ol_limits.specs.declared.NoMemory as no_memory
 use Rattle.ol_words.specs.declared.jobs.Job.{Job}
 use Rattle.ol_cli.specs.declared.answer.Answer.{Answer}
 use Rattle.ol_cli.specs.declared.top.Outcome.{Outcome}

@@ -1,7 +1,7 @@
 -- What holds of a call where neither its source nor its sink failed, by what its answer comes to and by what is written of it.
 use Rattle.std.proofs.Common.{◌≡◌, ◌≢◌, ◌∙◌, sym, ℕ, Bool, List, Option, String, Global, Result, IfOk}
 use Rattle.ol_io.specs.Outside.{Appended, Rose}
-use Rattle.ol_memory.specs.declared.NoMemory as no_memory
+use Rattle.ol_limits.specs.declared.NoMemory as no_memory
 use Rattle.ol_cli.specs.declared.answer.Answer.{Answer}
 use Rattle.ol_cli.specs.declared.top.Outcome.{Outcome}
 use Rattle.ol_cli.specs.declared.status.Status.TheVariants.{Done, NoMemory}

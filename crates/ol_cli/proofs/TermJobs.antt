@@ -2,7 +2,7 @@
 -- term. Used by each command.
 use Rattle.std.proofs.Common.{sym, subst, ◌≡◌, ℕ, List, Option, None, false, ◌∙◌}
 use Rattle.std.specs.Prelude.{Result, Ok, Err, IfOk}
-use Rattle.ol_memory.specs.declared.NoMemory.{NoMemory}
+use Rattle.ol_limits.specs.declared.NoMemory.{NoMemory}
 use Rattle.ol_term.specs.Trees.{tree_of}
 use Rattle.ol_term.specs.declared.term_file.TermFile.{TermFile}
 use Rattle.ol_term.specs.declared.translations.Translation.{Translation}

@@ -3,7 +3,7 @@
 use Rattle.std.specs.Prelude.{◌≡◌, ℕ, ◌≤◌, ◌⊎◌, List, [], length, take, Option, None, Some, Result, Ok, Err, String}
 use Rattle.std.specs.declared.alloc.Global.{Global}
 use Rattle.ol_io.specs.Outside.{Rose, Appended}
-use Rattle.ol_memory.specs.declared.NoMemory.{NoMemory}
+use Rattle.ol_limits.specs.declared.NoMemory.{NoMemory}
 use Rattle.ol_term.specs.declared.translations.Translation.{Translation}
 use Rattle.ol_term.specs.Trees.{Tree, tree_of}
 use Rattle.ol_term.specs.declared.term_file.TermFile.{TermFile}

@@ -4,7 +4,7 @@ ghost use Rattle.ol_cli.specs.Texts.{line};
 
 use crate::status::Status;
 use crate::texts::line;
-use ol_memory::NoMemory;
+use ol_limits::NoMemory;
 use ol_wire::Words;
 use std::alloc::Global;
 

@@ -8,8 +8,7 @@ use crate::answer::{Answer, refusal};
 use crate::status::Status;
 use crate::texts::count_line;
 use ol_io::{ReadAll, Source, read_all};
-use ol_limits::{MOST_JOURNAL_BYTES, MOST_NET_BYTES, MOST_TERM_BYTES};
-use ol_memory::NoMemory;
+use ol_limits::{MOST_JOURNAL_BYTES, MOST_NET_BYTES, MOST_TERM_BYTES, NoMemory};
 use std::alloc::Global;
 
 /// What a file is read for.

@@ -7,7 +7,7 @@ ghost use Rattle.ol_cli.specs.Ready.{HoldsOfTerms};
 
 use crate::numbers::RunNumbers;
 use ol_io::Gate;
-use ol_memory::NoMemory;
+use ol_limits::NoMemory;
 use ol_net::Net;
 use ol_readback::{ReadTree, read_back};
 use ol_reduce::{Counted, reduce_counted};

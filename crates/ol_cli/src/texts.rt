@@ -5,7 +5,7 @@ ghost use Rattle.ol_cli.specs.RefusalTexts.{syntax_text, spent_text};
 ghost use Rattle.ol_cli.specs.Check.{found_text};
 ghost use Rattle.ol_cli.specs.RefusalTexts.{view_text};
 
-use ol_memory::NoMemory;
+use ol_limits::NoMemory;
 use ol_rules::Counts;
 use ol_view::Check;
 use std::alloc::Global;

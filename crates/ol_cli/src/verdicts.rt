@@ -8,7 +8,7 @@ ghost use Rattle.ol_cli.specs.Certify.{road_text, verdict_text};
 
 use crate::texts::{add_count, count_line, line};
 use ol_beta::{Address, Road, Verdict};
-use ol_memory::NoMemory;
+use ol_limits::NoMemory;
 use std::alloc::Global;
 
 /// What is told of a verdict by at most `steps` steps: `incomplete`; `deep D` with the depth;

@@ -5,7 +5,7 @@ ghost use Rattle.ol_context.specs.Contexts.{empty, o, star, pair};
 ghost use Rattle.ol_context.specs.Shapes.{value, IsHeld, IsNumberOf, Extends, IsBelow, level_of_shape};
 
 use indexmap::IndexSet;
-use ol_memory::NoMemory;
+use ol_limits::NoMemory;
 use std::alloc::Global;
 use std::marker::Model;
 

@@ -9,7 +9,7 @@ ghost use Rattle.ol_context.specs.Crossings.{Becomes, HasLostMark, HasUndone, Ha
 
 use crate::arena::{Shape, Val, Values};
 use crate::row::level_or;
-use ol_memory::NoMemory;
+use ol_limits::NoMemory;
 use ol_net::Kind;
 
 // Makes the list at least `n` levels long.

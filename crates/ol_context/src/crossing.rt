@@ -10,7 +10,7 @@ use crate::answers::Cross;
 use crate::arena::{Val, Values};
 use crate::changes::{fall, rise};
 use crate::row::Context;
-use ol_memory::NoMemory;
+use ol_limits::NoMemory;
 use ol_net::{Kind, Net, Port};
 
 // Enters a node of this kind and index by a slot, and changes the levels. The answer is the slot by

@@ -11,7 +11,7 @@ use crate::arena::{Val, Values};
 use crate::changes::{bracket_up, croissant_up, fall, insert, mark_up, reach, rise};
 use crate::leaf::{Around, Fate, Leaf};
 use crate::row::level_or;
-use ol_memory::NoMemory;
+use ol_limits::NoMemory;
 use ol_net::Kind;
 
 // Puts one more part round the leaf, the outermost.

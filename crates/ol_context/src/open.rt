@@ -13,7 +13,7 @@ use crate::crossing::cross_node;
 use crate::leaf::{Around, Fate, Leaf};
 use crate::leaf_changes::{fall_open, put_in, rise_open};
 use crate::row::Context;
-use ol_memory::NoMemory;
+use ol_limits::NoMemory;
 use ol_net::Kind;
 use std::marker::Model;
 

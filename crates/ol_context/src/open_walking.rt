@@ -11,7 +11,7 @@ use crate::answers::{Cross, OpenWalk};
 use crate::arena::{Val, Values};
 use crate::open::OpenContext;
 use crate::steps::Steps;
-use ol_memory::NoMemory;
+use ol_limits::NoMemory;
 use ol_net::{Net, Port};
 use std::sync::ledger::Ledger;
 

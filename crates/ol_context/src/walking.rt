@@ -10,7 +10,7 @@ use crate::answers::{Cross, Walk};
 use crate::arena::Values;
 use crate::crossing::cross;
 use crate::row::Context;
-use ol_memory::NoMemory;
+use ol_limits::NoMemory;
 use ol_net::{Net, Port};
 
 /// Starts at the free port `from`, which the net has, with a context whose levels are of this

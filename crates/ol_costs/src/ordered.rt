@@ -5,8 +5,7 @@ ghost use Rattle.ol_term.specs.Trees.{tree_of, is_below, term_size};
 ghost use Rattle.ol_costs.specs.Ordered.{IsOrderCount};
 
 use ol_beta::{BetaFault, beta};
-use ol_limits::{MOST_DEPTH, MOST_SIZE};
-use ol_memory::NoMemory;
+use ol_limits::{MOST_DEPTH, MOST_SIZE, NoMemory};
 use ol_strategies::{Order, redex};
 use ol_term::{Term, depth, size};
 use std::alloc::Global;

@@ -11,7 +11,7 @@ use crate::objects::text_in;
 use crate::tables::{Column, end_of};
 use crate::tallies::tally_of;
 use crate::ways::{Bounds, Columns, WAYS, is_shown};
-use ol_memory::NoMemory;
+use ol_limits::NoMemory;
 use ol_net::Net;
 use ol_objects::Layout;
 use ol_subjects::{Answer, End, NetRead, Subject, TermRead, read_subject, read_term};

@@ -7,7 +7,7 @@ ghost use Rattle.ol_counts.specs.Objects.{column_member, key, members_after, net
 use crate::tables::{Column, NET_ROWS, Row, in_row, table};
 use crate::tallies::Tally;
 use crate::ways::title;
-use ol_memory::NoMemory;
+use ol_limits::NoMemory;
 use ol_objects::Layout;
 use ol_rules::Counts;
 use ol_subjects::{put, put_number};

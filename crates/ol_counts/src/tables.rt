@@ -6,7 +6,7 @@ ghost use Rattle.ol_counts.specs.Tables.{at_right, cell, digits, end_of, has_end
 
 use crate::tallies::Tally;
 use crate::ways::{Way, is_of_net, title};
-use ol_memory::NoMemory;
+use ol_limits::NoMemory;
 use ol_rules::Counts;
 use ol_subjects::{End, put, put_number};
 use ol_tallies::interactions;

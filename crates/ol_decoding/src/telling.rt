@@ -7,7 +7,7 @@ ghost use Rattle.ol_decoding.specs.Told.{line, lines, within, IsTold, SomeFits};
 ghost use Rattle.ol_decoding.specs.Decoders.{values, some_found, truth_line, count_line, pair_line, told};
 
 use crate::decoders::{boolean, church, is_pair, item_count, list, scott};
-use ol_memory::NoMemory;
+use ol_limits::NoMemory;
 use ol_subjects::{put, put_number};
 use ol_term::Term;
 use std::alloc::Global;

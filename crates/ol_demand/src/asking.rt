@@ -15,7 +15,7 @@ ghost use Rattle.ol_demand.specs.Asking.{IsRunning, IsAnswered, IsSpentIfNone, I
 use crate::answers::{End, Walker};
 use crate::chaining::{begin, chain, step_back};
 use ol_context::{Val, Values};
-use ol_memory::NoMemory;
+use ol_limits::NoMemory;
 use ol_net::{Net, NodeId};
 use ol_readback::{Asked, Asks, Frame, Head, leave_by};
 use ol_rules::UnderWay;

@@ -8,7 +8,7 @@ ghost use Rattle.ol_demand.specs.Chaining.{FindsPair, GoesOnTo, IsHeldEnd, IsQue
 
 use crate::answers::{End, Walker};
 use ol_context::{Context, Cross, Val, Values, cross};
-use ol_memory::NoMemory;
+use ol_limits::NoMemory;
 use ol_net::{Facing, Net, NodeId, Port};
 use ol_readback::Levels;
 use std::alloc::Global;

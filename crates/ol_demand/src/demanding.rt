@@ -9,7 +9,7 @@ ghost use Rattle.ol_demand.specs.Answers.{start_of, IsAnswer, IsSpent, IfDone, j
 
 use crate::answers::Demanded;
 use crate::asking::Chains;
-use ol_memory::NoMemory;
+use ol_limits::NoMemory;
 use ol_net::Net;
 use ol_readback::{ReadTree, read};
 use ol_rules::UnderWay;

@@ -8,7 +8,7 @@ ghost use Rattle.ol_derivations.specs.NormalForms.{DifferInNormalForm};
 ghost use Rattle.ol_derivations.specs.Inside.{IsNormalFound, form_in};
 
 use ol_beta::{BetaFault, beta, redex};
-use ol_memory::NoMemory;
+use ol_limits::NoMemory;
 use ol_term::{Term, alpha_eq};
 use std::alloc::Global;
 

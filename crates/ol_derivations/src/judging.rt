@@ -11,7 +11,7 @@ use crate::forms::differ;
 use crate::searching::steps_between;
 use crate::stepping::step_found;
 use ol_beta::{Address, redex};
-use ol_memory::NoMemory;
+use ol_limits::NoMemory;
 use ol_term::{Term, alpha_eq};
 use std::alloc::Global;
 

@@ -7,8 +7,7 @@ ghost use Rattle.ol_derivations.specs.Lines.{lines_of, is_blank, is_left_out, al
 ghost use Rattle.ol_derivations.specs.Derivations.{IsRead};
 ghost use Rattle.ol_derivations.specs.Inside.{IsLeft};
 
-use ol_limits::{MOST_SIZE, MOST_TERM_BYTES};
-use ol_memory::NoMemory;
+use ol_limits::{MOST_SIZE, MOST_TERM_BYTES, NoMemory};
 use ol_parse::{ParseFault, parse};
 use ol_subjects::{put, put_number};
 use ol_term::{Term, TermFile};

@@ -14,7 +14,7 @@ ghost use Rattle.ol_derivations.specs.Searches.{placed, is_cut, first_found, IsS
 
 use crate::stepping::step_found;
 use ol_beta::{Address, BetaFault, beta};
-use ol_memory::NoMemory;
+use ol_limits::NoMemory;
 use ol_term::Term;
 use std::alloc::Global;
 

@@ -11,7 +11,7 @@ ghost use Rattle.ol_beta.specs.Beta.{shifted, substituted, applied};
 ghost use Rattle.ol_beta.specs.Leftmost.{under};
 ghost use Rattle.ol_derivations.specs.Inside.{IsStepFound, address_of};
 
-use ol_memory::NoMemory;
+use ol_limits::NoMemory;
 use ol_term::{Term, alpha_eq};
 use std::alloc::Global;
 

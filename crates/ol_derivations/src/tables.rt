@@ -6,7 +6,7 @@ ghost use Rattle.ol_term.specs.Trees.{tree_of};
 ghost use Rattle.ol_parse.specs.Numbered.{position_of, free_at};
 ghost use Rattle.ol_derivations.specs.Tables.{put_unless, with_names, in_table};
 
-use ol_memory::NoMemory;
+use ol_limits::NoMemory;
 use ol_term::{Names, Term};
 
 // Puts a name at the end of a table, unless it is there. A table has fewer than 2^32 names, each of

@@ -8,7 +8,7 @@ ghost use Rattle.ol_derivations.specs.Verdicts.{verdict_words};
 ghost use Rattle.ol_derivations.specs.Derivations.{line_text};
 
 use crate::judging::Verdict;
-use ol_memory::NoMemory;
+use ol_limits::NoMemory;
 use ol_subjects::{put, put_number};
 use std::alloc::Global;
 

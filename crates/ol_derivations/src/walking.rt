@@ -12,7 +12,7 @@ use crate::judging::judge;
 use crate::lines::{Read, all_left_out, lines_of, read_line};
 use crate::tables::{add_names, renumber};
 use crate::telling::{line_text, verdict_line};
-use ol_memory::NoMemory;
+use ol_limits::NoMemory;
 use ol_subjects::{Answer, End, put};
 use ol_term::{Names, Term, TermFile};
 use std::alloc::Global;

@@ -8,7 +8,7 @@ ghost use Rattle.ol_rules.specs.Steps.{StepsAt};
 ghost use Rattle.ol_diamond.specs.Squares.{IsInNoActive, IsOneInNoActive, AreTogether, AreInOnePair, InTurn, IsSquare};
 ghost use Rattle.ol_diamond.specs.declared.square.SquareFault.TheVariants.{NotActive, SamePair};
 
-use ol_memory::NoMemory;
+use ol_limits::NoMemory;
 use ol_net::{Facing, Net, NodeId, Port, Rule};
 use ol_rules::{StepFault, step};
 

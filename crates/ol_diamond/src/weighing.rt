@@ -15,7 +15,7 @@ ghost use Rattle.ol_diamond.specs.Replaying.{AreIdle, AreIdleNumbers};
 ghost use Rattle.ol_diamond.specs.Waves.{IsWavesOf};
 ghost use Rattle.ol_diamond.specs.PortWeights.{weight_at, raised_if, joined_weights, copied, copies_at, arity_of, acts_on, crossed_weights, weights_after, WeighsEntry};
 
-use ol_memory::NoMemory;
+use ol_limits::NoMemory;
 use ol_net::{Facing, Net, NodeId, Port, Rule, rule_of};
 use ol_rules::{Entry, Journal, NodeName, Numbers, are_facing, is_meeting, step};
 use std::alloc::Global;

@@ -7,7 +7,7 @@ ghost use Rattle.ol_equal.specs.Walking.{dotted};
 
 use crate::answers::Compared;
 use crate::steps::Path;
-use ol_memory::NoMemory;
+use ol_limits::NoMemory;
 use std::alloc::Global;
 
 /// The words of a comparison: `equal`, `different at PATH` or `cut at PATH`. PATH is `root`, or the

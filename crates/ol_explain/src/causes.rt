@@ -16,7 +16,7 @@ ghost use Rattle.ol_limits.specs.Limits.{most_fuel, most_nodes};
 use crate::joining::joined_after;
 use crate::naming::{put, put_long, put_number};
 use ol_diamond::Rewritten;
-use ol_memory::NoMemory;
+use ol_limits::NoMemory;
 use ol_net::{Net, NodeId, Port, Rule};
 use ol_replay::Replay;
 use ol_rules::{Entry, Journal, NodeName};

@@ -6,7 +6,7 @@ ghost use Rattle.ol_explain.specs.Followed.{Stops};
 ghost use Rattle.ol_limits.specs.Limits.{most_fuel, most_nodes};
 
 use ol_diamond::{Rewritten, Weighing};
-use ol_memory::NoMemory;
+use ol_limits::NoMemory;
 use ol_net::Net;
 use ol_replay::Replay;
 use ol_view::{Form, Line, form_of, is_so, line_at};

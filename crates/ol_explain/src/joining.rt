@@ -8,7 +8,7 @@ ghost use Rattle.ol_explain.specs.Explained.{IsJoinedAfter};
 ghost use Rattle.ol_explain.specs.Reasons.{IsReplayed};
 ghost use Rattle.ol_limits.specs.Limits.{most_fuel, most_nodes};
 
-use ol_memory::NoMemory;
+use ol_limits::NoMemory;
 use ol_net::Net;
 use ol_replay::Replay;
 use ol_rules::{NodeName, are_facing};

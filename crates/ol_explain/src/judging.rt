@@ -6,7 +6,7 @@ ghost use Rattle.ol_explain.specs.Judged.{IsJudged, end_of, found_line};
 ghost use Rattle.ol_subjects.specs.Subjects.{most_bytes};
 
 use crate::naming::{put, put_number};
-use ol_memory::NoMemory;
+use ol_limits::NoMemory;
 use ol_subjects::{Answer, End, NetRead, Subject, read_subject};
 use ol_view::{Check, check};
 use std::alloc::Global;

@@ -13,7 +13,7 @@ ghost use Rattle.ol_limits.specs.Limits.{most_fuel, most_nodes};
 
 use crate::naming::{put, put_number};
 use ol_diamond::{WaveList, waves};
-use ol_memory::NoMemory;
+use ol_limits::NoMemory;
 use ol_net::{Facing, Net, NodeId, Port};
 use ol_replay::Replay;
 use ol_rules::{Entry, Journal};

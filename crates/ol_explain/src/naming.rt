@@ -8,7 +8,7 @@ ghost use Rattle.ol_explain.specs.Besides.{port_weight, port_named, beside_words
 ghost use Rattle.ol_replay.specs.Replays.{names_of};
 
 use ol_diamond::Weighing;
-use ol_memory::NoMemory;
+use ol_limits::NoMemory;
 use ol_net::{IndexOf, NodeId, Port};
 use ol_replay::Replay;
 use ol_view::put_name;

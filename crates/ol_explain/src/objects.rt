@@ -9,7 +9,7 @@ ghost use Rattle.ol_explain.specs.Objects.{IsExplainedObject, IsJudgedObject, fo
 use crate::explaining::of_net;
 use crate::judging::answer_of;
 use crate::others::put_other;
-use ol_memory::NoMemory;
+use ol_limits::NoMemory;
 use ol_objects::{Layout, put_lines};
 use ol_subjects::{Answer, End, NetRead, Subject, put, put_number, read_subject};
 use ol_view::{Check, check};

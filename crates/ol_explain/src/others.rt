@@ -6,7 +6,7 @@ ghost use Rattle.ol_explain.specs.Others.{other_of, is_run_found, run_line, tran
 ghost use Rattle.ol_subjects.specs.Subjects.{most_bytes};
 
 use crate::tallying::{Finding, checked};
-use ol_memory::NoMemory;
+use ol_limits::NoMemory;
 use ol_subjects::{Answer, End, Subject, put, put_number};
 use ol_term::Translation;
 use ol_view::Check;

@@ -12,7 +12,7 @@ use crate::following::{Stop, follow};
 use crate::judging::line_of;
 use crate::naming::{Beside, named_net};
 use crate::weighing::words_beside;
-use ol_memory::NoMemory;
+use ol_limits::NoMemory;
 use ol_net::Net;
 use ol_replay::Replay;
 use ol_subjects::{Answer, End, NetRead, Subject, put, put_number, read_subject};

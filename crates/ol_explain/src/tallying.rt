@@ -7,8 +7,7 @@ ghost use Rattle.ol_explain.specs.Tallies.{IsChecked, IsTally, IsTallied};
 ghost use Rattle.ol_limits.specs.Limits.{most_nodes};
 
 use crate::following::{Stop, follow};
-use ol_limits::MOST_FUEL;
-use ol_memory::NoMemory;
+use ol_limits::{MOST_FUEL, NoMemory};
 use ol_net::Net;
 use ol_rules::{Counts, counts};
 use ol_subjects::{NetRead, Subject, read_subject};

@@ -20,8 +20,7 @@ ghost use Rattle.ol_explain.specs.Wanted.{AreThose, IsLine, byte_words, choice_w
 ghost use Rattle.ol_limits.specs.Limits.{most_fuel};
 
 use crate::naming::{put as put_words, put_long};
-use ol_limits::MOST_FUEL;
-use ol_memory::NoMemory;
+use ol_limits::{MOST_FUEL, NoMemory};
 use ol_net::Rule;
 use ol_rules::NodeName;
 use ol_subjects::{Answer, End, put, put_number};

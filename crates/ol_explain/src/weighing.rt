@@ -11,7 +11,7 @@ ghost use Rattle.ol_limits.specs.Limits.{most_fuel, most_nodes};
 
 use crate::naming::Beside;
 use ol_diamond::Weighing;
-use ol_memory::NoMemory;
+use ol_limits::NoMemory;
 use ol_net::Net;
 use ol_replay::Replay;
 use ol_rules::Journal;

@@ -12,7 +12,7 @@ ghost use Rattle.ol_families.specs.Held.{held_of, bare, before, contracted, degr
 
 use crate::degrees::Letter;
 use crate::labelling::{LabelledTerm, copied, put_before, raised, row_of};
-use ol_memory::NoMemory;
+use ol_limits::NoMemory;
 use std::alloc::Global;
 use std::mem;
 

@@ -14,7 +14,7 @@ use crate::degrees::Degrees;
 use crate::labelling::{LabelledTerm, plain, with_letters};
 use crate::measuring::{MOST_LETTERS, letters_after};
 use ol_beta::{Address, BetaFault, beta, redex};
-use ol_memory::NoMemory;
+use ol_limits::NoMemory;
 use ol_term::Term;
 use std::alloc::Global;
 

@@ -8,7 +8,7 @@ ghost use Rattle.ol_beta.specs.Measures.{HasRoom};
 ghost use Rattle.ol_families.specs.Held.{held_of, bare, before, lettered, shifted};
 
 use crate::degrees::Letter;
-use ol_memory::NoMemory;
+use ol_limits::NoMemory;
 use ol_term::Term;
 use std::alloc::Global;
 

@@ -10,7 +10,7 @@ ghost use Rattle.ol_folds.specs.Folded.{all_folded, folded_round, is_same, or_na
 
 use crate::lets::Lets;
 use ol_binders::BinderTree;
-use ol_memory::NoMemory;
+use ol_limits::NoMemory;
 use ol_term::{Term, alpha_eq};
 use std::alloc::Global;
 

@@ -11,7 +11,7 @@ ghost use Rattle.ol_folds.specs.Lets.{is_closed, is_let_at, no_more, let_names, 
 use crate::folding::copy;
 use ol_beta::{Address, BetaFault, beta};
 use ol_binders::BinderTree;
-use ol_memory::NoMemory;
+use ol_limits::NoMemory;
 use ol_term::{Names, Term};
 use std::alloc::Global;
 

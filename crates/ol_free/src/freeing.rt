@@ -7,7 +7,7 @@ ghost use Rattle.ol_free.specs.Scans.{IsRefusal};
 
 use crate::placing::Place;
 use crate::scanning::{no_scan, take};
-use ol_memory::NoMemory;
+use ol_limits::NoMemory;
 use ol_parse::{ParseFault, parse};
 use ol_subjects::{Answer, End, put, put_number};
 use ol_tokens::first_token;

@@ -8,7 +8,7 @@ ghost use Rattle.ol_free.specs.Occurrences.{is_unbound};
 ghost use Rattle.ol_tokens.specs.Tokens.{sign_token, kind_token};
 ghost use Rattle.ol_free.specs.Scans.{bracket, binder, defining, closed, unwound, names_of, scopes_of, shown, innermost, IsScan, Takes};
 
-use ol_memory::NoMemory;
+use ol_limits::NoMemory;
 use ol_tokens::{Kind, Sign};
 use std::alloc::Global;
 

@@ -6,8 +6,7 @@ ghost use Rattle.ol_grades.specs.Grades.{place_words};
 ghost use Rattle.ol_grades.specs.Inside.{IsFault, seen_lines};
 
 use ol_derivations::{lines_of, words_of};
-use ol_limits::MOST_TERM_BYTES;
-use ol_memory::NoMemory;
+use ol_limits::{MOST_TERM_BYTES, NoMemory};
 use ol_parse::{ParseFault, parse};
 use ol_subjects::{put, put_number};
 use std::alloc::Global;

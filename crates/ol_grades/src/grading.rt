@@ -15,7 +15,7 @@ use crate::reading::{Bounds, Found, is_whole, lack_words, read_on};
 use ol_derivations::words_of;
 use ol_equal::{Compared, Path, compared_text, same_tree};
 use ol_heads::{all_names, head_text};
-use ol_memory::NoMemory;
+use ol_limits::NoMemory;
 use ol_subjects::{Answer, End, put, put_number};
 use std::alloc::Global;
 

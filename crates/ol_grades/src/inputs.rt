@@ -5,7 +5,7 @@ ghost use Rattle.ol_derivations.specs.Lines.{lines_of};
 ghost use Rattle.ol_grades.specs.Inside.{IsInputs};
 
 use ol_derivations::{Read, line_text, lines_of, read_line};
-use ol_memory::NoMemory;
+use ol_limits::NoMemory;
 use std::alloc::Global;
 
 /// What comes of a file with inputs.

@@ -11,8 +11,7 @@ ghost use Rattle.ol_grades.specs.Inside.{IsAppliedFile, IsFound, IsReadOf};
 
 use crate::holding::Seen;
 use ol_demand::{Demanded, demand};
-use ol_limits::{Fuel, Heads};
-use ol_memory::NoMemory;
+use ol_limits::{Fuel, Heads, NoMemory};
 use ol_net::Net;
 use ol_parse::{ParseFault, parse};
 use ol_readback::{ReadNode, ReadTree};

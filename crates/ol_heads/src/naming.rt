@@ -4,7 +4,7 @@ ghost use Rattle.std.specs.Prelude.{◌≡◌, IfOk};
 ghost use Rattle.ol_heads.specs.Heads.{all_names};
 
 use ol_derivations::add_names;
-use ol_memory::NoMemory;
+use ol_limits::NoMemory;
 use ol_term::Names;
 use std::alloc::Global;
 

@@ -11,7 +11,7 @@ ghost use Rattle.ol_heads.specs.Inside.{sign};
 use crate::placing::{node_at, place_of};
 use crate::rounding::{round_of, sum};
 use ol_equal::Path;
-use ol_memory::NoMemory;
+use ol_limits::NoMemory;
 use ol_readback::{HeadVar, ReadNode, ReadTree};
 use ol_subjects::put;
 use ol_term::{BinderNames, Names};

@@ -5,7 +5,7 @@ ghost use Rattle.ol_readback.specs.Whole.{Part, preorder};
 ghost use Rattle.ol_readback.specs.Texts.{rounds};
 
 use crate::placing::{lams_and_args, node_at};
-use ol_memory::NoMemory;
+use ol_limits::NoMemory;
 use ol_readback::ReadTree;
 
 /// The sum.

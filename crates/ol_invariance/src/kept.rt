@@ -12,7 +12,7 @@ ghost use Rattle.ol_rules.specs.Steps.{IsUnpaired, StepsAt};
 ghost use Rattle.ol_rules.specs.declared.one_thread.Ended.TheVariants as ended;
 ghost use Rattle.ol_rules.specs.declared.steps.StepFault.TheVariants.{NotActive};
 
-use ol_memory::NoMemory;
+use ol_limits::NoMemory;
 use ol_net::{Net, NodeId, Rule};
 use ol_rules::{Ran, StepFault, run, step};
 use std::alloc::Global;

@@ -5,7 +5,7 @@ ghost use Rattle.ol_io.specs.Fakes.{fresh_sink, write_answer, after_write};
 
 use crate::mem_source::is_failing;
 use crate::outside::{Put, Sink};
-use ol_memory::NoMemory;
+use ol_limits::NoMemory;
 use std::alloc::Global;
 use std::marker::Model;
 

@@ -9,7 +9,7 @@ use crate::files::{MemFile, find_file};
 use crate::log::{Log, Note};
 use crate::mem_source::{copy_front, rest};
 use crate::outside::{Begun, Got, Put, Sink, Source};
-use ol_memory::NoMemory;
+use ol_limits::NoMemory;
 use std::alloc::Global;
 use std::marker::Model;
 

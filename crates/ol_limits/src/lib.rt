@@ -1,5 +1,5 @@
-//! The limits of what is read, made ready, rewritten and printed, each in one place; and numbers
-//! that keep theirs.
+//! The limits of what is read, made ready, rewritten and printed; numbers that keep theirs; and the
+//! error of a call that finds no memory.
 //!
 //! Clauses have the limits from specs/Limits.antt, where they stand as numerals. So a constant of
 //! this file that differs is refused by the function that rests on it.
@@ -7,6 +7,24 @@
 
 ghost use Rattle.std.specs.Prelude.{◌≡◌, ◌≤◌};
 ghost use Rattle.ol_limits.specs.Limits.{most_fuel, most_workers, plain_fuel, plain_heads, plain_workers};
+
+use std::alloc::{AllocError, AllocFailed};
+
+/// No memory was found. It is returned in no other case.
+#[derive(Clone, Copy, Debug, PartialEq, Eq)]
+pub struct NoMemory;
+
+impl From<AllocError> for NoMemory {
+    fn from(_error: AllocError) -> NoMemory {
+        NoMemory
+    }
+}
+
+impl<T: Drop> From<AllocFailed<T>> for NoMemory {
+    fn from(_error: AllocFailed<T>) -> NoMemory {
+        NoMemory
+    }
+}
 
 /// The greatest number of bytes of a term file.
 pub const MOST_TERM_BYTES: u32 = 1_048_576;

@@ -8,7 +8,7 @@ ghost use Rattle.ol_named.specs.Terms.{named_of};
 ghost use Rattle.ol_named.specs.Lettered.{lettered};
 
 use crate::terms::NamedTerm;
-use ol_memory::NoMemory;
+use ol_limits::NoMemory;
 use ol_subjects::put;
 use ol_term::{BinderNames, Names, Term};
 use std::alloc::Global;

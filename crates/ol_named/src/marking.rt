@@ -9,7 +9,7 @@ use crate::printing::{
     before_binder, before_body, is_abstraction, is_name, left_bracket, put_part, right_bracket,
 };
 use crate::terms::NamedTerm;
-use ol_memory::NoMemory;
+use ol_limits::NoMemory;
 use ol_subjects::put;
 use std::alloc::Global;
 

@@ -6,7 +6,7 @@ ghost use Rattle.ol_named.specs.Terms.{named_of};
 ghost use Rattle.ol_named.specs.NamedTexts.{is_abstraction, is_name, left_bracket, right_bracket, named_text};
 
 use crate::terms::NamedTerm;
-use ol_memory::NoMemory;
+use ol_limits::NoMemory;
 use ol_subjects::put;
 
 pub fn before_binder(body: bool) -> &'static str

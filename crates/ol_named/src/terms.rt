@@ -4,7 +4,7 @@ ghost use Rattle.std.specs.Prelude.{◌≡◌, IfOk};
 ghost use Rattle.ol_parse.specs.Grammar as named;
 ghost use Rattle.ol_named.specs.Terms.{named_of};
 
-use ol_memory::NoMemory;
+use ol_limits::NoMemory;
 use std::alloc::Global;
 
 /// A term whose binders and occurrences have names. `Abstraction(x, t)` binds `x` in `t`, and

@@ -10,7 +10,7 @@ ghost use Rattle.ol_term.specs.Trees.{tree_of};
 ghost use Rattle.ol_need.specs.Machines.{goes, came, has, applied, begun, behind, behind_link, entered, entered_link, first_link, has_name, is_ended, linked, named, need_count, next, shown, went, done};
 ghost use Rattle.ol_need.specs.Held.{cell_of, frame_of, link_of, machine_of, weak_of, HasRoom};
 
-use ol_memory::NoMemory;
+use ol_limits::NoMemory;
 use ol_term::Term;
 use std::alloc::Global;
 

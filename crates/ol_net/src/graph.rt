@@ -18,7 +18,7 @@ use crate::facing::{facing_in, stuck_in};
 use crate::parts::{BuildFault, Facing, JoinEnd, Kind, NodeId, Port};
 use crate::rewire::replace_in;
 use crate::table::{kind_in, partner_in};
-use ol_memory::NoMemory;
+use ol_limits::NoMemory;
 use std::alloc::Global;
 use std::marker::Model;
 

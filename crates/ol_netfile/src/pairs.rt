@@ -6,7 +6,7 @@ ghost use Rattle.ol_net.specs.Pairs.{IsStuck};
 ghost use Rattle.ol_netfile.specs.StuckPairs.{IsPairsText, pair_line};
 
 use crate::writing::{put, put_shown};
-use ol_memory::NoMemory;
+use ol_limits::NoMemory;
 use ol_net::{Facing, Net, NodeId, Port};
 use std::alloc::Global;
 

@@ -3,7 +3,7 @@
 ghost use Rattle.std.specs.Prelude.{◌≡◌, ◌++◌, ◌<◌, [], map, IfOk, OnOk};
 ghost use Rattle.ol_objects.specs.Strings.{array_of, hex_digit, in_string, lines_of, pieces_of, stands, string, strings_after};
 
-use ol_memory::NoMemory;
+use ol_limits::NoMemory;
 use ol_subjects::put;
 use std::alloc::{AllocError, Global};
 

@@ -13,8 +13,7 @@ ghost use Rattle.ol_limits.specs.Limits.{most_nodes};
 
 use crate::playing::play;
 use ol_demand::{Demanded, demand};
-use ol_limits::{Fuel, Heads};
-use ol_memory::NoMemory;
+use ol_limits::{Fuel, Heads, NoMemory};
 use ol_net::Net;
 use ol_rules::{Ended, Journal, run};
 use ol_subjects::{Answer, End, NetRead, Subject, put, read_subject};

@@ -12,8 +12,7 @@ ghost use Rattle.ol_replay.specs.Replays.{ReplaysPair};
 ghost use Rattle.ol_orders.specs.Played.{IsPair, ArePairs, StillWait, NewWait, Plays, IsCut, IsPlayed};
 ghost use Rattle.ol_limits.specs.Limits.{most_nodes};
 
-use ol_limits::Fuel;
-use ol_memory::NoMemory;
+use ol_limits::{Fuel, NoMemory};
 use ol_net::{Facing, Net, NodeId, Port};
 use ol_replay::Replay;
 use ol_rules::{Ended, Ran, await_active, await_beside};

@@ -33,10 +33,10 @@ impl<T: Drop> From<AllocFailed<T>> for ParseFault {
     }
 }
 
-impl From<ol_memory::NoMemory> for ParseFault {
+impl From<ol_limits::NoMemory> for ParseFault {
     ghost from_gives = { λ _ e. e ≡ NoMemory };
 
-    fn from(_: ol_memory::NoMemory) -> Self {
+    fn from(_: ol_limits::NoMemory) -> Self {
         ParseFault::NoMemory
     }
 }

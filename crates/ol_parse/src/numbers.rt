@@ -13,7 +13,7 @@ ghost use Rattle.ol_parse.specs.Resolving.{texts, names_from, add_unless, IsNumb
 use crate::bytes::is_same;
 use crate::flat::Op;
 use crate::steps::{Part, part_at, starts_of};
-use ol_memory::NoMemory;
+use ol_limits::NoMemory;
 use ol_term::{Names, Term, TermFile};
 use std::alloc::Global;
 

@@ -8,7 +8,7 @@ ghost use Rattle.ol_places.specs.Scanned.{lets_after, IsLastLet, IsOpenLine};
 
 use crate::placing::{line_of, put_line_and_column};
 use crate::stopping::goes_on;
-use ol_memory::NoMemory;
+use ol_limits::NoMemory;
 use ol_subjects::put;
 use ol_tokens::{Kind, first_token};
 use std::alloc::Global;

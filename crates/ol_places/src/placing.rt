@@ -3,7 +3,7 @@
 ghost use Rattle.std.specs.Prelude.{◌≡◌, ◌≢◌, ℕ, ◌+◌, ◌-◌, ◌<◌, ◌≤◌, ◌++◌, ◌⊎◌, length, take, drop, count_by, slice_index, IfOk, OnOk};
 ghost use Rattle.ol_places.specs.Places.{is_feed, blank, blanks, line_and_column, place_text, past_text, IsLineOf, IsWhere};
 
-use ol_memory::NoMemory;
+use ol_limits::NoMemory;
 use ol_subjects::{Answer, End, put, put_number};
 use std::alloc::Global;
 

@@ -8,7 +8,7 @@ ghost use Rattle.ol_places.specs.Wanted.{is_term, is_whole, is_more, is_fresh, i
 
 use crate::lets::let_line;
 use crate::placing::{line_of, place_text};
-use ol_memory::NoMemory;
+use ol_limits::NoMemory;
 use ol_parse::{ParseFault, parse};
 use ol_subjects::{Answer, End, put};
 use std::alloc::Global;

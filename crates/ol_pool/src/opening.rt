@@ -10,7 +10,7 @@ use crate::hands::Hand;
 use crate::own::Own;
 use crate::pool::Pool;
 use crate::reach::Reach;
-use ol_memory::NoMemory;
+use ol_limits::NoMemory;
 use std::alloc::Global;
 
 // So many open deques without a cell, from both sides.

@@ -8,7 +8,7 @@ ghost use Rattle.ol_pool.specs.Owned.{new_reach};
 use crate::deques::{Fair, Gets, Lends, Opens, Owner, Puts, Tells, Thief};
 use crate::reach::Reach;
 use crate::tally::Tally;
-use ol_memory::NoMemory;
+use ol_limits::NoMemory;
 use std::alloc::Global;
 use std::marker::Model;
 

@@ -9,7 +9,7 @@ use crate::answers::Head;
 use crate::asking::walk_frame;
 use crate::frames::Asked;
 use ol_context::Values;
-use ol_memory::NoMemory;
+use ol_limits::NoMemory;
 use ol_net::Net;
 use std::alloc::Global;
 

@@ -12,7 +12,7 @@ use crate::answers::Head;
 use crate::frames::{Asked, Frame};
 use crate::leaving::leave_by;
 use ol_context::{OpenWalk, Steps, Values, walk_open};
-use ol_memory::NoMemory;
+use ol_limits::NoMemory;
 use ol_net::Net;
 use std::alloc::Global;
 use std::marker::Brand;

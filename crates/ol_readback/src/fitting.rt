@@ -6,7 +6,7 @@ ghost use Rattle.ol_context.specs.Shapes.{value, IsHeld, AreHeld, context_of};
 ghost use Rattle.ol_readback.specs.Fitting.{Stripped, IsFit, IsSomeStar, IsNoStar, TellsBegin, IsMark, IsCount, IsLastCount, IsNameOf};
 
 use ol_context::{Context, Shape, Val, Values};
-use ol_memory::NoMemory;
+use ol_limits::NoMemory;
 
 // How many o stand before a value, and what they stand before.
 fn strip(values: &Values, v: Val) -> Result<(u32, Val), NoMemory>

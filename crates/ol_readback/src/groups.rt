@@ -8,7 +8,7 @@ use crate::frames::Frame;
 use crate::leaving::push_level;
 use crate::levels::Levels;
 use ol_context::{Val, Values};
-use ol_memory::NoMemory;
+use ol_limits::NoMemory;
 use std::alloc::Global;
 
 /// The arguments of one head from argument `done + 1` on. Their frames stand at the free port

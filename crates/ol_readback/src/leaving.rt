@@ -15,7 +15,7 @@ use crate::frames::{Asked, Frame};
 use crate::levels::Levels;
 use crate::skipping::next_round;
 use ol_context::{Context, Val, Values};
-use ol_memory::NoMemory;
+use ol_limits::NoMemory;
 use std::alloc::{AllocError, Global};
 
 // The binder of this frame, counted from 0, and the number of arguments.

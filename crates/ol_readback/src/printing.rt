@@ -9,7 +9,7 @@ ghost use Rattle.ol_readback.specs.Printing.{IsSeenVar, IsSeen, left_bracket, ri
 
 use crate::answers::{HeadVar, ReadNode};
 use crate::tree::ReadTree;
-use ol_memory::NoMemory;
+use ol_limits::NoMemory;
 use ol_term::{BinderNames, Names};
 use std::alloc::Global;
 

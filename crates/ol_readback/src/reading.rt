@@ -24,7 +24,7 @@ use crate::levels::Levels;
 use crate::skipping::skip_from;
 use crate::tree::ReadTree;
 use ol_context::Values;
-use ol_memory::NoMemory;
+use ol_limits::NoMemory;
 use ol_net::Net;
 use std::alloc::Global;
 

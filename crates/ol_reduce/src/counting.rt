@@ -9,7 +9,7 @@ use crate::answers::End;
 use crate::freezing::freeze_counted;
 use crate::reducing::reduce_words;
 use ol_io::Gate;
-use ol_memory::NoMemory;
+use ol_limits::NoMemory;
 use ol_net::Net;
 use ol_rules::Counts;
 use ol_wire::Words;

@@ -6,7 +6,7 @@ ghost use Rattle.ol_net.specs.Pairing.{other};
 ghost use Rattle.ol_net.specs.Linking.{linked};
 ghost use Rattle.ol_reduce.specs.Drafts.{frozen_top, IsFullDraft, all_links, AreWithin, StayWithin, AreFew, IsBuilt};
 
-use ol_memory::NoMemory;
+use ol_limits::NoMemory;
 use ol_net::{BuildFault, Kind, Net, NodeId, Port, port_at};
 use std::alloc::Global;
 

@@ -17,7 +17,7 @@ use crate::chains::{Goal, follow};
 use crate::draft::Draft;
 use crate::live::{Live, Tally};
 use crate::reading::word_at;
-use ol_memory::NoMemory;
+use ol_limits::NoMemory;
 use ol_net::Net;
 use ol_rules::{Counts, Journal};
 use ol_wire::{BLOCK, Blocks, Parts, Words, index_in, kind_in, place_in, port_word};

@@ -15,7 +15,7 @@ use crate::workers::Worker;
 use crate::working::{offer, worker};
 use crossbeam_utils::CachePadded;
 use ol_io::Gate;
-use ol_memory::NoMemory;
+use ol_limits::NoMemory;
 use ol_net::Net;
 use ol_pool::{Hand, Pool};
 use ol_wire::{Seat, Shared, Words};

@@ -10,7 +10,7 @@ ghost use Rattle.ol_wire.specs.Sizes.{IsSmall};
 ghost use Rattle.ol_reduce.specs.Left.{rank_of, AreMarked, births_at, IsSmallTable, IsWithinFuel, IsMarkedToo, IsPlaceOfSome, IsRankAt, IsRankOf, IsPlaceLeft, births_by};
 ghost use Rattle.ol_reduce.specs.Linked.{AreAllLeft, AreLeftTo, IsTally, AddsPlace, AddsNumber};
 
-use ol_memory::NoMemory;
+use ol_limits::NoMemory;
 use ol_net::Rule;
 use ol_rules::{Counts, NodeName, counted, is_meeting, no_counts};
 use ol_wire::{BLOCK, Parts, Words, kind_in};

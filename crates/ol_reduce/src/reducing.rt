@@ -12,7 +12,7 @@ use crate::gathering::run_workers;
 use crate::reduced::Reduced;
 use ol_diamond::one_thread_agrees;
 use ol_io::Gate;
-use ol_memory::NoMemory;
+use ol_limits::NoMemory;
 use ol_net::Net;
 use ol_wire::Words;
 use std::alloc::Global;

@@ -5,7 +5,7 @@ ghost use Rattle.ol_net.specs.Numbered.{net_of};
 ghost use Rattle.ol_diamond.specs.Replaying.{AreIdle};
 ghost use Rattle.ol_replay.specs.Replays.{IsReplay, ReplaysPair, ReplaysNamed, AreApart};
 
-use ol_memory::NoMemory;
+use ol_limits::NoMemory;
 use ol_net::{Facing, Net, NodeId};
 use ol_rules::{NodeName, Numbers, UnderWay, are_facing};
 use std::alloc::Global;

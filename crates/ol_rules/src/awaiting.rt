@@ -4,7 +4,7 @@ ghost use Rattle.std.specs.Prelude.{OnOk};
 ghost use Rattle.ol_rules.specs.Waiting.{AreAdded, IsActiveIn, IsBeside};
 
 use crate::facing::node_at;
-use ol_memory::NoMemory;
+use ol_limits::NoMemory;
 use ol_net::{Facing, Net, NodeId, Port};
 use std::collections::BTreeSet;
 

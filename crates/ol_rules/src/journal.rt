@@ -2,7 +2,7 @@
 
 ghost use Rattle.std.specs.Prelude.{◌≡◌, ℕ, ◌+◌, ◌-◌, ◌<◌, ◌^◌, ◌++◌, [], ◌∷◌, length, IfOk, OnOk, OnErr, slice_get, get_or, vec_len};
 
-use ol_memory::NoMemory;
+use ol_limits::NoMemory;
 use ol_net::Rule;
 use std::alloc::Global;
 use std::marker::Model;

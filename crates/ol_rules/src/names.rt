@@ -5,7 +5,7 @@ ghost use Rattle.ol_rules.specs.Runs.{names_born};
 ghost use Rattle.ol_rules.specs.UnderWay.{name_in, node_number};
 
 use crate::journal::NodeName;
-use ol_memory::NoMemory;
+use ol_limits::NoMemory;
 use ol_net::{Net, NodeId};
 use std::alloc::Global;
 

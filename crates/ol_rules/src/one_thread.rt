@@ -12,7 +12,7 @@ use crate::awaiting::{await_active, await_beside};
 use crate::facing::node_at;
 use crate::journal::Journal;
 use crate::under_way::UnderWay;
-use ol_memory::NoMemory;
+use ol_limits::NoMemory;
 use ol_net::{Facing, Net, NodeId, Port};
 use std::alloc::Global;
 use std::collections::BTreeSet;

@@ -14,7 +14,7 @@ ghost use Rattle.ol_rules.specs.Actors.{IsFacing, FindsPair, action_in, IsRewrit
 ghost use Rattle.ol_rules.specs.Steps.{IsUnpaired, StepsAt};
 ghost use Rattle.ol_rules.specs.declared.steps.StepFault.TheVariants.{NotActive};
 
-use ol_memory::NoMemory;
+use ol_limits::NoMemory;
 use ol_net::{JoinEnd, Kind, Net, NodeId, Port, Rule, rule_of};
 
 /// Why a step was not made. The net is then as it was.

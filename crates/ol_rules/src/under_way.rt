@@ -10,7 +10,7 @@ ghost use Rattle.ol_rules.specs.UnderWay.{IsPair, Advances, AtMostOneStep, IsInt
 use crate::journal::{Entry, Journal};
 use crate::names::Names;
 use crate::steps::{StepFault, step};
-use ol_memory::NoMemory;
+use ol_limits::NoMemory;
 use ol_net::{Net, NodeId, Rule};
 use std::alloc::Global;
 

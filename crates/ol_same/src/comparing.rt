@@ -16,7 +16,7 @@ ghost use Rattle.ol_same.specs.Walked.{HasWalked, SearchedFrom, SearchedAt};
 ghost use Rattle.ol_limits.specs.Limits.{most_net_bytes};
 
 use crate::reading::read_part;
-use ol_memory::NoMemory;
+use ol_limits::NoMemory;
 use ol_net::{IndexOf, Kind, Net, NodeId, Port};
 use ol_subjects::{Answer, End, NetRead, put, put_number, put_shown};
 use std::alloc::Global;

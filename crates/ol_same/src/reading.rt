@@ -6,7 +6,7 @@ ghost use Rattle.ol_subjects.specs.Readied.{IsSubjectRead};
 ghost use Rattle.ol_same.specs.Same.{BeginsLine, HasHead, IsNetPart};
 ghost use Rattle.ol_limits.specs.Limits.{most_net_bytes};
 
-use ol_memory::NoMemory;
+use ol_limits::NoMemory;
 use ol_subjects::{NetRead, Subject, read_subject};
 use std::alloc::Global;
 

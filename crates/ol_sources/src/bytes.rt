@@ -6,7 +6,7 @@ ghost use Rattle.ol_sources.specs.Looks.{byte_look, gap_look, kind_of, last};
 ghost use Rattle.ol_sources.specs.Kept.{from_of, look_of, sight_of, token_in};
 
 use crate::tokens::{Reading, Round, Token, take};
-use ol_memory::NoMemory;
+use ol_limits::NoMemory;
 use std::alloc::Global;
 
 /// What a byte is to the reader.

@@ -9,7 +9,7 @@ ghost use Rattle.ol_binders.specs.Trees.{binders_in};
 use crate::bytes::{Place, look, look_at_end};
 use crate::tokens::{Reading, Round, ended};
 use ol_binders::BinderTree;
-use ol_memory::NoMemory;
+use ol_limits::NoMemory;
 use std::alloc::Global;
 
 /// The names that the binders of a text's term have in the text, in the shape of the term. Where

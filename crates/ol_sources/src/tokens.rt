@@ -8,7 +8,7 @@ ghost use Rattle.ol_sources.specs.Sights as sight;
 ghost use Rattle.ol_sources.specs.Kept.{frame_in, frames_in, sight_of, token_in, IsEnded};
 
 use ol_binders::BinderTree;
-use ol_memory::NoMemory;
+use ol_limits::NoMemory;
 use std::alloc::Global;
 
 /// A token.

@@ -13,7 +13,7 @@ ghost use Rattle.ol_steps.specs.Steps.{address_line, how_many, last_line, past_l
 use crate::stepping::Shown;
 use ol_beta::Address;
 use ol_binders::{BinderTree, name};
-use ol_memory::NoMemory;
+use ol_limits::NoMemory;
 use ol_named::{NamedTerm, letter, put_mark, put_named};
 use ol_strategies::{Order, Reached};
 use ol_subjects::{End, put, put_number};

@@ -16,7 +16,7 @@ use crate::stepping::Shown;
 use ol_beta::Address;
 use ol_binders::BinderTree;
 use ol_folds::{Lets, fold, fold_round, is_let_at, prune};
-use ol_memory::NoMemory;
+use ol_limits::NoMemory;
 use ol_subjects::{put, put_number};
 use ol_term::{Names, Term};
 use std::alloc::Global;

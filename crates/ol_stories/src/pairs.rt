@@ -5,7 +5,7 @@ ghost use Rattle.ol_replay.specs.Replays.{names_of};
 ghost use Rattle.ol_stories.specs.Turns.{greater_at, left_lines, left_text, or_words, pair_line};
 
 use crate::words::put_named;
-use ol_memory::NoMemory;
+use ol_limits::NoMemory;
 use ol_net::{Facing, Net, NodeId, Port};
 use ol_replay::Replay;
 use ol_subjects::put;

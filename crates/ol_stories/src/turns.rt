@@ -7,7 +7,7 @@ ghost use Rattle.ol_stories.specs.Made.{IsMade, IsToldOf};
 
 use crate::pairs::{put_left, put_or};
 use crate::words::{put_entry, put_node};
-use ol_memory::NoMemory;
+use ol_limits::NoMemory;
 use ol_net::NodeId;
 use ol_replay::Replay;
 use ol_rules::Entry;

@@ -8,7 +8,7 @@ ghost use Rattle.ol_view.specs.TraceTexts.{line_text, name_text};
 ghost use Rattle.ol_replay.specs.Replays.{names_of};
 ghost use Rattle.ol_stories.specs.Turns.{kind_words, node_text};
 
-use ol_memory::NoMemory;
+use ol_limits::NoMemory;
 use ol_net::{IndexOf, Kind, NodeId};
 use ol_replay::Replay;
 use ol_rules::{Entry, NodeName};

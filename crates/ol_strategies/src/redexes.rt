@@ -8,7 +8,7 @@ use crate::orders::Order;
 use crate::spine::spine_redex;
 use crate::strict::strict_redex;
 use ol_beta::Address;
-use ol_memory::NoMemory;
+use ol_limits::NoMemory;
 use ol_term::Term;
 use std::alloc::Global;
 

@@ -6,7 +6,7 @@ ghost use Rattle.ol_beta.specs.Leftmost.{is_abstraction};
 ghost use Rattle.ol_strategies.specs.Searches.{spine_redex};
 
 use ol_beta::Address;
-use ol_memory::NoMemory;
+use ol_limits::NoMemory;
 use ol_term::Term;
 use std::alloc::Global;
 

@@ -7,7 +7,7 @@ ghost use Rattle.ol_strategies.specs.Searches.{is_ready, strict_redex, redex_if,
 
 use crate::spine::{add_move, is_abstraction};
 use ol_beta::Address;
-use ol_memory::NoMemory;
+use ol_limits::NoMemory;
 use ol_term::Term;
 use std::alloc::Global;
 

@@ -7,8 +7,7 @@ ghost use Rattle.ol_subjects.specs.Readied.{IsTermRead, IsSubjectRead};
 ghost use Rattle.ol_limits.specs.Limits.{most_net_bytes, most_term_bytes};
 
 use crate::texts::{put, put_number};
-use ol_limits::{MOST_NET_BYTES, MOST_TERM_BYTES};
-use ol_memory::NoMemory;
+use ol_limits::{MOST_NET_BYTES, MOST_TERM_BYTES, NoMemory};
 use ol_net::Net;
 use ol_netfile::{NetFault, fault_text, read_net};
 use ol_parse::{ParseFault, parse};

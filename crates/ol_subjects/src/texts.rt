@@ -3,7 +3,7 @@
 ghost use Rattle.std.specs.Prelude.{◌≡◌, ◌++◌, ◌∷◌, [], OnOk, IfOk, IfSome};
 ghost use Rattle.std.specs.Fmt.{decimal};
 
-use ol_memory::NoMemory;
+use ol_limits::NoMemory;
 use std::alloc::Global;
 use std::fmt;
 

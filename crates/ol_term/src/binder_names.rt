@@ -6,7 +6,7 @@ ghost use Rattle.ol_term.specs.BinderNames.{candidate, is_among, fresh_from, bin
 ghost use Rattle.ol_term.specs.BinderNumbers.{AreNumbers, IsStart};
 
 use crate::name_list::Names;
-use ol_memory::NoMemory;
+use ol_limits::NoMemory;
 use std::alloc::{AllocError, Global};
 use std::marker::Model;
 

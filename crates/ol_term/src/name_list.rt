@@ -7,7 +7,7 @@ ghost use Rattle.ol_term.specs.NameLists.{IsFirstPlace, NoNameTwice};
 ghost use Rattle.ol_term.specs.NameIndexes.{by_bytes};
 ghost use Rattle.ol_term.specs.NameFinds.{IsIndexed, found};
 
-use ol_memory::NoMemory;
+use ol_limits::NoMemory;
 use std::alloc::Global;
 use std::collections::BTreeMap;
 use std::marker::Model;

@@ -9,7 +9,7 @@ ghost use Rattle.ol_term.specs.Printing.{left_bracket, closing, IsPrintable, IsI
 use crate::binder_names::BinderNames;
 use crate::name_list::Names;
 use crate::terms::Term;
-use ol_memory::NoMemory;
+use ol_limits::NoMemory;
 use std::alloc::Global;
 
 /// What is still to be printed: a term with so many binders round it, which is the body of the

@@ -7,7 +7,7 @@ ghost use Rattle.ol_view.specs.Checks.{start_net_of_graph, IsFound, OnlyIsFound,
 
 use crate::answers::Check;
 use crate::feeding::Checker;
-use ol_memory::NoMemory;
+use ol_limits::NoMemory;
 use ol_net::Net;
 use std::alloc::Global;
 

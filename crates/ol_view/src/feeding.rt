@@ -17,8 +17,7 @@ use crate::standing::line_at;
 use crate::tracing::HEADER;
 use crate::wave_tracing::WAVE_HEADER;
 use ol_diamond::{Rewritten, Weighing};
-use ol_limits::MOST_FUEL;
-use ol_memory::NoMemory;
+use ol_limits::{MOST_FUEL, NoMemory};
 use ol_net::Net;
 use std::alloc::Global;
 

@@ -7,7 +7,7 @@ ghost use Rattle.ol_view.specs.ShowTexts.{partner_text, node_line, show_text};
 ghost use Rattle.ol_view.specs.Showing.{free_lines, partners_text, node_lines};
 
 use crate::pieces::{put, put_number, put_shown};
-use ol_memory::NoMemory;
+use ol_limits::NoMemory;
 use ol_net::{IndexOf, Net, NodeId, Port};
 use std::alloc::Global;
 

@@ -6,7 +6,7 @@ ghost use Rattle.ol_view.specs.TraceTexts.{name_text, line_text};
 ghost use Rattle.ol_view.specs.Forms.{text_of};
 
 use crate::pieces::{put, put_number};
-use ol_memory::NoMemory;
+use ol_limits::NoMemory;
 use ol_rules::{Entry, Journal, NodeName};
 use std::alloc::Global;
 

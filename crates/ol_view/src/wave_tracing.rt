@@ -13,7 +13,7 @@ ghost use Rattle.ol_view.specs.Forms.{line_of, text_of};
 use crate::pieces::{put, put_number};
 use crate::tracing::put_line;
 use ol_diamond::{WaveList, waves};
-use ol_memory::NoMemory;
+use ol_limits::NoMemory;
 use ol_net::{Net, Rule};
 use ol_rules::{Entry, Journal};
 use std::alloc::Global;

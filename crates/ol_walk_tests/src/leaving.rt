@@ -6,7 +6,7 @@ ghost use Rattle.ol_readback.specs.Frames.{frames_of, ParentsFirst, AreHeldFrame
 use crate::level_texts::begun;
 use crate::rows::{Asked, Question, assert_rows};
 use ol_context::Values;
-use ol_memory::NoMemory;
+use ol_limits::NoMemory;
 use ol_readback::{Frame, Head, Levels, leave};
 use std::alloc::{AllocError, Global};
 use std::test::Fail;

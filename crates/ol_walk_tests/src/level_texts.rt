@@ -6,7 +6,7 @@ ghost use Rattle.ol_context.specs.Shapes.{IsHeld, AreHeld, Extends};
 use crate::rows::Asked;
 use crate::small_nets::{net_of, parsed};
 use ol_context::{Context, Shape, Val, Values, Walk, walk};
-use ol_memory::NoMemory;
+use ol_limits::NoMemory;
 use ol_net::Net;
 use ol_term::Translation;
 use std::alloc::{AllocError, Global};

@@ -6,7 +6,7 @@ ghost use Rattle.ol_term.specs.Trees.{tree_of, depth};
 use crate::rows::{Asked, Question, assert_rows};
 use crate::small_nets::parsed;
 use ol_beta::Address;
-use ol_memory::NoMemory;
+use ol_limits::NoMemory;
 use ol_strategies::{Order, reached, redex};
 use ol_term::Term;
 use std::alloc::{AllocError, Global};

@@ -4,7 +4,7 @@ ghost use Rattle.std.specs.Prelude.{IfOk};
 ghost use Rattle.ol_context.specs.Shapes.{IsHeld, Extends};
 
 use ol_context::{Val, Values};
-use ol_memory::NoMemory;
+use ol_limits::NoMemory;
 use std::test::Fail;
 
 /// So many times `o.` before a value.

@@ -5,7 +5,7 @@ ghost use Rattle.ol_equal.specs.Paths.{IsPathTo};
 ghost use Rattle.ol_equal.specs.Walking.{args_of};
 ghost use Rattle.ol_walks.specs.Inside.{skipped};
 
-use ol_memory::NoMemory;
+use ol_limits::NoMemory;
 use ol_readback::{ReadNode, ReadTree};
 use std::alloc::Global;
 

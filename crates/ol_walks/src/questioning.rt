@@ -12,7 +12,7 @@ ghost use Rattle.ol_walks.specs.Trails.{AreLinesOf, AreQuestions};
 use crate::trailing::{Ending, trail};
 use crate::writing::put_context;
 use ol_context::{Context, Val, Values};
-use ol_memory::NoMemory;
+use ol_limits::NoMemory;
 use ol_net::{Net, Port};
 use ol_readback::Frame;
 use ol_subjects::{put, put_number, put_shown};

@@ -14,8 +14,7 @@ ghost use Rattle.ol_walks.specs.Inside.{AddsVar, AddsHead, TellsNet};
 
 use crate::finding::{path_of, place_of};
 use crate::watching::{Watch, seen_at};
-use ol_limits::Heads;
-use ol_memory::NoMemory;
+use ol_limits::{Heads, NoMemory};
 use ol_net::Net;
 use ol_readback::{HeadVar, ReadNode, ReadTree, read_back};
 use ol_subjects::{Answer, End, TermRead, put, put_number, read_term};

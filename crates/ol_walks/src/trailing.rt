@@ -11,7 +11,7 @@ ghost use Rattle.ol_walks.specs.Inside.{AddsBarred, AddsCrossing, AddsTrail};
 
 use crate::writing::put_context;
 use ol_context::{Context, Cross, Values, cross};
-use ol_memory::NoMemory;
+use ol_limits::NoMemory;
 use ol_net::{IndexOf, Kind, Net, NodeId, Port};
 use ol_subjects::{put, put_shown};
 use std::alloc::Global;

@@ -8,7 +8,7 @@ ghost use Rattle.ol_walks.specs.Inside.{IsSeen};
 
 use crate::questioning::questions;
 use ol_context::Values;
-use ol_memory::NoMemory;
+use ol_limits::NoMemory;
 use ol_net::Net;
 use ol_readback::{Asked, Asks, Head, ReadTree, head, read};
 use std::alloc::Global;

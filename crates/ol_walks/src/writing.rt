@@ -9,7 +9,7 @@ ghost use Rattle.ol_walks.specs.Pieces.{AreHeldPieces, Writes};
 ghost use Rattle.ol_walks.specs.Inside.{AddsContext};
 
 use ol_context::{Context, Shape, Val, Values};
-use ol_memory::NoMemory;
+use ol_limits::NoMemory;
 use ol_subjects::put;
 use std::alloc::Global;
 

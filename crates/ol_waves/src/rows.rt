@@ -6,7 +6,7 @@ ghost use Rattle.ol_waves.specs.Tallied.{rows_text};
 ghost use Rattle.ol_tallies.specs.Sums.{interactions};
 
 use crate::tallies::{Widest, tally_at};
-use ol_memory::NoMemory;
+use ol_limits::NoMemory;
 use ol_rules::Counts;
 use ol_subjects::{put, put_number};
 use ol_tallies::interactions;

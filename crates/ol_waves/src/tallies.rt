@@ -6,7 +6,7 @@ ghost use Rattle.ol_waves.specs.Waves.{last_wave};
 ghost use Rattle.ol_waves.specs.Tallied.{AreTallied, IsWidestBelow, tally_at};
 
 use ol_diamond::WaveList;
-use ol_memory::NoMemory;
+use ol_limits::NoMemory;
 use ol_net::Rule;
 use ol_rules::{Counts, Journal, counted, no_counts};
 use ol_tallies::interactions;

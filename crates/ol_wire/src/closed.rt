@@ -11,7 +11,7 @@ use crate::layout::Parts;
 use crate::plan::Plan;
 use crate::seat::Token;
 use crate::view::View;
-use ol_memory::NoMemory;
+use ol_limits::NoMemory;
 use ol_rules::{Entry, Journal};
 use std::alloc::Global;
 use std::marker::Model;

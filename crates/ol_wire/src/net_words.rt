@@ -17,7 +17,7 @@ ghost use Rattle.ol_wire.specs.LaidWords.{word_of_port, cell_words, port_row, fi
 use crate::layout::{BLOCK, Parts, port_word};
 use crate::reference::{node_ref, wire_ref};
 use crate::rewrite::active_in;
-use ol_memory::NoMemory;
+use ol_limits::NoMemory;
 use ol_net::{Net, NodeId, Port};
 use std::alloc::Global;
 

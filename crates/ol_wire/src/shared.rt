@@ -29,7 +29,7 @@ use crate::plan::Plan;
 use crate::seat::Seat;
 use crate::view::View;
 use atomic_table::Table;
-use ol_memory::NoMemory;
+use ol_limits::NoMemory;
 use ol_net::Net;
 use std::alloc::Global;
 use std::marker::Model;

@@ -14,7 +14,7 @@ use crate::texts::spent_line;
 use crate::verdicts::verdict_lines;
 use ol_beta::certify;
 use ol_io::{Gate, Source};
-use ol_memory::NoMemory;
+use ol_limits::NoMemory;
 use ol_net::Net;
 use ol_term::TermFile;
 use std::alloc::Global;

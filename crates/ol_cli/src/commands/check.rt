@@ -17,7 +17,7 @@ use crate::ready::{Ready, read_term};
 use crate::status::Status;
 use crate::texts::found_line;
 use ol_io::Source;
-use ol_memory::NoMemory;
+use ol_limits::NoMemory;
 use ol_net::Net;
 use ol_term::Translation;
 use ol_view::check;

@@ -15,7 +15,7 @@ use crate::status::Status;
 use crate::texts::{spent_line, term_line};
 use ol_equal::{compared_text, same_tree};
 use ol_io::{Gate, Source};
-use ol_memory::NoMemory;
+use ol_limits::NoMemory;
 use ol_readback::ReadTree;
 use ol_term::Names;
 use std::alloc::Global;

@@ -16,7 +16,7 @@ use crate::numbers::RunNumbers;
 use crate::ready::{Ready, make_ready};
 use crate::status::Status;
 use ol_io::Gate;
-use ol_memory::NoMemory;
+use ol_limits::NoMemory;
 use ol_term::{Translation, make};
 use std::alloc::Global;
 use std::sync::Wait;

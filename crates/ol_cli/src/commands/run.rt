@@ -11,7 +11,7 @@ use crate::ready::{Ready, read_term};
 use crate::status::Status;
 use crate::texts::{answer_lines, spent_line};
 use ol_io::{Gate, Source};
-use ol_memory::NoMemory;
+use ol_limits::NoMemory;
 use ol_net::Net;
 use ol_readback::{read_back, tree_text};
 use ol_reduce::{Counted, reduce_counted};

@@ -10,7 +10,7 @@ ghost use Rattle.ol_wire.specs.Idle.{IsIdle};
 use crate::plays::{Cut, Joins, ReadsTicketsJoined};
 use crate::seat::{Seat, Token};
 use crate::shared::Shared;
-use ol_memory::NoMemory;
+use ol_limits::NoMemory;
 use std::alloc::Global;
 
 impl Shared {
