@@ -5,7 +5,7 @@ ghost use Rattle.std.specs.Prelude.{◌≡◌, ◌≢◌, ◌<◌, ◌≤◌, �
 ghost use Rattle.ol_io.specs.Readings.{AreOfSince, handed, reading};
 ghost use Rattle.ol_parse.specs.Grammar.{Named};
 ghost use Rattle.ol_parse.specs.Texts.{IsText};
-ghost use Rattle.ol_law_lines.specs.NormalForms.{BeginsReduced};
+ghost use Rattle.ol_law_confluence.specs.NormalForms.{BeginsReduced};
 ghost use Rattle.ol_cli.specs.Jobs.{Files, files_of};
 ghost use Rattle.ol_cli.specs.NormalForms.{ArePlain};
 ghost use Rattle.ol_cli.specs.Answers.{Ends, HasCause, IsAnswer};

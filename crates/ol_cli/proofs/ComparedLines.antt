@@ -12,9 +12,9 @@ use Rattle.ol_equal.specs.Walking.{dotted}
 use Rattle.ol_law_confluence.specs.Reductions.{Convertible, turned, joined}
 use Rattle.ol_law_confluence.specs.Compared.{TellsTerms, ShareNormalForm}
 use Rattle.ol_law_confluence.proofs.Meetings.{convertible}
-use Rattle.ol_law_lines.proofs.Counts.{times, times_append}
-use Rattle.ol_law_lines.proofs.Printed.{decimal_none, feed}
-use Rattle.ol_law_lines.proofs.Lines.{line_of}
+use Rattle.ol_law_confluence.proofs.Counts.{times, times_append}
+use Rattle.ol_law_confluence.proofs.Printed.{decimal_none, feed}
+use Rattle.ol_law_confluence.proofs.Lines.{line_of}
 use Rattle.ol_cli.specs.Jobs.{Files}
 use Rattle.ol_words.specs.declared.jobs.Job.TheVariants as jobs
 use Rattle.ol_cli.specs.SourceLaws.{WritesOfSources}

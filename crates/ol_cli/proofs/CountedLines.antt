@@ -2,16 +2,16 @@
 use Rattle.std.proofs.Common.{◌≡◌, ℕ, List, Option, String, Global, ◌⊎◌, inl, inr, sym, ap, ◌∙◌, subst}
 use Rattle.std.specs.Prelude.{[], ◌∷◌, length, true}
 use Rattle.ol_beta.specs.Leftmost.{IsNormal}
-use Rattle.ol_law_families.proofs.Labelling.{leftmost_is_labelled}
+use Rattle.ol_law_optimality.proofs.Labelling.{leftmost_is_labelled}
 use Rattle.ol_io.specs.Outside.{Appended}
-use Rattle.ol_law_levy.specs.FirstHeads.{HasFirstHeads, HaveHeads}
-use Rattle.ol_law_levy.proofs.AskedPrinted.{filled_has_heads, heads_found, labelled, no_shorter_reduction}
-use Rattle.ol_law_levy.proofs.AskedReached.{no_longer_to, as_short_to}
-use Rattle.ol_law_levy.proofs.Demanding.{is_no_longer, is_as_short}
-use Rattle.ol_law_levy.proofs.Steps.{leftmost_families_are_families}
-use Rattle.ol_law_lines.proofs.Lines.{holes_are_no_text}
-use Rattle.ol_law_lines.proofs.Read.{one_line, line_is_normal_form}
-use Rattle.ol_law_lines.specs.NormalForms.{by_names_of, IsNormalFormOf}
+use Rattle.ol_law_optimality.specs.FirstHeads.{HasFirstHeads, HaveHeads}
+use Rattle.ol_law_optimality.proofs.AskedPrinted.{filled_has_heads, heads_found, labelled, no_shorter_reduction}
+use Rattle.ol_law_optimality.proofs.AskedReached.{no_longer_to, as_short_to}
+use Rattle.ol_law_optimality.proofs.Demanding.{is_no_longer, is_as_short}
+use Rattle.ol_law_optimality.proofs.Steps.{leftmost_families_are_families}
+use Rattle.ol_law_confluence.proofs.Lines.{holes_are_no_text}
+use Rattle.ol_law_confluence.proofs.Read.{one_line, line_is_normal_form}
+use Rattle.ol_law_confluence.specs.NormalForms.{by_names_of, IsNormalFormOf}
 use Rattle.ol_law_meaning.specs.Shows.{LeftmostReduces}
 use Rattle.ol_net.specs.declared.parts.Rule.TheVariants as rule
 use Rattle.ol_parse.specs.Grammar.{Named}
@@ -29,8 +29,8 @@ use Rattle.ol_term.specs.declared.translations.Translation.{Translation}
 use Rattle.ol_translate.proofs.Whole.{translation_net}
 use Rattle.ol_translate.specs.Names.{HasNames}
 use Rattle.ol_translate.specs.Translation.{translation_of}
-use Rattle.ol_law_unstuck.proofs.Names.{count_is_none}
-use Rattle.ol_law_unstuck.proofs.TermRuns.{no_pair_is_stuck_in_order}
+use Rattle.ol_law_levels.proofs.Names.{count_is_none}
+use Rattle.ol_law_levels.proofs.TermRuns.{no_pair_is_stuck_in_order}
 use Rattle.ol_words.specs.declared.jobs.Job.{Job}
 use Rattle.ol_words.specs.declared.jobs.Job.TheVariants as jobs
 use Rattle.ol_cli.proofs.DemandRuns.{is_start}

@@ -22,8 +22,8 @@ use Rattle.ol_law_completeness.proofs.Levelled.{normal_form_is_read}
 use Rattle.ol_law_confluence.proofs.LeftmostEnds.{leftmost_finds}
 use Rattle.ol_words.specs.declared.jobs.Job.{Job}
 use Rattle.ol_words.specs.declared.jobs.Job.TheVariants as jobs
-use Rattle.ol_law_lines.specs.NormalForms.{IsNormalFormOf}
-use Rattle.ol_law_lines.proofs.Read.{read_line, line_is_normal_form}
+use Rattle.ol_law_confluence.specs.NormalForms.{IsNormalFormOf}
+use Rattle.ol_law_confluence.proofs.Read.{read_line, line_is_normal_form}
 use Rattle.ol_cli.specs.Demand.{DemandEnds}
 use Rattle.ol_cli.specs.Cases.{DemandRunsOut}
 use Rattle.ol_cli.specs.Sources.{DemandsTree, TellsTree, WritesTree}

@@ -10,7 +10,7 @@ use Rattle.ol_parse.specs.Parsed.{IsFileOf}
 use Rattle.ol_rules.specs.Counting.{counts_of}
 use Rattle.ol_words.specs.declared.jobs.Job.{Job}
 use Rattle.ol_words.specs.declared.jobs.Job.TheVariants as jobs
-use Rattle.ol_law_lines.proofs.Read.{IsPrinted, one_line, line_is_normal_form, lost_has_no_normal_form}
+use Rattle.ol_law_confluence.proofs.Read.{IsPrinted, one_line, line_is_normal_form, lost_has_no_normal_form}
 use Rattle.ol_cli.specs.Texts.{counts_text}
 use Rattle.ol_cli.specs.Sources.{PrintsTree, WalksTree, DemandsTree, TellsTree, WritesTree}
 use Rattle.ol_cli.specs.NormalForms.{PrintsTerm, FirstLine, LineSays, IsItsNormalForm, TellsOfNone}

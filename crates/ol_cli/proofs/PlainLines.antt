@@ -15,7 +15,7 @@ use Rattle.ol_words.specs.declared.jobs.Job.{Job}
 use Rattle.ol_words.specs.declared.jobs.Job.TheVariants as jobs
 use Rattle.ol_words.specs.Asked.{run_verb, walk_verb, demand_verb, equal_verb, is_input}
 use Rattle.ol_words.specs.Jobs.{job_of, job_on}
-use Rattle.ol_law_lines.proofs.Read.{line_is_normal_form, lost_has_no_normal_form}
+use Rattle.ol_law_confluence.proofs.Read.{line_is_normal_form, lost_has_no_normal_form}
 use Rattle.ol_cli.specs.NormalForms.{PlainDemandSays, FirstLine, IsFoundWithin}
 use Rattle.ol_cli.specs.Jobs.{AskFor, AreTold, TellsFiles, TellsTerm, term_bytes, Files}
 use Rattle.ol_cli.specs.Sources.{WritesTree}

@@ -11,16 +11,16 @@ use Rattle.ol_parse.specs.Numbered.{names_of}
 use Rattle.ol_parse.specs.Texts.{IsLine, IsText}
 use Rattle.ol_beta.specs.Leftmost.{IsNormal}
 use Rattle.ol_law_meaning.specs.Shows.{BetaReduces}
-use Rattle.ol_law_optimal.specs.Labels.{Labelled, erased}
-use Rattle.ol_law_families.specs.Families.{HaveOwnLetters}
-use Rattle.ol_law_frugal.specs.Steps.{steps_of}
-use Rattle.ol_law_levy.specs.FirstHeads.{HasFirstHeads, HaveHeads, CanShow, NoneHasFewerTo, OneHasAsManyTo}
-use Rattle.ol_law_levy.specs.Reductions.{NoneHasFewer, OneHasAsMany}
+use Rattle.ol_law_optimality.specs.Labels.{Labelled, erased}
+use Rattle.ol_law_optimality.specs.Families.{HaveOwnLetters}
+use Rattle.ol_law_optimality.specs.Steps.{steps_of}
+use Rattle.ol_law_optimality.specs.FirstHeads.{HasFirstHeads, HaveHeads, CanShow, NoneHasFewerTo, OneHasAsManyTo}
+use Rattle.ol_law_optimality.specs.Reductions.{NoneHasFewer, OneHasAsMany}
 use Rattle.ol_readback.specs.Texts.{IsTextOf}
 use Rattle.ol_readback.specs.declared.answers.ReadNode.{ReadNode}
 use Rattle.ol_rules.specs.declared.journal.Counts.{Counts}
-use Rattle.ol_law_lines.specs.NormalForms.{by_names_of, IsNormalFormOf, HasNoNormalForm}
-use Rattle.ol_law_lines.specs.NormalForms.{AreConvertible}
+use Rattle.ol_law_confluence.specs.NormalForms.{by_names_of, IsNormalFormOf, HasNoNormalForm}
+use Rattle.ol_law_confluence.specs.NormalForms.{AreConvertible}
 use Rattle.ol_words.specs.Texts.{Text, texts_of}
 use Rattle.ol_words.specs.Lines.{is_dashed}
 use Rattle.ol_words.specs.declared.jobs.Job.{Job}

@@ -49,7 +49,7 @@ pub record SaysWhenDone (words : List (String Global)) (files : Files) (old new 
   -- steps has just as many.
   pub fewest_heads : (bytes : List ℕ) → TellsTerm (files 0) words bytes → BetasAreFewestTo words bytes old new
   -- The tenth and last line that `run`, `demand` or `gen --run` writes is `stuck 0`. (No pair is ever
-  -- stuck in a run from the net of a term: law `no_pair_is_stuck` of ol_law_unstuck.)
+  -- stuck in a run from the net of a term: law `no_pair_is_stuck` of ol_law_levels.)
   pub no_stuck : (bytes : List ℕ) → TellsTerm (files 0) words bytes → NoneIsStuck words bytes old new
   -- Where `equal` writes `equal`, the terms of its two files are convertible, and where it writes
   -- `different`, they aren't. Free names are the same where their bytes are.

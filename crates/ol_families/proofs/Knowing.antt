@@ -2,8 +2,8 @@
 use Rattle.std.proofs.Common.{◌≡◌, ℕ, ◌+◌, ◌-◌, ◌<◌, ◌≤◌, ◌==◌, nat_lt, if◌then◌else◌, Bool, true, false, List, []}
 use Rattle.std.proofs.Common.{◌∷◌, ◌++◌, length, Option, Some, None, ap, ◌∙◌, subst}
 use Rattle.std.specs.Option.{option_map}
-use Rattle.ol_law_optimal.specs.Labels.{Label}
-use Rattle.ol_law_optimal.specs.Labels as labels
+use Rattle.ol_law_optimality.specs.Labels.{Label}
+use Rattle.ol_law_optimality.specs.Labels as labels
 use Rattle.ol_families.specs.declared.degrees.Letter.{Letter}
 use Rattle.ol_families.specs.declared.degrees.Letter.TheVariants.{Over, Under}
 use Rattle.ol_families.specs.Held.{Held, var, free, lam, app, before, shifted, substituted, applied, contracted}

@@ -7,7 +7,7 @@ use Rattle.ol_term.specs.Trees.{Tree, term_size}
 use Rattle.ol_term.specs.Trees as trees
 use Rattle.ol_beta.specs.Measures.{places_of}
 use Rattle.ol_beta.proofs.Places.{places_small}
-use Rattle.ol_law_optimal.specs.Labels.{Label}
+use Rattle.ol_law_optimality.specs.Labels.{Label}
 use Rattle.ol_families.specs.Letters.{letters_in}
 use Rattle.ol_families.specs.declared.degrees.Letter.{Letter}
 use Rattle.ol_families.specs.declared.degrees.Letter.TheVariants.{Over, Under}

@@ -3,8 +3,8 @@ use Rattle.std.proofs.Common.{◌≡◌, ℕ, ◌+◌, ◌-◌, ◌==◌, nat_lt
 use Rattle.std.proofs.Common.{Option, Some, None, refl, ap, ◌∙◌}
 use Rattle.std.specs.Prelude.{slice_index_or}
 use Rattle.std.specs.Option.{option_map}
-use Rattle.ol_law_optimal.specs.Labels.{Label, none, over, under, joined, Labelled, erased}
-use Rattle.ol_law_optimal.specs.Labels as labels
+use Rattle.ol_law_optimality.specs.Labels.{Label, none, over, under, joined, Labelled, erased}
+use Rattle.ol_law_optimality.specs.Labels as labels
 use Rattle.ol_term.specs.Trees as trees
 use Rattle.ol_families.specs.declared.degrees.Letter.{Letter}
 use Rattle.ol_families.specs.declared.degrees.Letter.TheVariants.{Over, Under}

@@ -9,9 +9,9 @@ use Rattle.ol_beta.proofs.Onward.{past_within}
 use Rattle.ol_beta.proofs.Redexes.{none_some}
 use Rattle.ol_law_edges.specs.Edges.{IsIn}
 use Rattle.ol_law_edges.proofs.Lists.{in_map, in_map_of}
-use Rattle.ol_law_families.specs.HeadFamilies.{HasSoManyDifferent}
-use Rattle.ol_law_families.specs.Readings.{AreDifferent}
-use Rattle.ol_law_optimal.specs.Labels.{Label, Labelled, erased, contracted, degree, LeftmostContracts, ready, contract}
+use Rattle.ol_law_optimality.specs.HeadFamilies.{HasSoManyDifferent}
+use Rattle.ol_law_optimality.specs.Readings.{AreDifferent}
+use Rattle.ol_law_optimality.specs.Labels.{Label, Labelled, erased, contracted, degree, LeftmostContracts, ready, contract}
 use Rattle.ol_term.specs.Trees.{Tree}
 use Rattle.ol_families.specs.Counts.{IsShortLabelled, IsLongLabelled, AreShortLabelled, ReducesLabelled, FamilyCountIsOne}
 use Rattle.ol_families.specs.Counts.{ended, short, past, long}

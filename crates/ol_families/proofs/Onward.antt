@@ -9,10 +9,10 @@ use Rattle.ol_beta.specs.Beta.{IsWithin, IsPast}
 use Rattle.ol_beta.specs.Leftmost.{leftmost}
 use Rattle.ol_law_edges.specs.Edges.{IsIn}
 use Rattle.ol_law_edges.proofs.Lists.{in_cases, in_left, in_right, only}
-use Rattle.ol_law_families.specs.Families.{HaveOwnLetters}
-use Rattle.ol_law_families.specs.Readings.{AreDifferent}
-use Rattle.ol_law_optimal.specs.Labels.{Label, none, Labelled, erased, LeftmostContracts, ready, contract}
-use Rattle.ol_law_optimal.specs.Labels as labels
+use Rattle.ol_law_optimality.specs.Families.{HaveOwnLetters}
+use Rattle.ol_law_optimality.specs.Readings.{AreDifferent}
+use Rattle.ol_law_optimality.specs.Labels.{Label, none, Labelled, erased, LeftmostContracts, ready, contract}
+use Rattle.ol_law_optimality.specs.Labels as labels
 use Rattle.ol_term.specs.Trees.{Tree}
 use Rattle.ol_families.specs.declared.degrees.Letter.{Letter}
 use Rattle.ol_families.specs.Counts.{IsShortLabelled, AreShortLabelled, ReducesLabelled, IsFamilyCount, ended, short, past, long}

@@ -2,9 +2,9 @@
 use Rattle.std.proofs.Common.{◌≡◌, ℕ, ◌+◌, ◌<◌, ◌≤◌, ◌⊎◌, inl, inr, List, [], ◌∷◌, ◌++◌, refl, sym, ap, ◌∙◌, arith}
 use Rattle.ol_law_edges.specs.Edges.{IsIn}
 use Rattle.ol_law_edges.proofs.Lists.{in_cases}
-use Rattle.ol_law_optimal.specs.Labels.{Label, none, atom, Labelled}
-use Rattle.ol_law_families.specs.Families.{labels_in, HaveOwnLetters}
-use Rattle.ol_law_families.specs.Readings.{AreDifferent}
+use Rattle.ol_law_optimality.specs.Labels.{Label, none, atom, Labelled}
+use Rattle.ol_law_optimality.specs.Families.{labels_in, HaveOwnLetters}
+use Rattle.ol_law_optimality.specs.Readings.{AreDifferent}
 use Rattle.ol_term.specs.Trees.{Tree, term_size}
 use Rattle.ol_term.specs.Trees as trees
 use Rattle.ol_families.specs.Held.{Held, bare}

@@ -3,9 +3,9 @@ use Rattle.std.proofs.Common.{◌≡◌, ℕ, ◌==◌, if◌then◌else◌, Boo
 use Rattle.std.proofs.Common.{Option, Some, None, refl, ◌∙◌}
 use Rattle.std.specs.Option.{option_map}
 use Rattle.ol_beta.specs.Beta as beta
-use Rattle.ol_law_optimal.specs.Labels.{Label, Labelled, erased}
-use Rattle.ol_law_optimal.specs.Labels as labels
-use Rattle.ol_law_optimal.proofs.Erasing.{labels_erase}
+use Rattle.ol_law_optimality.specs.Labels.{Label, Labelled, erased}
+use Rattle.ol_law_optimality.specs.Labels as labels
+use Rattle.ol_law_optimality.proofs.Erasing.{labels_erase}
 use Rattle.ol_term.specs.Trees.{Tree}
 use Rattle.ol_families.specs.declared.degrees.Letter.{Letter}
 use Rattle.ol_families.specs.Held.{Held, var, free, lam, app, bare, contracted, degree}

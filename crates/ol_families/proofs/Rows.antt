@@ -5,8 +5,8 @@ use Rattle.std.specs.Prelude.{slice_get, slice_index_or}
 use Rattle.std.proofs.lemmas.List.{get_or_append_left}
 use Rattle.ol_law_edges.specs.Edges.{IsIn}
 use Rattle.ol_law_edges.proofs.Lists.{in_cases, only, got_append, get_there}
-use Rattle.ol_law_optimal.specs.Labels.{Label, none, atom, over, under, joined}
-use Rattle.ol_law_families.specs.Readings.{AreDifferent}
+use Rattle.ol_law_optimality.specs.Labels.{Label, none, atom, over, under, joined}
+use Rattle.ol_law_optimality.specs.Readings.{AreDifferent}
 use Rattle.ol_families.specs.declared.degrees.Letter.{Letter}
 use Rattle.ol_families.specs.declared.degrees.Letter.TheVariants.{Own, Over, Under}
 use Rattle.ol_families.specs.Letters.{letters}

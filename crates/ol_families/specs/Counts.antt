@@ -4,9 +4,9 @@ use Rattle.std.specs.Prelude.{◌≡◌, ℕ, ◌<◌, ◌≤◌, ◌⊎◌, Lis
 use Rattle.ol_term.specs.Trees.{Tree}
 use Rattle.ol_beta.specs.Beta.{IsWithin, IsPast}
 use Rattle.ol_beta.specs.Leftmost.{leftmost}
-use Rattle.ol_law_optimal.specs.Labels.{Label, Labelled, erased, LeftmostContracts, ready, contract}
-use Rattle.ol_law_families.specs.Families.{HaveOwnLetters}
-use Rattle.ol_law_families.specs.HeadFamilies.{HasSoManyDifferent}
+use Rattle.ol_law_optimality.specs.Labels.{Label, Labelled, erased, LeftmostContracts, ready, contract}
+use Rattle.ol_law_optimality.specs.Families.{HaveOwnLetters}
+use Rattle.ol_law_optimality.specs.HeadFamilies.{HasSoManyDifferent}
 use Rattle.ol_families.specs.Letters.{letters_in, letters_of, most_letters}
 
 -- a labelled term within bounds, of size and depth, and of the letters of its labels

@@ -1,7 +1,7 @@
 -- How many letters the labels of a term and the degrees of a reduction have. An overlined or underlined word counts as
 -- one letter, however long it is. (No other crate measures labels: laws compare them, and count different ones.)
 use Rattle.std.specs.Prelude.{ℕ, ◌+◌, List, [], ◌∷◌}
-use Rattle.ol_law_optimal.specs.Labels.{Label, none, atom, over, under, Labelled, var, free, lam, app}
+use Rattle.ol_law_optimality.specs.Labels.{Label, none, atom, over, under, Labelled, var, free, lam, app}
 
 abbrev pub letters : Label → ℕ
 letters none = 0

@@ -4,9 +4,9 @@ use Rattle.std.specs.Prelude.{slice_index_or}
 use Rattle.std.specs.declared.vec.Vec.{Vec}
 use Rattle.std.specs.declared.alloc.Global.{Global}
 use Rattle.ol_law_edges.specs.Edges.{IsIn}
-use Rattle.ol_law_optimal.specs.Labels.{Label, none, atom, over, under, Labelled}
-use Rattle.ol_law_optimal.specs.Labels as labels
-use Rattle.ol_law_families.specs.Readings.{AreDifferent}
+use Rattle.ol_law_optimality.specs.Labels.{Label, none, atom, over, under, Labelled}
+use Rattle.ol_law_optimality.specs.Labels as labels
+use Rattle.ol_law_optimality.specs.Readings.{AreDifferent}
 use Rattle.ol_families.specs.Held.{Held, var, free, lam, app}
 use Rattle.ol_families.specs.declared.degrees.Letter.{Letter}
 use Rattle.ol_families.specs.declared.degrees.Letter.TheVariants.{Own, Over, Under}

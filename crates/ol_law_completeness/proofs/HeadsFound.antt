@@ -8,7 +8,7 @@ use Rattle.ol_readback.specs.Heads.{head, matched, NoPath, IsHead}
 use Rattle.ol_readback.specs.Heads as heads
 use Rattle.ol_readback.specs.ReadTrees.{Subterm, framed}
 use Rattle.ol_readback.specs.declared.answers.HeadVar.{HeadVar}
-use Rattle.ol_law_meaning.specs.Spots.{Tree, Level, empty, cons, Place, root}
+use Rattle.ol_law_meaning.specs.Contraction.{Tree, Level, empty, cons, Place, root}
 use Rattle.ol_law_meaning.specs.Heads.{os, outer, Normal, Steps}
 use Rattle.ol_law_meaning.specs.Seen.{ahead, Chain, IsChain, Seats, IsSeen}
 use Rattle.ol_law_meaning.proofs.Walking.{is_found, none_less}

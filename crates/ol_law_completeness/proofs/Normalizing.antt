@@ -15,7 +15,7 @@ use Rattle.ol_readback.specs.Terms.{HasAllHeads, abstracted, variable_of}
 use Rattle.ol_readback.specs.declared.answers.ReadNode.{ReadNode}
 use Rattle.ol_readback.specs.declared.answers.ReadNode.TheVariants as node
 use Rattle.ol_readback.proofs.Forests.{frame_last, heads_are_whole}
-use Rattle.ol_law_meaning.specs.Spots.{Tree, var, free, lam, app, Level, Place, HeadStep}
+use Rattle.ol_law_meaning.specs.Contraction.{Tree, var, free, lam, app, Level, Place, HeadStep}
 use Rattle.ol_law_meaning.specs.Heads.{Normal, Steps, done, step}
 use Rattle.ol_law_meaning.specs.Shows.{ready, contract, LeftmostReduces, applied}
 use Rattle.ol_law_meaning.specs.Seen.{Chain, IsChain, scope, WholeSeats}

@@ -5,25 +5,44 @@
 //!
 //! The measure is said of the crossings of a path in a row: how many pairs of them are there of
 //! which the first goes up and a later one down. Each function here is a law: it has no code.
+//!
+//! Where walks are bounded, every run ends: a measure that each step of any active pair makes
+//! smaller, and that a net has as soon as no walk over it is longer than some number. So it is with
+//! the net of a strongly normalising term.
+//!
+//! Each function here is a law: it has no code.
+//!
+//! If a run of a term's net ends, each row of beta steps of the term ends. So runs end just on the
+//! strongly normalising terms.
+//!
+//! Each function here is a law: it has no code.
 #![tactic(auto)]
 
-ghost use Rattle.ol_law_completeness.specs.Laws.{StepShortensRow, ChainIsOnPath, ChainsMeetAlike};
+ghost use Rattle.ol_law_completeness.specs.BoundedRuns.{StepLightens, RunsAreShort, BoundedIsLight};
+ghost use Rattle.ol_law_completeness.specs.BoundedRuns.{BoundedRunsAreShort, BoundedRunEnds};
+ghost use Rattle.ol_law_completeness.specs.BoundedRuns.{BoundedHasComplete, BoundedGraphRunsEnd};
+ghost use Rattle.ol_law_completeness.specs.BoundedRuns.{LightHasNoRing};
 ghost use Rattle.ol_law_completeness.specs.Complete.{InversionsAreOne, AllInversionsAreOne};
 ghost use Rattle.ol_law_completeness.specs.Complete.{HeadsAreRead, NormalFormHasHeads};
 ghost use Rattle.ol_law_completeness.specs.Complete.{DemandIsComplete, HeadIsRead};
+ghost use Rattle.ol_law_completeness.specs.EndsExactly.{OnlyStrongEnds, OneThreadEndsExactly};
+ghost use Rattle.ol_law_completeness.specs.EndsExactly.{EveryRunEndsExactly};
+ghost use Rattle.ol_law_completeness.specs.Laws.{StepShortensRow, ChainIsOnPath, ChainsMeetAlike};
 ghost use Rattle.ol_law_completeness.specs.Least.{DemandIsLeast, DemandedIsLeast, EnoughAsItIs};
 ghost use Rattle.ol_law_completeness.specs.Least.{EnoughWithoutHeads, CompleteIsEnough, ReadAsItIs};
+ghost use Rattle.ol_law_completeness.specs.StrongTerms.{StrongByRules, StrongIsBounded, StrongEnds};
+ghost use Rattle.ol_law_completeness.specs.StrongTerms.{StrongHasNoRing};
 ghost use Rattle.ol_law_completeness.specs.Terms.{LevelledCrossesNoStuck, NormalFormIsRead};
 ghost use Rattle.ol_law_completeness.specs.Terms.{HeadNormalFormIsRead, PlacesAreOfTerm};
 ghost use Rattle.ol_law_completeness.specs.Terms.{ReadsExactlyNormalForms, TermIsReadLeast};
 ghost use Rattle.ol_law_completeness.specs.Terms.{TermIsDemandedLeast, TermIsReadByTheLeast};
 ghost use Rattle.ol_law_completeness.specs.Terms.{TermIsReadWhereOneServes, CompleteRunIsEnough};
 ghost use Rattle.ol_law_completeness.specs.Terms.{TermNetIsFit};
-ghost use Rattle.ol_law_completeness.specs.TheLeast.{EnoughIsKept, DemandedIsEnough, DemandIsTheLeast};
-ghost use Rattle.ol_law_completeness.specs.TheLeast.{LeastIsInCommon, TheLeastIsOne};
-ghost use Rattle.ol_law_completeness.specs.TheLeast.{EndsWhereOneServes, OneMoreIsNotLeast};
-ghost use Rattle.ol_law_completeness.specs.TheLeast.{LongerIsNotLeast, StoppedIsNotEnough};
-ghost use Rattle.ol_law_completeness.specs.TheLeast.{MissingIsNotEnough};
+ghost use Rattle.ol_law_completeness.specs.TheLeast.{EnoughIsKept, DemandedIsEnough};
+ghost use Rattle.ol_law_completeness.specs.TheLeast.{DemandIsTheLeast, LeastIsInCommon};
+ghost use Rattle.ol_law_completeness.specs.TheLeast.{TheLeastIsOne, EndsWhereOneServes};
+ghost use Rattle.ol_law_completeness.specs.TheLeast.{OneMoreIsNotLeast, LongerIsNotLeast};
+ghost use Rattle.ol_law_completeness.specs.TheLeast.{StoppedIsNotEnough, MissingIsNotEnough};
 
 /// A step takes no path from free port to free port more inversions, and takes at least one off a
 /// path that goes through its pair.
@@ -149,4 +168,64 @@ pub fn terms_are_read_least()
     ensures the_least { TermIsReadByTheLeast }
     ensures ends { TermIsReadWhereOneServes }
     ensures complete { CompleteRunIsEnough }
+{}
+
+/// A step of any active pair makes a net lighter.
+pub fn step_lightens<A>()
+    ensures { StepLightens A }
+{}
+
+/// So a run, of whichever pairs and in whatever order, is no longer than the net weighs.
+pub fn runs_are_short()
+    ensures { RunsAreShort }
+{}
+
+/// Where no walk makes more than b crossings, a net has a weight.
+pub fn bounded_is_light<A>()
+    ensures { BoundedIsLight A }
+{}
+
+/// So no run of it is longer than a number that it tells itself: how many nodes it has, times the
+/// number (2 to the b + 1) less 1. With more fuel the one-thread run ends, and there is a complete
+/// run. So it is with each graph that has this net.
+pub fn bounded_runs_end()
+    ensures short { BoundedRunsAreShort }
+    ensures ends { BoundedRunEnds }
+    ensures complete { BoundedHasComplete }
+    ensures graph { BoundedGraphRunsEnd }
+{}
+
+/// A net that has a weight has no ring of principal ports.
+pub fn light_has_no_ring<A>()
+    ensures { LightHasNoRing A }
+{}
+
+/// The strongly normalising terms are those that rules build: a variable or a name with such
+/// arguments, an abstraction of such a body, and a term that has a weak head step to such a term,
+/// if the argument of its redex is one too.
+pub fn strong_by_rules()
+    ensures { StrongByRules }
+{}
+
+/// If each row of beta steps of a term ends, walks over its net are bounded, by either translation.
+/// So every run of the net ends, within a number that the net tells: of any pairs, in any order. And
+/// none leads to a ring of principal ports.
+pub fn strong_ends()
+    ensures bounded { StrongIsBounded }
+    ensures ends { StrongEnds }
+    ensures rings { StrongHasNoRing }
+{}
+
+/// If some run of a term's net, by either translation, leads to a net without an active pair, the
+/// term is strongly normalising.
+pub fn only_strong_ends()
+    ensures { OnlyStrongEnds }
+{}
+
+/// So the one-thread run of a term's net ends, with some fuel, just if the term is strongly
+/// normalising; and just then there is a number within which every run ends, of any pairs in any
+/// order.
+pub fn ends_exactly()
+    ensures one { OneThreadEndsExactly }
+    ensures every { EveryRunEndsExactly }
 {}

@@ -22,8 +22,8 @@ use Rattle.ol_equal.proofs.Walks.{path-within}
 use Rattle.ol_equal.specs.declared.answers.Compared.{Compared}
 use Rattle.ol_equal.specs.declared.answers.Compared.TheVariants as answer
 use Rattle.ol_law_confluence.specs.Compared.{TellsTerms}
-use Rattle.ol_law_meaning.specs.Spots.{Tree, lam, app}
-use Rattle.ol_law_meaning.specs.Spots as tree
+use Rattle.ol_law_meaning.specs.Contraction.{Tree, lam, app}
+use Rattle.ol_law_meaning.specs.Contraction as tree
 use Rattle.ol_law_meaning.specs.Shows.{BetaReduces, IsVariable, Fills}
 use Rattle.ol_law_confluence.specs.Reductions.{Convertible, turned, joined, AreConvertible}
 use Rattle.ol_law_confluence.specs.Compared.{number_of, renamed, ShareNormalForm, ArePrinted}

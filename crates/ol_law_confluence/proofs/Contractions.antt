@@ -5,7 +5,7 @@ use Rattle.std.specs.Prelude.{◌==◌, if◌then◌else◌}
 use Rattle.std.specs.Option.{option_map}
 use Rattle.ol_beta.specs.Beta.{substituted, contracted}
 use Rattle.ol_beta.specs.Beta as beta_steps
-use Rattle.ol_law_meaning.specs.Spots.{Tree, var, free, lam, app}
+use Rattle.ol_law_meaning.specs.Contraction.{Tree, var, free, lam, app}
 use Rattle.ol_law_meaning.specs.Shows.{ready, contract, BetaReduces}
 use Rattle.ol_law_meaning.proofs.LeftmostRoads.{then_leads}
 use Rattle.ol_law_confluence.specs.Reductions.{Parallel, of_var, of_free, of_lam, of_app, of_redex}

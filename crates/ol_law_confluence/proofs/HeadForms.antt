@@ -4,7 +4,7 @@ use Rattle.std.proofs.Common.{sym, ap, ◌∙◌, subst}
 use Rattle.std.specs.Option.{option_map}
 use Rattle.ol_beta.specs.Leftmost.{is_abstraction}
 use Rattle.ol_readback.specs.Terms.{abstracted}
-use Rattle.ol_law_meaning.specs.Spots.{Tree, var, free, lam, app}
+use Rattle.ol_law_meaning.specs.Contraction.{Tree, var, free, lam, app}
 use Rattle.ol_law_meaning.specs.Shows.{ready, contract, BetaReduces, HeadReduces, HeadReducesForever}
 use Rattle.ol_law_meaning.specs.Shows.{applied, IsVariable}
 use Rattle.ol_law_meaning.proofs.LeftmostRoads.{then_leads}

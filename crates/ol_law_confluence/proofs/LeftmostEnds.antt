@@ -7,7 +7,7 @@ use Rattle.ol_beta.specs.Beta.{contracted}
 use Rattle.std.specs.Option.{option_or}
 use Rattle.ol_beta.specs.Leftmost.{leftmost, is_abstraction, IsNormal}
 use Rattle.ol_beta.specs.Leftmost as beta_steps
-use Rattle.ol_law_meaning.specs.Spots.{Tree, var, free, lam, app, HeadStep, beta, before}
+use Rattle.ol_law_meaning.specs.Contraction.{Tree, var, free, lam, app, HeadStep, beta, before}
 use Rattle.ol_law_meaning.specs.Shows.{ready, contract, BetaReduces, LeftmostReduces}
 use Rattle.ol_law_meaning.proofs.LeftmostSteps.{leftmost_step, subst_is}
 use Rattle.ol_law_meaning.proofs.LeftmostRoads.{then_leads, IsNeutral, arg_leftmost}

@@ -1,7 +1,7 @@
 -- Reducts of one term meet, and so do convertible terms.
 use Rattle.std.proofs.Common.{◌≡◌, Some, None, refl, sym, ◌∙◌, subst}
 use Rattle.ol_beta.specs.Leftmost.{IsNormal}
-use Rattle.ol_law_meaning.specs.Spots.{Tree}
+use Rattle.ol_law_meaning.specs.Contraction.{Tree}
 use Rattle.ol_law_meaning.specs.Shows.{ready, contract, BetaReduces}
 use Rattle.ol_law_meaning.proofs.LeftmostRoads.{then_leads}
 use Rattle.ol_law_confluence.specs.Reductions.{Convertible, contracts, same, turned, joined, Meet}

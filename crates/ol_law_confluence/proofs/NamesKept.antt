@@ -7,7 +7,7 @@ use Rattle.std.proofs.lemmas.Option.{slice_get-get_or}
 use Rattle.ol_term.specs.Trees.{is_named_below}
 use Rattle.ol_term.specs.NameLists.{NoNameTwice}
 use Rattle.ol_translate.specs.Names.{HasNames}
-use Rattle.ol_law_meaning.specs.Spots.{Tree, var, free, lam, app}
+use Rattle.ol_law_meaning.specs.Contraction.{Tree, var, free, lam, app}
 use Rattle.ol_law_meaning.specs.Shows.{ready, contract}
 use Rattle.ol_law_confluence.specs.Reductions.{Convertible, contracts, same, turned, joined}
 use Rattle.ol_law_confluence.specs.Compared.{number_of, renamed, by_bytes}

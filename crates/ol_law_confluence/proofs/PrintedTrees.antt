@@ -9,7 +9,7 @@ use Rattle.ol_readback.specs.Whole.{Part, term, lost, cut, preorder}
 use Rattle.ol_readback.specs.Terms.{HasAllHeads, term_of}
 use Rattle.ol_readback.specs.declared.answers.ReadNode.{ReadNode}
 use Rattle.ol_readback.specs.declared.answers.ReadNode.TheVariants as node
-use Rattle.ol_law_meaning.specs.Spots.{Tree}
+use Rattle.ol_law_meaning.specs.Contraction.{Tree}
 use Rattle.ol_law_meaning.specs.Shows.{ready, contract, BetaReduces, HeadReducesForever, LacksHead}
 use Rattle.ol_law_meaning.specs.Shows.{Fills}
 use Rattle.ol_law_meaning.specs.Meaning.{SaysOf}

@@ -8,8 +8,8 @@ use Rattle.ol_beta.specs.Leftmost.{leftmost, is_abstraction, IsNormal}
 use Rattle.ol_beta.specs.Leftmost as beta_steps
 use Rattle.ol_beta.proofs.Redexes.{no_leftmost}
 use Rattle.ol_readback.specs.Terms.{abstracted}
-use Rattle.ol_law_meaning.specs.Spots.{Tree, var, free, lam, app, lift, without, put, subst_for}
-use Rattle.ol_law_meaning.specs.Spots.{HeadStep, beta, below, before}
+use Rattle.ol_law_meaning.specs.Contraction.{Tree, var, free, lam, app, lift, without, put, subst_for}
+use Rattle.ol_law_meaning.specs.Contraction.{HeadStep, beta, below, before}
 use Rattle.ol_law_meaning.specs.Heads.{Steps, done, step}
 use Rattle.ol_law_meaning.specs.Shows.{ready, contract, BetaReduces, HeadReducesForever, applied}
 use Rattle.ol_law_meaning.proofs.LeftmostSteps.{subst_is}

@@ -2,7 +2,7 @@
 use Rattle.std.proofs.Common.{◌≡◌, [], ◌∷◌, refl}
 use Rattle.ol_beta.proofs.Redexes.{no_leftmost}
 use Rattle.ol_readback.specs.Whole.{lost}
-use Rattle.ol_law_meaning.specs.Spots.{var, free, app}
+use Rattle.ol_law_meaning.specs.Contraction.{var, free, app}
 use Rattle.ol_law_meaning.specs.Shows.{ready, contract}
 use Rattle.ol_law_meaning.specs.Examples.{loops, EndsIn}
 use Rattle.ol_law_meaning.proofs.SmallTerms.{small}

@@ -1,7 +1,7 @@
 -- Standard reduction takes in beta reduction.
 use Rattle.std.proofs.Common.{ℕ, zero, suc, ◌⊎◌, inl, inr, sym, subst}
 use Rattle.ol_beta.specs.Beta.{substituted}
-use Rattle.ol_law_meaning.specs.Spots.{Tree, var, free, lam, app}
+use Rattle.ol_law_meaning.specs.Contraction.{Tree, var, free, lam, app}
 use Rattle.ol_law_meaning.specs.Shows.{ready, contract, BetaReduces}
 use Rattle.ol_law_meaning.proofs.LeftmostRoads.{then_leads}
 use Rattle.ol_law_confluence.specs.Reductions.{Parallel, of_var, of_free, of_lam, WeakStep, weak_beta}

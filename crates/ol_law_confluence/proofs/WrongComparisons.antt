@@ -6,7 +6,7 @@ use Rattle.ol_readback.specs.Whole.{term, cut, none, more, IsWholeTree}
 use Rattle.ol_readback.specs.declared.answers.HeadVar.TheVariants as var
 use Rattle.ol_readback.specs.declared.answers.ReadNode.{ReadNode}
 use Rattle.ol_equal.specs.Comparing.{TreeWithNames}
-use Rattle.ol_law_meaning.specs.Spots.{Tree, free, app}
+use Rattle.ol_law_meaning.specs.Contraction.{Tree, free, app}
 use Rattle.ol_law_meaning.specs.Shows.{ready, BetaReduces}
 use Rattle.ol_law_meaning.specs.Meaning.{SaysOf}
 use Rattle.ol_law_confluence.specs.Reductions.{Convertible, same, turned, joined}

@@ -4,23 +4,31 @@
 //! So a normal form is *the* normal form, whichever redexes are contracted, and a head that head
 //! reduction finds is that of each head normal form. With `ol_law_meaning` this makes a printed tree
 //! speak of all reductions of its source. Each function here is a law: it has no code.
+//!
+//! The line on which a tree is printed, and what it says to one who knows terms alone.
+//!
+//! A tree without holes is printed as a text of the grammar, and no other tree is. So a line that is
+//! in the grammar is the normal form of its source. Each function here is a law: it has no code.
 #![tactic(auto)]
 
-ghost use Rattle.ol_law_confluence.specs.Laws.{DevelopmentIsLast, ChurchRosser};
-ghost use Rattle.ol_law_confluence.specs.Laws.{NormalFormIsOne, EveryReductLeadsThere};
-ghost use Rattle.ol_law_confluence.specs.Laws.{ConvertibleIfMeet, ConvertibleShareNormalForm};
-ghost use Rattle.ol_law_confluence.specs.Laws.{ConvertibleNormalFormsAgree};
-ghost use Rattle.ol_law_confluence.specs.Laws.{Standardization, LeftmostFindsIt};
-ghost use Rattle.ol_law_confluence.specs.Laws.{HeadNormalFormsAgree};
+ghost use Rattle.ol_law_confluence.specs.Compared.{NumberIsOfOne, NamesAreKept};
+ghost use Rattle.ol_law_confluence.specs.Compared.{ComparisonTellsTerms};
+ghost use Rattle.ol_law_confluence.specs.Compared.{HeadBesideLostIsNotConvertible};
+ghost use Rattle.ol_law_confluence.specs.Examples.{SmallConversions};
+ghost use Rattle.ol_law_confluence.specs.Laws.{DevelopmentIsLast, ChurchRosser, NormalFormIsOne};
+ghost use Rattle.ol_law_confluence.specs.Laws.{EveryReductLeadsThere, ConvertibleIfMeet};
+ghost use Rattle.ol_law_confluence.specs.Laws.{ConvertibleShareNormalForm};
+ghost use Rattle.ol_law_confluence.specs.Laws.{ConvertibleNormalFormsAgree, Standardization};
+ghost use Rattle.ol_law_confluence.specs.Laws.{LeftmostFindsIt, HeadNormalFormsAgree};
 ghost use Rattle.ol_law_confluence.specs.Laws.{HeadNormalFormIfHeadReductionEnds};
 ghost use Rattle.ol_law_confluence.specs.Laws.{NoHeadNormalFormIfForever};
 ghost use Rattle.ol_law_confluence.specs.Printed.{PrintedTreeSaysAlways, WholeTreesDecide};
 ghost use Rattle.ol_law_confluence.specs.Printed.{VerdictNeverDiffers};
-ghost use Rattle.ol_law_confluence.specs.Compared.{NumberIsOfOne, NamesAreKept};
-ghost use Rattle.ol_law_confluence.specs.Compared.{ComparisonTellsTerms};
-ghost use Rattle.ol_law_confluence.specs.Compared.{HeadBesideLostIsNotConvertible};
+ghost use Rattle.ol_law_confluence.specs.PrintedLine.{TextIsOneLine, HolesAreNoText};
+ghost use Rattle.ol_law_confluence.specs.PrintedLine.{QuestionIsLost};
 ghost use Rattle.ol_law_confluence.specs.WrongComparisons.{NumbersMislead, CutMisleads};
-ghost use Rattle.ol_law_confluence.specs.Examples.{SmallConversions};
+ghost use Rattle.ol_law_confluence.specs.WrongLines.{NamesAreApart, NormalFormIsReduced};
+ghost use Rattle.ol_law_confluence.specs.WrongLines.{OtherTermMisleads, ReductMisleads};
 
 /// Two reducts of a term have a common reduct. A parallel step, which contracts some of the redexes
 /// of a term at once, leads on to the complete development, which contracts all of them.
@@ -99,4 +107,23 @@ pub fn wrong_comparisons_mislead()
 /// without a normal form and without a head normal form, and two that aren't convertible.
 pub fn small_conversions()
     ensures { SmallConversions }
+{}
+
+/// The text of a tree has no line feed. A tree with a `?` or a `...` isn't printed as a text of the
+/// grammar, and the byte `?` stands only for a place without a head.
+pub fn written_lines()
+    ensures one { TextIsOneLine }
+    ensures holes { HolesAreNoText }
+    ensures question { QuestionIsLost }
+{}
+
+/// A source is reduced to its normal form; on small terms it is neither to the normal form of another
+/// term nor to a reduct with a redex, and `a` and `b` are not convertible. So a body that wrote such a
+/// line, or `equal` of these two, wouldn't meet the clauses by which a line that is a text is its
+/// source's normal form, in short or in full, and `equal` means convertible.
+pub fn wrong_lines_mislead()
+    ensures reduced { NormalFormIsReduced }
+    ensures other { OtherTermMisleads }
+    ensures reduct { ReductMisleads }
+    ensures names { NamesAreApart }
 {}

@@ -17,7 +17,7 @@ use Rattle.ol_translate.specs.Translation.{bound_port, outside, bracket_nodes, b
 use Rattle.ol_translate.specs.Translation.{past_brackets, fans, fan_nodes, fan_links, merged}
 use Rattle.ol_translate.specs.Translation.{wire_of, reconnected, slot_port}
 use Rattle.ol_translate.proofs.Walks.{length-bracket_nodes}
-use Rattle.ol_law_spots.proofs.Fans.{Holds, Links, holds_append, by_wire, wire_here, wire_later}
+use Rattle.ol_law_meaning.proofs.Fans.{Holds, Links, holds_append, by_wire, wire_here, wire_later}
 use Rattle.ol_law_levels.specs.Levels.{depth_beside, out_beside}
 
 -- slot 0 of a node of a term's net

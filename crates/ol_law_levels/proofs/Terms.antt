@@ -18,7 +18,7 @@ use Rattle.ol_net.specs.declared.parts.Port.TheVariants.{Free}
 use Rattle.ol_translate.specs.Names.{HasNames}
 use Rattle.ol_translate.specs.Translation.{subnet_of, name_links, nodes_of, links_of, translation_of, slot_port}
 use Rattle.ol_translate.proofs.Whole.{translation_net, port_of, port_back, port_there}
-use Rattle.ol_law_spots.proofs.Fans.{Holds, Links}
+use Rattle.ol_law_meaning.proofs.Fans.{Holds, Links}
 use Rattle.ol_law_levels.specs.Levels.{CanStand, depth_beside, out_beside, IsLevelled}
 use Rattle.ol_law_levels.specs.Laws.{TermIsLevelled}
 use Rattle.ol_law_levels.proofs.Parts.{depth_first, out_first, depth_slot, out_slot, erased, links_join}

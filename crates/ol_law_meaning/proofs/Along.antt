@@ -1,6 +1,6 @@
 -- What several head steps keep of where a term's interface leads.
 use Rattle.std.proofs.Common.{◌≡◌, ℕ, ◌≤◌, refl, sym, ◌∙◌, subst, arith}
-use Rattle.ol_law_meaning.specs.Spots.{Tree, Level, Context, Place, at, Leads}
+use Rattle.ol_law_meaning.specs.Contraction.{Tree, Level, Context, Place, at, Leads}
 use Rattle.ol_law_meaning.specs.Heads.{Steps, done, step, SameAlong}
 use Rattle.ol_law_meaning.proofs.Mains.{keeps, reflects, same_one}
 use Rattle.ol_term.specs.declared.translations.Translation.{Translation}

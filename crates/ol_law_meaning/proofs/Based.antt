@@ -2,14 +2,14 @@
 use Rattle.std.proofs.Common.{◌≡◌, ℕ, Bool, true, List, [], refl, sym, subst}
 use Rattle.ol_translate.specs.Translation.{translation_of}
 use Rattle.ol_translate.specs.Names.{HasNames}
-use Rattle.ol_law_spots.proofs.Followed.{net_and_spots, path_is_trail}
+use Rattle.ol_law_meaning.proofs.Followed.{net_and_spots, path_is_trail}
 use Rattle.ol_beta.proofs.Redexes.{no_leftmost}
 use Rattle.ol_readback.specs.ReadTrees.{whole_term}
 use Rattle.ol_readback.specs.Sources.{HasHeadsOf}
 use Rattle.ol_readback.specs.Whole.{Part, preorder}
 use Rattle.ol_readback.specs.Terms.{HasAllHeads, term_of}
 use Rattle.ol_readback.specs.declared.answers.ReadNode.{ReadNode}
-use Rattle.ol_law_meaning.specs.Spots.{Tree}
+use Rattle.ol_law_meaning.specs.Contraction.{Tree}
 use Rattle.ol_law_meaning.specs.Shows.{LacksHead, Shows}
 use Rattle.ol_law_meaning.specs.Seen.{IsSeen, WholeSeats}
 use Rattle.ol_law_meaning.specs.Meaning.{SaysOf, ShownIsReduct, ShownIsNormalForm, ShownHasNoEnd}

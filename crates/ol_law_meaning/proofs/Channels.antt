@@ -1,11 +1,11 @@
 -- The one way from the root of a head normal form to its head.
 use Rattle.std.proofs.Common.{◌≡◌, ℕ, suc, true, refl, sym, ap, ◌∙◌, subst, arith, ◌⊎◌, inl, inr}
 use Rattle.ol_context.proofs.Contexts.{head_eq, tail_eq}
-use Rattle.ol_law_meaning.specs.Spots.{Tree, var, free, lam, app, Level, empty, o, star, Context, cons}
-use Rattle.ol_law_meaning.specs.Spots.{Wire, bound, name, under, occurs, left, Place, root, wire, Spot}
-use Rattle.ol_law_meaning.specs.Spots.{at, body, fun, Edge, var_wire, free_wire, lam_root, lam_own}
-use Rattle.ol_law_meaning.specs.Spots.{lam_wire, app_root, app_arg, app_left, app_right, in_body}
-use Rattle.ol_law_meaning.specs.Spots.{in_fun, in_arg, Trail, here, on, back, IsRight}
+use Rattle.ol_law_meaning.specs.Contraction.{Tree, var, free, lam, app, Level, empty, o, star, Context, cons}
+use Rattle.ol_law_meaning.specs.Contraction.{Wire, bound, name, under, occurs, left, Place, root, wire, Spot}
+use Rattle.ol_law_meaning.specs.Contraction.{at, body, fun, Edge, var_wire, free_wire, lam_root, lam_own}
+use Rattle.ol_law_meaning.specs.Contraction.{lam_wire, app_root, app_arg, app_left, app_right, in_body}
+use Rattle.ol_law_meaning.specs.Contraction.{in_fun, in_arg, Trail, here, on, back, IsRight}
 use Rattle.ol_law_meaning.specs.Heads.{OutOf, up_root, up_own, up_wire}
 use Rattle.ol_law_meaning.proofs.Addresses.{left_one, sides_apart}
 use Rattle.ol_law_meaning.proofs.Ways.{Has}

@@ -12,7 +12,7 @@ use Rattle.ol_readback.specs.Terms.{abstracted, variable_of}
 use Rattle.ol_readback.specs.declared.answers.HeadVar.{HeadVar}
 use Rattle.ol_readback.specs.declared.answers.ReadNode.{ReadNode}
 use Rattle.ol_readback.specs.declared.answers.ReadNode.TheVariants as node
-use Rattle.ol_law_meaning.specs.Spots.{Tree, lam, app}
+use Rattle.ol_law_meaning.specs.Contraction.{Tree, lam, app}
 use Rattle.ol_law_meaning.specs.Shows.{ready, contract, LeftmostReduces, HeadReduces, HeadReducesForever, applied, Shows}
 use Rattle.ol_law_meaning.specs.Shows.{LacksHead}
 use Rattle.ol_law_meaning.proofs.LeftmostSteps.{leftmost_step, same_step}

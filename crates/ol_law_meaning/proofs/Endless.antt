@@ -1,6 +1,6 @@
 -- Head reduction ends in a head normal form, or has no end.
 use Rattle.std.proofs.Common.{◌≡◌, ℕ, zero, suc, ◌⊎◌, inl, inr, sym, subst}
-use Rattle.ol_law_meaning.specs.Spots.{Tree, Level, Wire, Place, HeadStep, beta, below, before}
+use Rattle.ol_law_meaning.specs.Contraction.{Tree, Level, Wire, Place, HeadStep, beta, below, before}
 use Rattle.ol_law_meaning.specs.Heads.{Steps, done, step, Spine, head_var, head_free, head_app, Normal, flat, layer}
 use Rattle.ol_law_meaning.specs.Shows.{HeadReduces, HasHeadRedex, HeadReducesForever, IsHeadNormal}
 use Rattle.ol_law_meaning.proofs.LeftmostSteps.{leftmost_step, same_step}

@@ -4,7 +4,7 @@ use Rattle.std.specs.Option.{option_map}
 use Rattle.ol_readback.specs.Whole.{Part, term, lost, cut, none, more, preorder}
 use Rattle.ol_readback.specs.Terms.{abstracted, variable_of}
 use Rattle.ol_readback.specs.declared.answers.HeadVar.{HeadVar}
-use Rattle.ol_law_meaning.specs.Spots.{Tree, lam, app}
+use Rattle.ol_law_meaning.specs.Contraction.{Tree, lam, app}
 use Rattle.ol_law_meaning.specs.Shows.{ready, contract, BetaReduces, HeadReduces, applied, Fills, Shows}
 use Rattle.ol_law_meaning.proofs.LeftmostRoads.{then_leads}
 

@@ -6,11 +6,11 @@ use Rattle.ol_net.specs.Nets.{NamedNet, free}
 use Rattle.ol_context.specs.Contexts.{tail}
 use Rattle.ol_context.specs.Paths.{Path}
 use Rattle.ol_context.proofs.Contexts.{eta, head_eq, tail_eq}
-use Rattle.ol_law_spots.specs.Spots.{place, applications}
-use Rattle.ol_law_spots.proofs.Parts.{or_parts}
-use Rattle.ol_law_meaning.specs.Spots as spots
-use Rattle.ol_law_meaning.specs.Spots.{Tree, var, lam, app, Level, Context, cons, Wire, bound, name}
-use Rattle.ol_law_meaning.specs.Spots.{under, occurs, Place, root, wire, at, Leads}
+use Rattle.ol_law_meaning.specs.Spots.{place, applications}
+use Rattle.ol_law_meaning.proofs.Parts.{or_parts}
+use Rattle.ol_law_meaning.specs.Contraction as spots
+use Rattle.ol_law_meaning.specs.Contraction.{Tree, var, lam, app, Level, Context, cons, Wire, bound, name}
+use Rattle.ol_law_meaning.specs.Contraction.{under, occurs, Place, root, wire, at, Leads}
 use Rattle.ol_law_meaning.specs.Seen.{ahead, LeavesAs, IsSeen, WholeSeats}
 use Rattle.ol_law_meaning.proofs.Ways.{Has}
 use Rattle.ol_law_meaning.proofs.Mains.{ends}

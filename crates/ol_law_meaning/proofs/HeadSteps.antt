@@ -4,7 +4,7 @@ use Rattle.std.proofs.Common.{Some, None, IsSome, refl, sym, ap, ◌∙◌, subs
 use Rattle.std.specs.Option.{option_map}
 use Rattle.ol_beta.specs.Beta.{substituted, contracted}
 use Rattle.ol_beta.specs.Leftmost.{is_abstraction}
-use Rattle.ol_law_meaning.specs.Spots.{Tree, var, free, lam, app, HeadStep, beta, below, before}
+use Rattle.ol_law_meaning.specs.Contraction.{Tree, var, free, lam, app, HeadStep, beta, below, before}
 use Rattle.ol_law_meaning.specs.Heads.{Steps, done, step}
 use Rattle.ol_law_meaning.specs.Shows.{ready, contract, IsHeadAddress, HeadReduces, HasHeadRedex}
 use Rattle.ol_law_meaning.proofs.LeftmostSteps.{subst_is}

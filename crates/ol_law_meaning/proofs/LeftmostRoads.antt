@@ -11,7 +11,7 @@ use Rattle.ol_readback.specs.Terms.{HasAllHeads, abstracted, variable_of, meanin
 use Rattle.ol_readback.specs.declared.answers.HeadVar.{HeadVar}
 use Rattle.ol_readback.specs.declared.answers.HeadVar.TheVariants as head
 use Rattle.ol_readback.proofs.OneTree.{all_left, all_right}
-use Rattle.ol_law_meaning.specs.Spots.{Tree, lam, app}
+use Rattle.ol_law_meaning.specs.Contraction.{Tree, lam, app}
 use Rattle.ol_law_meaning.specs.Shows.{ReducesBy, ready, contract, LeftmostReduces, HeadReduces, applied, Shows}
 use Rattle.ol_law_meaning.proofs.LeftmostSteps.{leftmost_step}
 use Rattle.ol_law_meaning.proofs.HeadSteps.{step_of}

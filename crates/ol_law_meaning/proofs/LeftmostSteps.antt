@@ -9,8 +9,8 @@ use Rattle.ol_beta.specs.Beta.{shifted, substituted, contracted}
 use Rattle.std.specs.Option.{option_or}
 use Rattle.ol_beta.specs.Leftmost.{leftmost}
 use Rattle.ol_beta.specs.Leftmost as beta_steps
-use Rattle.ol_law_meaning.specs.Spots.{Tree, var, free, lam, app, up_from, lift, suc_of, without, put}
-use Rattle.ol_law_meaning.specs.Spots.{subst_for, HeadStep, beta, below, before}
+use Rattle.ol_law_meaning.specs.Contraction.{Tree, var, free, lam, app, up_from, lift, suc_of, without, put}
+use Rattle.ol_law_meaning.specs.Contraction.{subst_for, HeadStep, beta, below, before}
 use Rattle.ol_law_meaning.proofs.Addresses.{without_own}
 
 -- ---- under more abstractions

@@ -1,3 +1,13 @@
+pub mod Fans
+pub mod Bare
+pub mod Parts
+pub mod States
+pub mod Whole
+pub mod Trails
+pub mod Turns
+pub mod Down
+pub mod Up
+pub mod Followed
 pub mod Lifts
 pub mod Addresses
 pub mod Copying

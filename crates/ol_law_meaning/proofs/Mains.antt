@@ -1,16 +1,16 @@
 -- A head step keeps where each spot of the interface leads to.
 use Rattle.std.proofs.Common.{◌<◌, ◌≡◌, ℕ, suc, ◌+◌, ◌≤◌, true, false, refl, sym, ap, ◌∙◌, subst, arith, ◌⊎◌, inl, inr}
 use Rattle.std.proofs.lemmas.Bool.{or_left, or_right}
-use Rattle.ol_law_meaning.specs.Spots.{lam_own, empty, pair, body, lam_root, in_body, Tree, var, free}
-use Rattle.ol_law_meaning.specs.Spots.{lam, app, Level, o, star, Context, Wire, bound, under, occurs}
-use Rattle.ol_law_meaning.specs.Spots.{left, right, Place, root, wire, Spot, at, Edge, var_wire}
-use Rattle.ol_law_meaning.specs.Spots.{free_wire, lam_wire, app_left, app_right, Trail, here, on, back}
-use Rattle.ol_law_meaning.specs.Spots.{ofM, ofN, WireOf, is_abstraction, HeadStep, beta, below, before}
-use Rattle.ol_law_meaning.specs.Spots.{Leads, IsSpotOf, Spot}
+use Rattle.ol_law_meaning.specs.Contraction.{lam_own, empty, pair, body, lam_root, in_body, Tree, var, free}
+use Rattle.ol_law_meaning.specs.Contraction.{lam, app, Level, o, star, Context, Wire, bound, under, occurs}
+use Rattle.ol_law_meaning.specs.Contraction.{left, right, Place, root, wire, Spot, at, Edge, var_wire}
+use Rattle.ol_law_meaning.specs.Contraction.{free_wire, lam_wire, app_left, app_right, Trail, here, on, back}
+use Rattle.ol_law_meaning.specs.Contraction.{ofM, ofN, WireOf, is_abstraction, HeadStep, beta, below, before}
+use Rattle.ol_law_meaning.specs.Contraction.{Leads, IsSpotOf, Spot}
 use Rattle.ol_law_meaning.specs.Steps.{SameRedex, redex_root, redex_m, redex_n, SameBelow, below_o}
 use Rattle.ol_law_meaning.specs.Steps.{below_star, below_wire, SameBefore, before_root, before_left}
 use Rattle.ol_law_meaning.specs.Steps.{before_right, Same, opened, Short}
-use Rattle.ol_law_spots.proofs.Trails.{tr_trans, tr_sym}
+use Rattle.ol_law_meaning.proofs.Trails.{tr_trans, tr_sym}
 use Rattle.ol_law_meaning.proofs.Lifts.{same_is}
 use Rattle.ol_law_meaning.proofs.Addresses.{left_one, right_one, sides_apart, occurs_old, spot_from, spot_to}
 use Rattle.ol_law_meaning.proofs.Ones.{n_there, m_gives, n_gives, m_from, n_from, apart}

@@ -15,7 +15,7 @@ use Rattle.ol_readback.proofs.Forests.{frame_stays, frame_last}
 use Rattle.ol_readback.specs.Terms.{index_of, variable_of}
 use Rattle.ol_readback.specs.declared.answers.HeadVar.{HeadVar}
 use Rattle.ol_readback.specs.declared.answers.HeadVar.TheVariants as head
-use Rattle.ol_law_meaning.specs.Spots.{Tree, var, free, Level, empty, star, Context, cons, Wire, bound, name, Place, root}
+use Rattle.ol_law_meaning.specs.Contraction.{Tree, var, free, Level, empty, star, Context, cons, Wire, bound, name, Place, root}
 use Rattle.ol_law_meaning.specs.Heads.{os, outer, Steps, SameAlong}
 use Rattle.ol_law_meaning.specs.Seen.{ahead, unders, Chain, IsChain, scope, IsNotOf, LeavesAs, Seats, IsSeen}
 use Rattle.ol_law_meaning.proofs.Walking.{binder_of}

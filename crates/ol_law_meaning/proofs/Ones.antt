@@ -1,9 +1,9 @@
 -- A wire of M[N], with a level 0, is one wire of the cut, and the other way round.
 use Rattle.std.proofs.Common.{◌≡◌, ℕ, suc, ◌+◌, true, false, Some, None, refl, sym, ap, ◌∙◌, subst, arith}
-use Rattle.ol_law_meaning.specs.Spots.{Tree, var, free, lam, app, Level, empty, Wire, bound, name}
-use Rattle.ol_law_meaning.specs.Spots.{under, occurs, left, right, lifted_wire, without, subst_for, ofM}
-use Rattle.ol_law_meaning.specs.Spots.{ofN, WireOf, same, other, named, own, lam_m, lam_n, fun_m, arg_m}
-use Rattle.ol_law_meaning.specs.Spots.{fun_n, arg_n, IsRight}
+use Rattle.ol_law_meaning.specs.Contraction.{Tree, var, free, lam, app, Level, empty, Wire, bound, name}
+use Rattle.ol_law_meaning.specs.Contraction.{under, occurs, left, right, lifted_wire, without, subst_for, ofM}
+use Rattle.ol_law_meaning.specs.Contraction.{ofN, WireOf, same, other, named, own, lam_m, lam_n, fun_m, arg_m}
+use Rattle.ol_law_meaning.specs.Contraction.{fun_n, arg_n, IsRight}
 use Rattle.ol_law_meaning.proofs.Addresses.{left_one, right_one, sides_apart, occurs_new, occurs_old}
 use Rattle.ol_law_meaning.proofs.Addresses.{own_occurs, in_body_of, in_left_of, in_right_of}
 use Rattle.ol_law_meaning.proofs.Addresses.{address_same}

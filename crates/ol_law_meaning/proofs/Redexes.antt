@@ -1,11 +1,11 @@
 -- A redex against its cut.
 use Rattle.std.proofs.Common.{◌≡◌, ℕ, ◌+◌, ◌≤◌, true, refl, sym, ◌∙◌, subst, arith}
-use Rattle.ol_law_meaning.specs.Spots.{Tree, lam, app, Level, bound, root, wire, Spot, at, body, fun}
-use Rattle.ol_law_meaning.specs.Spots.{arg, Edge, lam_root, lam_own, lam_wire, app_root, app_arg}
-use Rattle.ol_law_meaning.specs.Spots.{app_left, app_right, in_body, in_fun, in_arg, Trail, here, on}
-use Rattle.ol_law_meaning.specs.Spots.{occurs, Cut, inM, inN, CutEdge, of_m, of_n, joint, Opens, in_m}
-use Rattle.ol_law_meaning.specs.Spots.{in_n, lam_top, lam_var, lam_side, top, side_m, side_n, IsSpotOf}
-use Rattle.ol_law_spots.proofs.Trails.{tr_trans, one, one_back}
+use Rattle.ol_law_meaning.specs.Contraction.{Tree, lam, app, Level, bound, root, wire, Spot, at, body, fun}
+use Rattle.ol_law_meaning.specs.Contraction.{arg, Edge, lam_root, lam_own, lam_wire, app_root, app_arg}
+use Rattle.ol_law_meaning.specs.Contraction.{app_left, app_right, in_body, in_fun, in_arg, Trail, here, on}
+use Rattle.ol_law_meaning.specs.Contraction.{occurs, Cut, inM, inN, CutEdge, of_m, of_n, joint, Opens, in_m}
+use Rattle.ol_law_meaning.specs.Contraction.{in_n, lam_top, lam_var, lam_side, top, side_m, side_n, IsSpotOf}
+use Rattle.ol_law_meaning.proofs.Trails.{tr_trans, one, one_back}
 use Rattle.ol_law_meaning.proofs.Addresses.{left_one, right_one, sides_apart, spot_from, spot_to}
 use Rattle.ol_term.specs.declared.translations.Translation.{Translation}
 

@@ -4,9 +4,9 @@ use Rattle.ol_net.specs.Nets.{free}
 use Rattle.ol_context.specs.Paths.{Path}
 use Rattle.ol_translate.specs.Translation.{translation_of}
 use Rattle.ol_translate.specs.Names.{HasNames}
-use Rattle.ol_law_spots.specs.Spots.{place, applications}
-use Rattle.ol_law_spots.proofs.Followed.{net_and_spots, path_is_trail}
-use Rattle.ol_law_meaning.specs.Spots.{Tree, Level, empty, Context, cons, tail, root, at, Leads}
+use Rattle.ol_law_meaning.specs.Spots.{place, applications}
+use Rattle.ol_law_meaning.proofs.Followed.{net_and_spots, path_is_trail}
+use Rattle.ol_law_meaning.specs.Contraction.{Tree, Level, empty, Context, cons, tail, root, at, Leads}
 use Rattle.ol_law_meaning.specs.Heads.{os, outer, Normal, Steps, SameAlong}
 use Rattle.ol_law_meaning.proofs.Walking.{found, is_found}
 use Rattle.ol_term.specs.declared.translations.Translation.{Translation}

@@ -3,8 +3,8 @@ use Rattle.std.proofs.Common.{◌≡◌, ℕ, zero, suc, ◌+◌, ◌-◌, ◌<�
 use Rattle.std.proofs.Common.{sym, ap, ◌∙◌, subst, arith}
 use Rattle.std.proofs.lemmas.List.{length_push}
 use Rattle.ol_readback.specs.Terms.{abstracted}
-use Rattle.ol_law_meaning.specs.Spots.{Tree, var, free, lam, app, Level, empty, o, star, left, Context}
-use Rattle.ol_law_meaning.specs.Spots.{Wire, bound, name, Place, root, wire}
+use Rattle.ol_law_meaning.specs.Contraction.{Tree, var, free, lam, app, Level, empty, o, star, left, Context}
+use Rattle.ol_law_meaning.specs.Contraction.{Wire, bound, name, Place, root, wire}
 use Rattle.ol_law_meaning.specs.Heads.{os, outer, Spine, head_var, head_free, head_app, OutOf, up_root}
 use Rattle.ol_law_meaning.specs.Heads.{up_own, up_wire, Normal, flat, layer, Arg, last, earlier, inner}
 use Rattle.ol_law_meaning.specs.Heads.{hat_wire, hat_left, hat_up, StandsAt}

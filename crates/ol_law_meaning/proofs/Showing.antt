@@ -23,8 +23,8 @@ use Rattle.ol_readback.specs.declared.answers.ReadNode.{ReadNode}
 use Rattle.ol_readback.specs.declared.answers.ReadNode.TheVariants as node
 use Rattle.ol_readback.proofs.One.{exit_is_one}
 use Rattle.ol_readback.proofs.Forests.{frame_last}
-use Rattle.ol_law_spots.specs.Spots.{applications}
-use Rattle.ol_law_meaning.specs.Spots.{Tree, Level, empty, star, Context, cons, Place, root, at, Leads}
+use Rattle.ol_law_meaning.specs.Spots.{applications}
+use Rattle.ol_law_meaning.specs.Contraction.{Tree, Level, empty, star, Context, cons, Place, root, at, Leads}
 use Rattle.ol_law_meaning.specs.Heads.{os, outer, Normal, Steps, SameAlong, Arg}
 use Rattle.ol_law_meaning.specs.Seen.{ahead, Chain, IsChain, scope, Seats, IsSeen, ArgSeats}
 use Rattle.ol_law_meaning.specs.Shows.{HeadReduces, HeadReducesForever, applied, IsHeadNormal, Shows}

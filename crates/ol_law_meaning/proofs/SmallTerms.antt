@@ -3,7 +3,7 @@ use Rattle.std.proofs.Common.{ℕ, zero, suc, [], ◌∷◌, true, refl}
 use Rattle.ol_beta.proofs.Redexes.{no_leftmost}
 use Rattle.ol_readback.specs.Whole.{term, lost, none, more}
 use Rattle.ol_readback.specs.declared.answers.HeadVar.TheVariants as head
-use Rattle.ol_law_meaning.specs.Spots.{Tree, var, free, lam, app, HeadStep, beta}
+use Rattle.ol_law_meaning.specs.Contraction.{Tree, var, free, lam, app, HeadStep, beta}
 use Rattle.ol_law_meaning.specs.Heads.{Steps, done, step}
 use Rattle.ol_law_meaning.specs.Shows.{ready, contract, HeadReducesForever, Shows}
 use Rattle.ol_law_meaning.specs.Examples.{identity, twice, self, loops, EndsIn, HasNoEnd, Unused, HasHeadAlone, SmallTerms}

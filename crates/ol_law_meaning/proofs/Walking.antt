@@ -2,15 +2,15 @@
 use Rattle.std.proofs.Common.{◌<◌, ◌≡◌, ℕ, zero, suc, ◌+◌, ◌≤◌, true, false, refl, sym, ap, ◌∙◌}
 use Rattle.std.proofs.Common.{subst, arith, ◌⊎◌, inl, inr}
 use Rattle.std.proofs.lemmas.Bool.{or_left}
-use Rattle.ol_law_meaning.specs.Spots.{Tree, var, free, lam, app, Level, empty, o, star, Context, cons}
-use Rattle.ol_law_meaning.specs.Spots.{Wire, bound, name, occurs, left, Place, root, wire, at, Edge}
-use Rattle.ol_law_meaning.specs.Spots.{var_wire, free_wire, app_root, app_left, Trail, on}
-use Rattle.ol_law_meaning.specs.Spots.{is_abstraction, HeadStep, beta, below, before, Leads}
+use Rattle.ol_law_meaning.specs.Contraction.{Tree, var, free, lam, app, Level, empty, o, star, Context, cons}
+use Rattle.ol_law_meaning.specs.Contraction.{Wire, bound, name, occurs, left, Place, root, wire, at, Edge}
+use Rattle.ol_law_meaning.specs.Contraction.{var_wire, free_wire, app_root, app_left, Trail, on}
+use Rattle.ol_law_meaning.specs.Contraction.{is_abstraction, HeadStep, beta, below, before, Leads}
 use Rattle.ol_law_meaning.specs.Steps.{SameRedex, redex_root, below_o, below_star, SameBefore}
 use Rattle.ol_law_meaning.specs.Steps.{before_root, Same, opened, Short}
 use Rattle.ol_law_meaning.specs.Heads.{os, outer, Spine, head_var, head_free, head_app, up_root, up_own}
 use Rattle.ol_law_meaning.specs.Heads.{up_wire, Normal, flat, layer, Steps, done, step, SameAlong}
-use Rattle.ol_law_spots.proofs.Trails.{tr_trans, one, one_back, tr_body, tr_fun}
+use Rattle.ol_law_meaning.proofs.Trails.{tr_trans, one, one_back, tr_body, tr_fun}
 use Rattle.ol_law_meaning.proofs.Lifts.{same_is}
 use Rattle.ol_law_meaning.proofs.Ways.{Has}
 use Rattle.ol_law_meaning.proofs.Mains.{keeps, reflects, root_same, stuck}

@@ -1,14 +1,14 @@
 -- From a term's spots to those of another one, edge by edge: what a step has to give.
 use Rattle.std.proofs.Common.{◌≡◌, ℕ, ◌+◌, ◌≤◌, Bool, true, refl, sym, ◌∙◌, subst, arith, suc, ◌⊎◌, inl, inr}
 use Rattle.std.proofs.lemmas.Bool.{or_left, or_right}
-use Rattle.ol_law_meaning.specs.Spots.{Tree, lam, app, Level, o, star, Context, Wire, bound, under}
-use Rattle.ol_law_meaning.specs.Spots.{occurs, left, right, Place, root, wire, Spot, at, body, fun, arg}
-use Rattle.ol_law_meaning.specs.Spots.{Edge, lam_root, lam_own, lam_wire, app_root, app_arg, app_left}
-use Rattle.ol_law_meaning.specs.Spots.{app_right, in_body, in_fun, in_arg, Trail, here, on, back}
-use Rattle.ol_law_meaning.specs.Spots.{IsRight}
+use Rattle.ol_law_meaning.specs.Contraction.{Tree, lam, app, Level, o, star, Context, Wire, bound, under}
+use Rattle.ol_law_meaning.specs.Contraction.{occurs, left, right, Place, root, wire, Spot, at, body, fun, arg}
+use Rattle.ol_law_meaning.specs.Contraction.{Edge, lam_root, lam_own, lam_wire, app_root, app_arg, app_left}
+use Rattle.ol_law_meaning.specs.Contraction.{app_right, in_body, in_fun, in_arg, Trail, here, on, back}
+use Rattle.ol_law_meaning.specs.Contraction.{IsRight}
 use Rattle.ol_law_meaning.specs.Steps.{SameBelow, below_o, below_star, below_wire, SameBefore}
 use Rattle.ol_law_meaning.specs.Steps.{before_root, before_left, before_right}
-use Rattle.ol_law_spots.proofs.Trails.{tr_trans, one, one_back, tr_body, tr_fun}
+use Rattle.ol_law_meaning.proofs.Trails.{tr_trans, one, one_back, tr_body, tr_fun}
 use Rattle.ol_law_meaning.proofs.Addresses.{left_one, right_one, sides_apart}
 use Rattle.ol_term.specs.declared.translations.Translation.{Translation}
 

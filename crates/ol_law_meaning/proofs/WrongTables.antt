@@ -6,8 +6,8 @@ use Rattle.ol_term.specs.declared.translations.Translation.TheVariants.{One, Two
 use Rattle.ol_net.specs.declared.parts.Kind.TheVariants as kind
 use Rattle.ol_context.specs.Contexts.{levels}
 use Rattle.ol_context.specs.Paths.{inward, outward, Path, ends, goes}
-use Rattle.ol_law_meaning.specs.Spots.{Tree, Level, empty, o, star, Context, cons, tail, left, Place}
-use Rattle.ol_law_meaning.specs.Spots as term
+use Rattle.ol_law_meaning.specs.Contraction.{Tree, Level, empty, o, star, Context, cons, tail, left, Place}
+use Rattle.ol_law_meaning.specs.Contraction as term
 use Rattle.ol_law_meaning.specs.Heads.{Steps, done, step, SameAlong, Spine, head_free, head_app, Normal, flat}
 use Rattle.ol_law_meaning.specs.Tables.{without_bracket, BracketIsNeeded, doubled, net_of_doubled}
 use Rattle.ol_law_meaning.specs.Tables.{bare_net_of_doubled, FanIsNotTurned}

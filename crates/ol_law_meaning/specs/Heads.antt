@@ -1,9 +1,9 @@
 -- Head normal forms and head reduction, what the root of a term leads to, and what stands below the
 -- head; with their laws.
 use Rattle.std.specs.Prelude.{◌≡◌, ℕ, suc, ◌+◌, ◌≤◌, ◌<◌, ◌⊎◌, true}
-use Rattle.ol_law_meaning.specs.Spots.{Tree, var, free, lam, app, Level, empty, o, star, Context, cons}
-use Rattle.ol_law_meaning.specs.Spots.{Translation, Wire, bound, name, under, occurs, left, IsLevelOf, IsRight}
-use Rattle.ol_law_meaning.specs.Spots.{Place, root, wire, at, HeadStep, Leads}
+use Rattle.ol_law_meaning.specs.Contraction.{Tree, var, free, lam, app, Level, empty, o, star, Context, cons}
+use Rattle.ol_law_meaning.specs.Contraction.{Translation, Wire, bound, name, under, occurs, left, IsLevelOf, IsRight}
+use Rattle.ol_law_meaning.specs.Contraction.{Place, root, wire, at, HeadStep, Leads}
 use Rattle.ol_law_meaning.specs.Steps.{Same}
 -- os n v is v below n times o: o^n.v in the comments here
 pub use Rattle.ol_context.specs.Asked.{os}

@@ -1,8 +1,8 @@
 -- The laws of a redex, its cut and the new term, and of one head step.
 use Rattle.std.specs.Prelude.{◌≡◌, ℕ, ◌≤◌, ◌<◌}
-use Rattle.ol_law_meaning.specs.Spots.{Tree, lam, app, Spot, Edge, Trail, Leads, lift, lifted, subst_for}
-use Rattle.ol_law_meaning.specs.Spots.{Translation, Cut, CutEdge, Held, Opens, Level, Context}
-use Rattle.ol_law_meaning.specs.Spots.{Place, root, at, HeadStep}
+use Rattle.ol_law_meaning.specs.Contraction.{Tree, lam, app, Spot, Edge, Trail, Leads, lift, lifted, subst_for}
+use Rattle.ol_law_meaning.specs.Contraction.{Translation, Cut, CutEdge, Held, Opens, Level, Context}
+use Rattle.ol_law_meaning.specs.Contraction.{Place, root, at, HeadStep}
 use Rattle.ol_law_meaning.specs.Steps.{Same, opened, Short}
 
 -- an edge of a term is one of the term under more abstractions, between the lifted spots, of the same weight

@@ -3,7 +3,7 @@ use Rattle.std.specs.Prelude.{◌≡◌, ℕ, List, Some, ◌↔◌}
 use Rattle.ol_term.specs.Trees.{Tree}
 use Rattle.ol_beta.specs.Beta.{contracted, substituted}
 use Rattle.ol_beta.specs.Leftmost.{leftmost}
-use Rattle.ol_law_meaning.specs.Spots.{HeadStep, subst_for}
+use Rattle.ol_law_meaning.specs.Contraction.{HeadStep, subst_for}
 use Rattle.ol_law_meaning.specs.Heads.{Steps}
 use Rattle.ol_law_meaning.specs.Shows.{IsHeadAddress, HeadReduces, HeadReducesForever}
 

@@ -14,9 +14,9 @@ use Rattle.ol_readback.specs.Whole.{Part, preorder}
 use Rattle.ol_readback.specs.Terms.{HasAllHeads, abstracted, variable_of, term_of}
 use Rattle.ol_readback.specs.declared.answers.HeadVar.{HeadVar}
 use Rattle.ol_readback.specs.declared.answers.ReadNode.{ReadNode}
-use Rattle.ol_law_spots.specs.Spots.{applications}
+use Rattle.ol_law_meaning.specs.Spots.{applications}
 use Rattle.ol_term.specs.Trees.{Tree}
-use Rattle.ol_law_meaning.specs.Spots.{Level, empty, star, Context, Place}
+use Rattle.ol_law_meaning.specs.Contraction.{Level, empty, star, Context, Place}
 use Rattle.ol_law_meaning.specs.Heads.{os, outer, Normal, Steps, SameAlong, Arg}
 use Rattle.ol_law_meaning.specs.Seen.{ahead, Chain, IsChain, scope, IsSeen, WholeSeats, Within, argument, seats_of}
 use Rattle.ol_law_meaning.specs.Shows.{BetaReduces, LeftmostReduces, HeadReduces, HeadReducesForever}

@@ -5,8 +5,8 @@ use Rattle.ol_net.specs.Nets.{NamedNet, free}
 use Rattle.ol_context.specs.Paths.{Path}
 use Rattle.ol_translate.specs.Translation.{translation_of}
 use Rattle.ol_translate.specs.Names.{HasNames}
-use Rattle.ol_law_spots.specs.Spots.{place, applications}
-use Rattle.ol_law_meaning.specs.Spots.{Tree, Level, empty, Context, cons, tail}
+use Rattle.ol_law_meaning.specs.Spots.{place, applications}
+use Rattle.ol_law_meaning.specs.Contraction.{Tree, Level, empty, Context, cons, tail}
 use Rattle.ol_law_meaning.specs.Heads.{os, outer, Normal, Steps, SameAlong}
 
 -- In this net of either translation, where a path leads from the root's free port, with o^n.empty

@@ -1,206 +1,145 @@
--- What becomes of a term's spots when a term is put in for a variable: a redex, its cut and the new
--- term; and head steps.
-use Rattle.std.specs.Prelude.{◌≡◌, ℕ, zero, suc, ◌+◌, true, false, Option, Some, None}
-pub use Rattle.ol_term.specs.declared.translations.Translation.{Translation}
-pub use Rattle.ol_term.specs.Trees.{Tree, var, free, lam, app}
-pub use Rattle.ol_context.specs.Contexts.{Level, empty, o, star, pair, Context, cons, tail}
-pub use Rattle.ol_law_spots.specs.Spots.{Wire, bound, name, under, occurs, left, is_bare, IsLevelOf}
-pub use Rattle.ol_law_spots.specs.Spots.{boxed, right, IsRight, Place, root, wire, Spot, at, body}
-pub use Rattle.ol_law_spots.specs.Spots.{fun, arg}
-pub use Rattle.ol_law_spots.specs.Spots.{Edge, var_wire, free_wire, lam_root, lam_own, lam_wire}
-pub use Rattle.ol_law_spots.specs.Spots.{app_root, app_arg, app_left, app_right}
-pub use Rattle.ol_beta.specs.Leftmost.{is_abstraction}
-pub use Rattle.ol_law_spots.specs.Spots.{in_body, in_fun, in_arg, Trail, here, on, back, Leads}
+-- Spots: where a walk over a term's net can stand, said by the term alone, without nodes and
+-- numbers; and what joins them, by each of the two translations.
+use Rattle.std.specs.Prelude.{◌≡◌, ◌≢◌, ℕ, zero, suc, ◌+◌, ◌==◌, Bool, true, false, ◌||◌, if◌then◌else◌}
+use Rattle.ol_term.specs.declared.translations.Translation.{Translation}
+use Rattle.ol_term.specs.declared.translations.Translation.TheVariants.{One, Two}
+use Rattle.ol_term.specs.Trees.{Tree, var, free, lam, app}
+use Rattle.ol_net.specs.declared.parts.Kind.{Kind}
+use Rattle.ol_net.specs.declared.parts.Kind.TheVariants as kind
+use Rattle.ol_net.specs.Nets.{NamedNet, NamedPort}
+use Rattle.ol_context.specs.Paths.{Path, ends, goes}
+use Rattle.ol_context.specs.Contexts.{Level, empty, o, star, pair, Context, cons}
 
--- ---- a term under more abstractions than before
+-- ---- the interface of a term: its root, and a wire for each variable and name that is free in it
 
--- a variable from d on is bound outside of the term, and goes up by i
-abbrev pub up_from : ℕ → ℕ → ℕ → ℕ
-up_from zero i y = i + y
-up_from (suc d) i zero = zero
-up_from (suc d) i (suc y) = suc (up_from d i y)
+-- the wire of a variable, which is counted from the inside, or of a free name
+pub data Wire : Type 0 where
+  bound : ℕ → Wire
+  name : ℕ → Wire
 
-abbrev pub lift : ℕ → ℕ → Tree → Tree
-lift d i (var y) = var (up_from d i y)
-lift d i (free f) = free f
-lift d i (lam t) = lam (lift (suc d) i t)
-lift d i (app t u) = app (lift d i t) (lift d i u)
+-- the same wire under one more abstraction
+abbrev pub under : Wire → Wire
+under (bound y) = bound (suc y)
+under (name f) = name f
 
--- its wires
-abbrev pub lifted_wire : ℕ → ℕ → Wire → Wire
-lifted_wire d i (bound y) = bound (up_from d i y)
-lifted_wire d i (name f) = name f
+-- the term has such a wire: its variable is free in it, or its name is one of the term's
+abbrev pub occurs : Wire → Tree → Bool
+occurs (bound y) (var v) = v == y
+occurs (bound y) (free f) = false
+occurs (name f) (var v) = false
+occurs (name f) (free g) = g == f
+occurs y (lam t) = occurs (under y) t
+occurs y (app t u) = occurs y t || occurs y u
 
-abbrev pub lifted_place : ℕ → ℕ → Place → Place
-lifted_place d i root = root
-lifted_place d i (wire y) = wire (lifted_wire d i y)
+-- Level 0 of wire y at an application's interface, by what it is at the function: where the
+-- argument N has this wire too, a fan joins both, and o tells the function's side.
+abbrev pub left : Tree → Wire → Level → Level
+left N y a = if occurs y N then o a else a
 
--- and its spots
-abbrev pub lifted : ℕ → ℕ → Spot → Spot
-lifted d i (at p v c) = at (lifted_place d i p) v c
-lifted d i (body s) = body (lifted (suc d) i s)
-lifted d i (fun s) = fun (lifted d i s)
-lifted d i (arg v s) = arg v (lifted d i s)
+-- ---- arguments
 
--- ---- a term N put in for variable i of M, whose abstraction goes
+-- the argument has no box of its own: by translation 2 a variable or a free name is its wire itself
+abbrev pub is_bare : Translation → Tree → Bool
+is_bare One N = false
+is_bare Two (var y) = true
+is_bare Two (free f) = true
+is_bare Two (lam t) = false
+is_bare Two (app t u) = false
 
-abbrev pub suc_of : Option ℕ → Option ℕ
-suc_of None = None
-suc_of (Some y) = Some (suc y)
+-- b may be level 0 of a wire at the argument N, as N itself sees it: where N has no box, that is empty
+abbrev pub IsLevelOf : Translation → Tree → Level → Type 0
+IsLevelOf τ N b = is_bare τ N ≡ true → b ≡ empty
 
--- how variable y is counted once variable i is gone; None: it is variable i
-abbrev pub without : ℕ → ℕ → Option ℕ
-without zero zero = None
-without zero (suc y) = Some y
-without (suc i) zero = Some zero
-without (suc i) (suc y) = suc_of (without i y)
+-- Level 0 of a wire outside of the argument, by what it is inside, b, and by the value v from which
+-- the argument is entered. The bracket of a box packs both; where there is no box, it is v.
+abbrev pub boxed : Bool → Level → Level → Level
+boxed bare b v = if bare then v else pair b v
 
-abbrev pub wire_of : Option ℕ → Option Wire
-wire_of None = None
-wire_of (Some y) = Some (bound y)
+-- Level 0 of wire y at an application's interface, by what it is at the argument N: a star tells
+-- the argument's side where the function M has this wire too.
+abbrev pub right : Translation → Tree → Tree → Wire → Level → Level → Level
+right τ M N y b v = if occurs y M then star (boxed (is_bare τ N) b v) else boxed (is_bare τ N) b v
 
--- the same of a wire
-abbrev pub wire_without : ℕ → Wire → Option Wire
-wire_without i (bound y) = wire_of (without i y)
-wire_without i (name f) = Some (name f)
+-- level 0 of wire y is a at the application M N, where it is b at N
+pub record IsRight (τ : Translation) (M N : Tree) (y : Wire) (b v a : Level) : Type 0 where
+  pub level : IsLevelOf τ N b
+  pub is : a ≡ right τ M N y b v
 
-abbrev pub put : ℕ → Tree → Option ℕ → Tree
-put i N None = lift 0 i N
-put i N (Some y) = var y
+pub data Place : Type 0 where
+  root : Place
+  wire : Wire → Place
 
--- M with N in the place of variable i: below, M[N]. It is `substituted` of `ol_beta`, said as the
--- laws of spots need it (law `head_is_leftmost`).
-abbrev pub subst_for : ℕ → Tree → Tree → Tree
-subst_for i N (var y) = put i N (without i y)
-subst_for i N (free f) = free f
-subst_for i N (lam t) = lam (subst_for (suc i) N t)
-subst_for i N (app t u) = app (subst_for i N t) (subst_for i N u)
+-- ---- spots
 
--- ---- the cut: M and one N beside it, whose root is joined to the wire of variable i of M
+-- at a place of the term's interface, with the value of level 0 and the levels after it; or at a spot of the body of an
+-- abstraction, of the function, or of the argument of an application, which is entered with this value
+pub data Spot : Type 0 where
+  at : Place → Level → Context → Spot
+  body : Spot → Spot
+  fun : Spot → Spot
+  arg : Level → Spot → Spot
 
--- A spot of M; or a spot of N, with level 0 of the wire of variable i where it leaves M: it tells for which occurrence N
--- stands.
-pub data Cut : Type 0 where
-  inM : Spot → Cut
-  inN : Level → Spot → Cut
+-- What joins two spots, the outer one first, and its weight: how many application nodes are
+-- crossed. An occurrence's root is
+-- joined to its wire; an abstraction's root to its body's root (o) and to the wire of its own
+-- variable (star); an application's
+-- root to its function's root, and this (star) to the argument's root; and each wire to that of the part that has it.
+pub data Edge (τ : Translation) : Tree → Spot → Spot → ℕ → Type 0 where
+  var_wire : {y : ℕ} {v : Level} {c d : Context} → d ≡ cons v c →
+      Edge τ (var y) (at root v c) (at (wire (bound y)) empty d) 0
+  free_wire : {f : ℕ} {v : Level} {c d : Context} → d ≡ cons v c →
+      Edge τ (free f) (at root v c) (at (wire (name f)) empty d) 0
+  lam_root : {M : Tree} {v : Level} {c : Context} →
+      Edge τ (lam M) (at root (o v) c) (body (at root v c)) 0
+  lam_own : {M : Tree} {a : Level} {c : Context} →
+      occurs (bound 0) M ≡ true → Edge τ (lam M) (at root (star a) c)
+      (body (at (wire (bound 0)) a c)) 0
+  lam_wire : {M : Tree} {y z : Wire} {a : Level} {c : Context} →
+      z ≡ under y → occurs z M ≡ true → Edge τ (lam M) (at (wire y) a c) (body (at (wire z) a c)) 0
+  app_root : {M N : Tree} {v : Level} {c : Context} →
+      Edge τ (app M N) (at root v c) (fun (at root (o v) c)) 1
+  app_arg : {M N : Tree} {v u : Level} {c d : Context} →
+      c ≡ cons u d → Edge τ (app M N) (fun (at root (star v) c)) (arg v (at root u d)) 1
+  app_left : {M N : Tree} {y : Wire} {a w : Level} {c : Context} →
+      occurs y M ≡ true → w ≡ left N y a →
+      Edge τ (app M N) (at (wire y) w c) (fun (at (wire y) a c)) 0
+  app_right : {M N : Tree} {y : Wire} {b v w : Level} {c : Context} →
+      occurs y N ≡ true → IsRight τ M N y b v w →
+      Edge τ (app M N) (at (wire y) w c) (arg v (at (wire y) b c)) 0
+  in_body : {M : Tree} {s s' : Spot} {w : ℕ} → Edge τ M s s' w → Edge τ (lam M) (body s) (body s') w
+  in_fun : {M N : Tree} {s s' : Spot} {w : ℕ} → Edge τ M s s' w →
+      Edge τ (app M N) (fun s) (fun s') w
+  in_arg : {M N : Tree} {v : Level} {s s' : Spot} {w : ℕ} → Edge τ N s s' w →
+      Edge τ (app M N) (arg v s) (arg v s') w
 
-pub data CutEdge (τ : Translation) (N M : Tree) (i : ℕ) : Cut → Cut → ℕ → Type 0 where
-  of_m : {s s' : Spot} {w : ℕ} → Edge τ M s s' w → CutEdge τ N M i (inM s) (inM s') w
-  of_n : {a : Level} {s s' : Spot} {w : ℕ} → Edge τ N s s' w →
-      CutEdge τ N M i (inN a s) (inN a s') w
-  joint : {x : Wire} {a u : Level} {c d : Context} →
-      x ≡ bound i → occurs x M ≡ true → c ≡ cons u d →
-      CutEdge τ N M i (inM (at (wire x) a c)) (inN a (at root u d)) 0
+-- A trail: edges one after another, each taken either way round, of this weight in all.
+pub data Trail {V : Type 0} (E : V → V → ℕ → Type 0) : V → V → ℕ → Type 0 where
+  here : {s : V} → Trail E s s 0
+  on : {s s' z : V} {w n m : ℕ} → E s s' w → Trail E s' z n → m ≡ w + n → Trail E s z m
+  back : {s s' z : V} {w n m : ℕ} → E s' s w → Trail E s' z n → m ≡ w + n → Trail E s z m
 
--- a wire of M with its level 0, or a wire of N with its level 0 after that of the wire of variable i where it leaves M
-pub data Tag : Type 0 where
-  ofM : Wire → Level → Tag
-  ofN : Level → Wire → Level → Tag
+-- a trail of weight n from one spot of a term to another one
+abbrev pub Leads : Translation → Tree → Spot → Spot → ℕ → Type 0
+Leads τ t e x n = Trail (Edge τ t) e x n × (e ≢ x)
 
--- Which wire of M[N], with which level 0, a wire of the cut is. An occurrence keeps the values of
--- the boxes round it; marks of fans, and what is packed, follow the new term.
-pub data WireOf (τ : Translation) (N : Tree) : Tree → ℕ → Tag → Wire → Level → Type 0 where
-  same : {M : Tree} {i : ℕ} {y z : Wire} {a : Level} →
-      wire_without i y ≡ Some z → occurs z (lift 0 i N) ≡ false → occurs y M ≡ true →
-      WireOf τ N M i (ofM y a) z a
-  other : {i y z : ℕ} → without i y ≡ Some z →
-      WireOf τ N (var y) i (ofM (bound y) empty) (bound z) empty
-  named : {i f : ℕ} → WireOf τ N (free f) i (ofM (name f) empty) (name f) empty
-  own : {i y : ℕ} {x z : Wire} {b : Level} →
-      without i y ≡ None → occurs x N ≡ true → z ≡ lifted_wire 0 i x →
-      WireOf τ N (var y) i (ofN empty x b) z b
-  lam_m : {M : Tree} {i : ℕ} {y z : Wire} {a a' : Level} →
-      WireOf τ N M (suc i) (ofM (under y) a) (under z) a' → WireOf τ N (lam M) i (ofM y a) z a'
-  lam_n : {M : Tree} {i : ℕ} {x z : Wire} {w b a' : Level} →
-      WireOf τ N M (suc i) (ofN w x b) (under z) a' → WireOf τ N (lam M) i (ofN w x b) z a'
-  fun_m : {M1 M2 : Tree} {i : ℕ} {y z : Wire} {a a' w w' : Level} →
-      WireOf τ N M1 i (ofM y a) z a' → w ≡ left M2 y a → w' ≡ left (subst_for i N M2) z a' →
-      WireOf τ N (app M1 M2) i (ofM y w) z w'
-  arg_m : {M1 M2 : Tree} {i : ℕ} {y z : Wire} {a a' w w' : Level} (v : Level) →
-      WireOf τ N M2 i (ofM y a) z a' → IsRight τ M1 M2 y a v w →
-      IsRight τ (subst_for i N M1) (subst_for i N M2) z a' v w' →
-      WireOf τ N (app M1 M2) i (ofM y w) z w'
-  fun_n : {M1 M2 : Tree} {i : ℕ} {x z : Wire} {u b a' w w' : Level} →
-      WireOf τ N M1 i (ofN u x b) z a' → w ≡ left M2 (bound i) u →
-      w' ≡ left (subst_for i N M2) z a' → WireOf τ N (app M1 M2) i (ofN w x b) z w'
-  arg_n : {M1 M2 : Tree} {i : ℕ} {x z : Wire} {u b a' w w' : Level} (v : Level) →
-      WireOf τ N M2 i (ofN u x b) z a' → IsRight τ M1 M2 (bound i) u v w →
-      IsRight τ (subst_for i N M1) (subst_for i N M2) z a' v w' →
-      WireOf τ N (app M1 M2) i (ofN w x b) z w'
+-- ---- a whole term and its net
 
--- Which spot of M[N] a spot of the cut is. Spots of M's parts and N's are those of the same parts
--- in M[N], and of N's copies. The
--- root of a copy holds the whole wire of variable i in M; and a wire of M[N] holds N's wire, at whatever occurrence.
-pub data Held (τ : Translation) (N : Tree) : Tree → ℕ → Cut → Spot → Type 0 where
-  at_root : {M : Tree} {i : ℕ} {v : Level} {c : Context} →
-      Held τ N M i (inM (at root v c)) (at root v c)
-  wire_m : {M : Tree} {i : ℕ} {y z : Wire} {a a' : Level} {c : Context} →
-      WireOf τ N M i (ofM y a) z a' → Held τ N M i (inM (at (wire y) a c)) (at (wire z) a' c)
-  wire_n : {M : Tree} {i : ℕ} {x z : Wire} {w b a' : Level} {c : Context} →
-      WireOf τ N M i (ofN w x b) z a' → Held τ N M i (inN w (at (wire x) b c)) (at (wire z) a' c)
-  x_spot : {i y : ℕ} {s z : Spot} → without i y ≡ None → z ≡ lifted 0 i s →
-      Held τ N (var y) i (inN empty s) z
-  x_wire : {i y : ℕ} {x : Wire} {u : Level} {c d : Context} →
-      x ≡ bound i → without i y ≡ None → c ≡ cons u d →
-      Held τ N (var y) i (inM (at (wire x) empty c)) (at root u d)
-  p_body : {M : Tree} {i : ℕ} {s z : Spot} → Held τ N M (suc i) (inM s) z →
-      Held τ N (lam M) i (inM (body s)) (body z)
-  p_fun : {M1 M2 : Tree} {i : ℕ} {s z : Spot} → Held τ N M1 i (inM s) z →
-      Held τ N (app M1 M2) i (inM (fun s)) (fun z)
-  p_arg : {M1 M2 : Tree} {i : ℕ} {v : Level} {s z : Spot} →
-      Held τ N M2 i (inM s) z → Held τ N (app M1 M2) i (inM (arg v s)) (arg v z)
-  n_body : {M : Tree} {i : ℕ} {w : Level} {s z : Spot} → Held τ N M (suc i) (inN w s) z →
-      Held τ N (lam M) i (inN w s) (body z)
-  n_fun : {M1 M2 : Tree} {i : ℕ} {u w : Level} {s z : Spot} →
-      Held τ N M1 i (inN u s) z → w ≡ left M2 (bound i) u → Held τ N (app M1 M2) i (inN w s) (fun z)
-  n_arg : {M1 M2 : Tree} {i : ℕ} {u v w : Level} {s z : Spot} →
-      Held τ N M2 i (inN u s) z → IsRight τ M1 M2 (bound i) u v w →
-      Held τ N (app M1 M2) i (inN w s) (arg v z)
-  i_body : {M : Tree} {i : ℕ} {x : Wire} {a : Level} {c : Context} {z : Spot} →
-      x ≡ bound i → Held τ N M (suc i) (inM (at (wire (under x)) a c)) z →
-      Held τ N (lam M) i (inM (at (wire x) a c)) (body z)
-  i_fun : {M1 M2 : Tree} {i : ℕ} {x : Wire} {u w : Level} {c : Context} {z : Spot} →
-      x ≡ bound i → Held τ N M1 i (inM (at (wire x) u c)) z → w ≡ left M2 x u →
-      Held τ N (app M1 M2) i (inM (at (wire x) w c)) (fun z)
-  i_arg : {M1 M2 : Tree} {i : ℕ} {x : Wire} {u v w : Level} {c : Context} {z : Spot} →
-      x ≡ bound i → Held τ N M2 i (inM (at (wire x) u c)) z → IsRight τ M1 M2 x u v w →
-      Held τ N (app M1 M2) i (inM (at (wire x) w c)) (arg v z)
+-- the place of a free port: free port 0 is the root, and free port f + 1 the wire of free name f
+abbrev pub place : ℕ → Place
+place zero = root
+place (suc f) = wire (name f)
 
--- ---- a redex
+-- how much a crossing of such a node adds to the weight
+abbrev pub weight_of : Kind → ℕ
+weight_of kind.App = 1
+weight_of kind.Lam = 0
+weight_of kind.Fan = 0
+weight_of kind.Croissant = 0
+weight_of kind.Bracket = 0
+weight_of kind.Eraser = 0
 
--- where the spot is at a wire of N, level 0 is one that this wire has
-abbrev pub IsSpotOf : Translation → Tree → Spot → Type 0
-IsSpotOf τ N (at root v c) = Unit {0}
-IsSpotOf τ N (at (wire y) b c) = IsLevelOf τ N b
-IsSpotOf τ N (body s) = Unit {0}
-IsSpotOf τ N (fun s) = Unit {0}
-IsSpotOf τ N (arg v s) = Unit {0}
-
--- Which spot of the cut of M with N at variable 0 a spot of the redex (lam M) N is: the two nodes
--- of the redex fall away. Spots of N are spoken of only where the variable occurs in M.
-pub data Opens (τ : Translation) (N M : Tree) : Spot → Cut → Type 0 where
-  in_m : {s : Spot} → Opens τ N M (fun (body s)) (inM s)
-  in_n : {w : Level} {s : Spot} → occurs (bound 0) M ≡ true → IsSpotOf τ N s →
-      Opens τ N M (arg w s) (inN w s)
-  lam_top : {v : Level} {c : Context} → Opens τ N M (fun (at root (o v) c)) (inM (at root v c))
-  lam_var : {w : Level} {c : Context} →
-      occurs (bound 0) M ≡ true → Opens τ N M (fun (at root (star w) c))
-      (inM (at (wire (bound 0)) w c))
-  lam_side : {y z : Wire} {a : Level} {c : Context} →
-      z ≡ under y → occurs z M ≡ true → Opens τ N M (fun (at (wire y) a c)) (inM (at (wire z) a c))
-  top : {v : Level} {c : Context} → Opens τ N M (at root v c) (inM (at root v c))
-  side_m : {y z : Wire} {a w : Level} {c : Context} →
-      z ≡ under y → occurs z M ≡ true → w ≡ left N y a →
-      Opens τ N M (at (wire y) w c) (inM (at (wire z) a c))
-  side_n : {y : Wire} {b v w : Level} {c : Context} →
-      occurs (bound 0) M ≡ true → occurs y N ≡ true → IsRight τ (lam M) N y b v w →
-      Opens τ N M (at (wire y) w c) (inN v (at (wire y) b c))
-
--- A head step: beta at the redex under the outer abstractions and left of all arguments. It is
--- never made within a function that is an abstraction. It is contraction at a head address (law
--- `head_is_leftmost`), of which `HeadReduces` is made.
-pub data HeadStep : Tree → Tree → Type 0 where
-  beta : {M N : Tree} → HeadStep (app (lam M) N) (subst_for 0 N M)
-  below : {M M' : Tree} → HeadStep M M' → HeadStep (lam M) (lam M')
-  before : {R R' P : Tree} → is_abstraction R ≡ false → HeadStep R R' →
-      HeadStep (app R P) (app R' P)
+-- how many application nodes a path crosses
+abbrev pub applications : {A : Type 0} {N : NamedNet A} {p : NamedPort A} {c : Context} {q : ℕ}
+    {d : Context} → Path N p c q d → ℕ
+applications (ends l) = 0
+applications (goes {k = k} l h x r) = weight_of k + applications r

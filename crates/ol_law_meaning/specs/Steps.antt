@@ -1,9 +1,9 @@
 -- What a head step keeps: which values of level 0, at a place of a term's interface, are the same
 -- before and after the step.
 use Rattle.std.specs.Prelude.{◌≡◌, true}
-use Rattle.ol_law_meaning.specs.Spots.{Tree, var, free, lam, app, Level, empty, o, star, pair, Wire}
-use Rattle.ol_law_meaning.specs.Spots.{Translation, bound, under, occurs, left, IsRight, Place, root, wire}
-use Rattle.ol_law_meaning.specs.Spots.{ofM, ofN, WireOf, HeadStep, beta, below, before}
+use Rattle.ol_law_meaning.specs.Contraction.{Tree, var, free, lam, app, Level, empty, o, star, pair, Wire}
+use Rattle.ol_law_meaning.specs.Contraction.{Translation, bound, under, occurs, left, IsRight, Place, root, wire}
+use Rattle.ol_law_meaning.specs.Contraction.{ofM, ofN, WireOf, HeadStep, beta, below, before}
 
 -- of the redex (lam M) N: at the root each value; at a wire of M, and at a wire of N, what the wire is in M[N]
 pub data SameRedex (τ : Translation) (M N : Tree) : Place → Level → Level → Type 0 where

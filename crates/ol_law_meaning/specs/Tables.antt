@@ -5,8 +5,8 @@ use Rattle.ol_net.specs.declared.parts.Kind.TheVariants as kind
 use Rattle.ol_net.specs.Nets.{NamedNet, free, slot}
 use Rattle.ol_term.specs.declared.translations.Translation.TheVariants.{One, Two}
 use Rattle.ol_translate.specs.Translation.{translation_of}
-use Rattle.ol_law_meaning.specs.Spots.{Tree, var, lam, app}
-use Rattle.ol_law_meaning.specs.Spots as term
+use Rattle.ol_law_meaning.specs.Contraction.{Tree, var, lam, app}
+use Rattle.ol_law_meaning.specs.Contraction as term
 use Rattle.ol_law_meaning.specs.Nets.{FindsHeads}
 
 -- ---- an argument's bracket

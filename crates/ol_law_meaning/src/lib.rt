@@ -1,31 +1,48 @@
+//! The net of a term, by either translation, said without nodes and numbers: where a walk over it
+//! can stand, by the term alone.
+//!
+//! A walk over the net of a term stands at a *spot*: at the root or a variable's wire of one of
+//! its subterms, with a context. An edge joins two spots that lie side by side; its weight is the
+//! number of application nodes between them, 0 or 1. A trail is edges one after another. Nothing
+//! here runs.
+//!
 //! What head reduction of a term is for the walks over its net: a head that such a walk finds is
 //! the head of the term's head normal form, and a tree that such walks tell is what beta reduction
 //! gives.
 //!
-//! Most is said over a term's spots and trails (`ol_law_spots`), which are the walks over its net.
+//! Most is said over a term's spots and trails (`ol_law_meaning`), which are the walks over its net.
 //! A trail's weight is the number of application nodes that it crosses. Terms may be open, so that
 //! the laws speak of subterms as well. `net_heads` and `meaning` say it over the net of a whole
 //! term. All laws hold for both translations. Each function here is a law: it has no code.
 #![tactic(auto)]
 
+ghost use Rattle.ol_law_meaning.specs.Examples.{SmallTerms};
+ghost use Rattle.ol_law_meaning.specs.Heads.{HeadPath, FewLeadNowhere, NormalOrStep, HeadFound};
+ghost use Rattle.ol_law_meaning.specs.Heads.{ExitIsHead, HeadIsFound, LeastIsHead, BinderStays};
+ghost use Rattle.ol_law_meaning.specs.Heads.{BelowHead, HatIsOne, RootStandsAtHead, ArgsAreThere};
 ghost use Rattle.ol_law_meaning.specs.Laws.{LiftKeeps, CutIsHeld, HeldIsCut, RedexOpens, CutCloses};
 ghost use Rattle.ol_law_meaning.specs.Laws.{HeadKeeps, HeadReflects, SameIsOne, RootIsSame};
 ghost use Rattle.ol_law_meaning.specs.Laws.{ShortIsStuck};
-ghost use Rattle.ol_law_meaning.specs.Heads.{HeadPath, FewLeadNowhere, NormalOrStep};
-ghost use Rattle.ol_law_meaning.specs.Heads.{HeadFound, ExitIsHead, HeadIsFound, LeastIsHead};
-ghost use Rattle.ol_law_meaning.specs.Heads.{BinderStays};
-ghost use Rattle.ol_law_meaning.specs.Heads.{BelowHead, HatIsOne, RootStandsAtHead, ArgsAreThere};
+ghost use Rattle.ol_law_meaning.specs.Leftmost.{HeadIsLeftmost, HeadIsContraction};
+ghost use Rattle.ol_law_meaning.specs.Leftmost.{StepsAreReduction, EndlessIsAnyNumber};
+ghost use Rattle.ol_law_meaning.specs.Leftmost.{OneSubstitution};
+ghost use Rattle.ol_law_meaning.specs.Meaning.{NormalIsHeadNormal, EndlessOrNormal};
+ghost use Rattle.ol_law_meaning.specs.Meaning.{WholeTermIsSeen, ArgIsSeen, HeadIsReached};
+ghost use Rattle.ol_law_meaning.specs.Meaning.{HeadIsReachedSoon, NoHeadIsEndless, TreeShowsTerm};
+ghost use Rattle.ol_law_meaning.specs.Meaning.{ShownIsReduct, ShownIsNormalForm, ShownHasNoEnd};
+ghost use Rattle.ol_law_meaning.specs.Meaning.{PlacesSay};
 ghost use Rattle.ol_law_meaning.specs.Nets.{PathFindsHead, HeadHasPath};
 ghost use Rattle.ol_law_meaning.specs.Tables.{BracketIsNeeded, FanIsNotTurned};
-ghost use Rattle.ol_law_meaning.specs.Leftmost.{HeadIsLeftmost, HeadIsContraction};
-ghost use Rattle.ol_law_meaning.specs.Leftmost.{StepsAreReduction, EndlessIsAnyNumber, OneSubstitution};
-ghost use Rattle.ol_law_meaning.specs.Meaning.{NormalIsHeadNormal, EndlessOrNormal};
-ghost use Rattle.ol_law_meaning.specs.Meaning.{WholeTermIsSeen, ArgIsSeen};
-ghost use Rattle.ol_law_meaning.specs.Meaning.{HeadIsReached, HeadIsReachedSoon, NoHeadIsEndless};
-ghost use Rattle.ol_law_meaning.specs.Meaning.{TreeShowsTerm, ShownIsReduct};
-ghost use Rattle.ol_law_meaning.specs.Meaning.{ShownIsNormalForm, ShownHasNoEnd};
-ghost use Rattle.ol_law_meaning.specs.Meaning.{PlacesSay};
-ghost use Rattle.ol_law_meaning.specs.Examples.{SmallTerms};
+ghost use Rattle.ol_law_meaning.specs.TermPaths.{NetAndSpots, PathHasWeight};
+
+/// A law: a path of a term's net, by either translation, leads from one free port to another, from
+/// one context to another, exactly where a trail of the term's spots does, from the place of the
+/// first port to that of the second. And each path has a trail whose weight is the number of
+/// applications that it crosses.
+pub fn net_and_spots()
+    ensures same { NetAndSpots }
+    ensures weight { PathHasWeight }
+{}
 
 /// A term that stands under more abstractions than before has the same edges, with their weights.
 pub fn lifting()

@@ -1,5 +1,5 @@
 -- The law of an argument of a head normal form.
-use Rattle.ol_law_meaning.specs.Spots.{root, wire}
+use Rattle.ol_law_meaning.specs.Contraction.{root, wire}
 use Rattle.ol_law_meaning.proofs.seating.Goals as goal
 use Rattle.ol_law_meaning.proofs.Seats.{seated, hat_one, up_to, down_to, root_stands, args_there}
 

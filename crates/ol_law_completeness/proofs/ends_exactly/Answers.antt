@@ -1,0 +1,8 @@
+use Rattle.ol_law_completeness.proofs.OnlyStrong as ending
+use Rattle.ol_law_completeness.proofs.ends_exactly.Goals as goal
+
+pub returns-clause-one : goal.returns-clause-one
+returns-clause-one c = ending.one_thread_ends
+
+pub returns-clause-every : goal.returns-clause-every
+returns-clause-every c = ending.every_run_ends

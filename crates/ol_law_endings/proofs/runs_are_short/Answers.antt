@@ -1,5 +1,0 @@
-use Rattle.ol_law_endings.proofs.Running as running
-use Rattle.ol_law_endings.proofs.runs_are_short.Goals as goal
-
-pub returns : goal.returns
-returns c = running.runs_are_short

@@ -1,6 +1,0 @@
--- A route has one word at most.
-use Rattle.ol_law_families.proofs.word_is_one.Goals as goal
-use Rattle.ol_law_families.proofs.Balance.{word_is_one}
-
-pub returns : goal.returns
-returns g c = word_is_one

@@ -1,6 +1,0 @@
--- A word is read crossing by crossing.
-use Rattle.ol_law_families.proofs.words_are_signed.Goals as goal
-use Rattle.ol_law_families.proofs.Signing.{words_are_signed}
-
-pub returns : goal.returns
-returns g c = words_are_signed

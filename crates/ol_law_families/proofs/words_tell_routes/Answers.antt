@@ -1,6 +1,0 @@
--- Different routes have different words.
-use Rattle.ol_law_families.proofs.words_tell_routes.Goals as goal
-use Rattle.ol_law_families.proofs.Telling.{words_tell_routes}
-
-pub returns : goal.returns
-returns g c = words_tell_routes

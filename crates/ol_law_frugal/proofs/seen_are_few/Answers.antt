@@ -1,6 +1,0 @@
--- What is seen from a term's root is at most as much as its head steps.
-use Rattle.ol_law_frugal.proofs.seen_are_few.Goals as goal
-use Rattle.ol_law_frugal.proofs.Few.{seen_is_few}
-
-pub returns : goal.returns
-returns g = seen_is_few

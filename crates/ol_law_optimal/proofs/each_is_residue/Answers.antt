@@ -1,5 +1,0 @@
-use Rattle.ol_law_optimal.proofs.each_is_residue.Goals as goal
-use Rattle.ol_law_optimal.proofs.Runs.{each_is_residue}
-
-pub returns : goal.returns
-returns g c = each_is_residue

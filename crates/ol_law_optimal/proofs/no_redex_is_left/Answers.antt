@@ -1,5 +1,0 @@
-use Rattle.ol_law_optimal.proofs.no_redex_is_left.Goals as goal
-use Rattle.ol_law_optimal.proofs.Nothing as nothing
-
-pub returns : goal.returns
-returns g c = nothing.no_redex_is_left

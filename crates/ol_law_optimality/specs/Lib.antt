@@ -1,0 +1,27 @@
+-- What clauses of public functions rest on.
+pub mod Routes
+pub mod RouteLaws
+pub mod Redexes
+pub mod RedexLaws
+pub mod Seen
+pub mod Labels
+pub mod Met
+pub mod Wanted
+pub mod Steps
+pub mod Leftmost
+pub mod Words
+pub mod Signs
+pub mod Readings
+pub mod WantedDegrees
+pub mod Families
+pub mod HeadFamilies
+pub mod AllFamilies
+pub mod Labelling
+pub mod Entries
+pub mod Reductions
+pub mod LevysTheorem
+pub mod Demand
+pub mod Fewest
+pub mod FirstHeads
+pub mod NeededHeads
+pub mod LeftmostHeads

@@ -1,8 +1,0 @@
-use Rattle.ol_law_unstuck.proofs.WrongTables as tables
-use Rattle.ol_law_unstuck.proofs.wrong_index_blocks.Goals as goal
-
-pub returns-clause-right : goal.returns-clause-right
-returns-clause-right c = tables.right_index_is_unblocked
-
-pub returns-clause-lower : goal.returns-clause-lower
-returns-clause-lower c = tables.lower_index_is_blocked
