@@ -9,8 +9,8 @@ use Rattle.ol_io.specs.Outside.{Consumed, Counts, IsUsedUp}
 use Rattle.ol_io.specs.Readings.{Reading, gave, closed, IsReadOf}
 use Rattle.ol_io.proofs.Readings.{Consumed-more, front-Consumed, front-nothing, gave-more, gave-nothing, IsAllOf-read, IsLonger-read}
 use Rattle.ol_net.specs.Graph.{Graph}
-use Rattle.ol_objects.specs.declared.layouts.Layout.{Layout}
-use Rattle.ol_objects.specs.declared.layouts.Layout.TheVariants.{Lines, Object}
+use Rattle.ol_subjects.specs.declared.layouts.Layout.{Layout}
+use Rattle.ol_subjects.specs.declared.layouts.Layout.TheVariants.{Lines, Object}
 use Rattle.ol_limits.specs.declared.NoMemory.{NoMemory}
 use Rattle.ol_subjects.specs.declared.answers.Answer.{Answer}
 use Rattle.ol_subjects.specs.declared.answers.End.{End}

@@ -31,8 +31,8 @@ use Rattle.ol_explain.specs.Afters.{IsPausedAnswer}
 use Rattle.ol_explain.specs.Explained.{IsExplained}
 use Rattle.ol_explain.specs.Judged.{IsJudged}
 use Rattle.ol_explain.specs.Objects.{IsJudgedObject, IsExplainedObject}
-use Rattle.ol_objects.specs.declared.layouts.Layout.{Layout}
-use Rattle.ol_objects.specs.declared.layouts.Layout.TheVariants.{Lines, Object}
+use Rattle.ol_subjects.specs.declared.layouts.Layout.{Layout}
+use Rattle.ol_subjects.specs.declared.layouts.Layout.TheVariants.{Lines, Object}
 use Rattle.ol_same.specs.Same.{IsSame}
 use Rattle.ol_free.specs.Frees.{IsFree}
 use Rattle.ol_waves.specs.Answers.{IsWavesAnswer}

@@ -7,7 +7,7 @@ use Rattle.ol_io.specs.declared.calls.ReadAll.TheVariants as read
 use Rattle.ol_limits.specs.Limits.{most_journal_bytes}
 use Rattle.ol_limits.specs.declared.NoMemory.{NoMemory}
 use Rattle.ol_net.specs.Graph.{Graph}
-use Rattle.ol_objects.specs.declared.layouts.Layout.{Layout}
+use Rattle.ol_subjects.specs.declared.layouts.Layout.{Layout}
 use Rattle.ol_subjects.specs.declared.answers.Answer.{Answer}
 use Rattle.ol_subjects.specs.declared.answers.End.{End}
 use Rattle.ol_subjects.specs.declared.subjects.Subject as of

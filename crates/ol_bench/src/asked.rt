@@ -15,13 +15,12 @@ use ol_explain::{after, after_with_weights, explained, explained_object, judged,
 use ol_free::free_names;
 use ol_grades::Bounds as Following;
 use ol_limits::{Fuel, Heads, MOST_JOURNAL_BYTES, NoMemory};
-use ol_objects::Layout;
 use ol_orders::{Order, journal};
 use ol_places::{stop, whereabouts};
 use ol_same::same;
 use ol_steps::{Shown, steps};
 use ol_stories::story;
-use ol_subjects::{Answer, Subject, most_bytes};
+use ol_subjects::{Answer, Layout, Subject, most_bytes};
 use ol_term::Translation;
 use ol_walks::Wanted;
 use ol_waves::wave_table;

@@ -12,8 +12,7 @@ use ol_explain::answer_in;
 use ol_io::{Begun, Got, ReadAll, Source};
 use ol_limits::{MOST_JOURNAL_BYTES, NoMemory};
 use ol_net::Net;
-use ol_objects::Layout;
-use ol_subjects::{Answer, End, NetRead, Subject, read_subject};
+use ol_subjects::{Answer, End, Layout, NetRead, Subject, read_subject};
 use ol_view::{Check, Checker};
 use std::alloc::Global;
 

@@ -14,11 +14,10 @@ use ol_limits::{
     Fuel, Heads, MOST_EDGES, MOST_FUEL, MOST_HEADS, MOST_JOURNAL_BYTES, MOST_NODES, MOST_STEPS,
     PLAIN_FUEL, PLAIN_HEADS,
 };
-use ol_objects::Layout;
 use ol_orders::Order;
 use ol_steps::Shown;
 use ol_strategies::Order as Reduction;
-use ol_subjects::Subject;
+use ol_subjects::{Layout, Subject};
 use ol_term::Translation;
 use ol_walks::Wanted;
 use std::alloc::Global;

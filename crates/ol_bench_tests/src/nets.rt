@@ -7,9 +7,8 @@ use crate::rows::assert_one;
 use ol_bench::OnOne;
 use ol_counts::{Bounds, Columns};
 use ol_limits::{Fuel, Heads};
-use ol_objects::Layout;
 use ol_orders::Order;
-use ol_subjects::Subject;
+use ol_subjects::{Layout, Subject};
 use ol_term::Translation;
 use std::test::Fail;
 

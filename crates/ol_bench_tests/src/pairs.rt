@@ -4,8 +4,7 @@ ghost use Rattle.ol_bench.specs.Commands.{IsTwoWithin};
 
 use crate::rows::assert_two;
 use ol_bench::OnTwo;
-use ol_objects::Layout;
-use ol_subjects::Subject;
+use ol_subjects::{Layout, Subject};
 use ol_term::Translation;
 use std::test::Fail;
 

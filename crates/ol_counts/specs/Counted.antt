@@ -5,7 +5,7 @@ use Rattle.ol_term.specs.declared.translations.Translation.{Translation}
 use Rattle.ol_term.specs.Trees.{Tree}
 use Rattle.ol_net.specs.Graph.{Graph}
 use Rattle.ol_netfile.specs.NetTexts.{IsNetRead}
-use Rattle.ol_objects.specs.declared.layouts.Layout.{Layout}
+use Rattle.ol_subjects.specs.declared.layouts.Layout.{Layout}
 use Rattle.ol_subjects.specs.declared.answers.End.{End}
 use Rattle.ol_subjects.specs.declared.answers.End.TheVariants.{Refused}
 use Rattle.ol_subjects.specs.declared.subjects.Subject.{Subject}

@@ -3,8 +3,8 @@ use Rattle.std.specs.Prelude.{ℕ, List, [], ◌∷◌, ◌++◌, codes}
 use Rattle.std.specs.Fmt.{decimal}
 use Rattle.std.specs.List.{flat_map}
 use Rattle.ol_rules.specs.declared.journal.Counts.{Counts}
-use Rattle.ol_objects.specs.declared.layouts.Layout.{Layout}
-use Rattle.ol_objects.specs.declared.layouts.Layout.TheVariants.{Lines, Object}
+use Rattle.ol_subjects.specs.declared.layouts.Layout.{Layout}
+use Rattle.ol_subjects.specs.declared.layouts.Layout.TheVariants.{Lines, Object}
 use Rattle.ol_counts.specs.declared.tables.Column.{Column}
 use Rattle.ol_counts.specs.declared.tables.Row.{Row}
 use Rattle.ol_counts.specs.declared.tables.Row.TheVariants as row

@@ -4,7 +4,7 @@ use Rattle.std.specs.Borrow.{Bor}
 use Rattle.ol_term.specs.declared.terms.Term.{Term}
 use Rattle.ol_term.specs.Trees.{Tree, tree_of}
 use Rattle.ol_net.specs.Graph.{Graph}
-use Rattle.ol_objects.specs.declared.layouts.Layout.{Layout}
+use Rattle.ol_subjects.specs.declared.layouts.Layout.{Layout}
 use Rattle.ol_subjects.specs.declared.answers.End.{End}
 use Rattle.ol_counts.specs.declared.tables.Column.{Column}
 use Rattle.ol_counts.specs.declared.ways.Bounds.{Bounds}

@@ -13,8 +13,7 @@ use crate::tallies::tally_of;
 use crate::ways::{Bounds, Columns, WAYS, is_shown};
 use ol_limits::NoMemory;
 use ol_net::Net;
-use ol_objects::Layout;
-use ol_subjects::{Answer, End, NetRead, Subject, TermRead, read_subject, read_term};
+use ol_subjects::{Answer, End, Layout, NetRead, Subject, TermRead, read_subject, read_term};
 use ol_term::{Term, Translation};
 use std::alloc::Global;
 

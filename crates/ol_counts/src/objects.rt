@@ -8,9 +8,8 @@ use crate::tables::{Column, NET_ROWS, Row, in_row, table};
 use crate::tallies::Tally;
 use crate::ways::title;
 use ol_limits::NoMemory;
-use ol_objects::Layout;
 use ol_rules::Counts;
-use ol_subjects::{put, put_number};
+use ol_subjects::{Layout, put, put_number};
 use std::alloc::Global;
 
 fn key(row: Row) -> &'static str

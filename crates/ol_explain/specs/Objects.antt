@@ -9,9 +9,9 @@ use Rattle.ol_subjects.specs.declared.answers.End.{End}
 use Rattle.ol_subjects.specs.declared.answers.End.TheVariants as end
 use Rattle.ol_subjects.specs.declared.subjects.Subject.{Subject}
 use Rattle.ol_subjects.specs.Subjects.{IsSubject, Refuses}
-use Rattle.ol_objects.specs.declared.layouts.Layout.{Layout}
-use Rattle.ol_objects.specs.declared.layouts.Layout.TheVariants.{Lines, Object}
-use Rattle.ol_objects.specs.Strings.{array_of, lines_of}
+use Rattle.ol_subjects.specs.declared.layouts.Layout.{Layout}
+use Rattle.ol_subjects.specs.declared.layouts.Layout.TheVariants.{Lines, Object}
+use Rattle.ol_subjects.specs.Strings.{array_of, lines_of}
 use Rattle.ol_explain.specs.Explained.{IsExplained}
 use Rattle.ol_explain.specs.Judged.{end_of, found_line}
 

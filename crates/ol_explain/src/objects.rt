@@ -10,8 +10,9 @@ use crate::explaining::of_net;
 use crate::judging::answer_of;
 use crate::others::put_other;
 use ol_limits::NoMemory;
-use ol_objects::{Layout, put_lines};
-use ol_subjects::{Answer, End, NetRead, Subject, put, put_number, read_subject};
+use ol_subjects::{
+    Answer, End, Layout, NetRead, Subject, put, put_lines, put_number, read_subject,
+};
 use ol_view::{Check, check};
 use std::alloc::Global;
 

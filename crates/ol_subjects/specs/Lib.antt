@@ -2,3 +2,4 @@
 pub mod Limited
 pub mod Subjects
 pub mod Readied
+pub mod Strings

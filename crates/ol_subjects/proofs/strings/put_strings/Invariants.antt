@@ -1,6 +1,6 @@
 use Rattle.std.proofs.Common.{◌≡◌, ◌++◌, [], map, drop}
-use Rattle.ol_objects.specs.Strings.{strings_after}
-use Rattle.ol_objects.proofs.strings.put_strings.Given as goal
+use Rattle.ol_subjects.specs.Strings.{strings_after}
+use Rattle.ol_subjects.proofs.strings.put_strings.Given as goal
 
 -- with the strings of the lines that are left it is the whole
 abbrev pub invariant-loop-k : goal.invariant-loop-k

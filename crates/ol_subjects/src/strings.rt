@@ -1,10 +1,10 @@
 //! Strings and arrays of strings, as JSON writes them.
 
 ghost use Rattle.std.specs.Prelude.{◌≡◌, ◌++◌, ◌<◌, [], map, IfOk, OnOk};
-ghost use Rattle.ol_objects.specs.Strings.{array_of, hex_digit, in_string, lines_of, pieces_of, stands, string, strings_after};
+ghost use Rattle.ol_subjects.specs.Strings.{array_of, hex_digit, in_string, lines_of, pieces_of, stands, string, strings_after};
 
+use crate::texts::put;
 use ol_limits::NoMemory;
-use ol_subjects::put;
 use std::alloc::{AllocError, Global};
 
 fn stands(byte: u8) -> bool

@@ -1,8 +1,8 @@
 use Rattle.std.proofs.Common.{◌≡◌, ◌++◌, drop}
 use Rattle.std.specs.Prelude.{codes}
 use Rattle.std.specs.List.{flat_map}
-use Rattle.ol_objects.specs.Strings.{in_string}
-use Rattle.ol_objects.proofs.strings.put_string.Given as goal
+use Rattle.ol_subjects.specs.Strings.{in_string}
+use Rattle.ol_subjects.proofs.strings.put_string.Given as goal
 
 -- with what stands for the bytes that are left it is the whole
 abbrev pub invariant-loop-byte : goal.invariant-loop-byte
