@@ -5,8 +5,8 @@ use Rattle.std.specs.Prelude.{◌==◌, if◌then◌else◌}
 use Rattle.std.proofs.Math.Seq.{take-append_seam, drop-append_seam}
 use Rattle.ol_parse.specs.Grammar.{Named, Token, name, let_key, in_key, lambda, dot, equals, open_bracket, close_bracket}
 use Rattle.ol_parse.specs.Texts.{is_word, Spells, spells_none, spells_one, IsText}
-use Rattle.ol_tokens.specs.declared.tokens.FirstToken.{FirstToken}
-use Rattle.ol_tokens.specs.Tokens.{kind_token, IsFirstToken}
+use Rattle.ol_places.specs.declared.tokens.FirstToken.{FirstToken}
+use Rattle.ol_places.specs.Tokens.{kind_token, IsFirstToken}
 use Rattle.ol_folds.specs.declared.fronts.Spot.{Spot}
 use Rattle.ol_folds.specs.declared.fronts.Spot.TheVariants.{Front, Value, Behind}
 use Rattle.ol_folds.specs.Fronts.{lets_of_term}

@@ -2,11 +2,11 @@
 
 ghost use Rattle.std.specs.Prelude.{◌≡◌, ◌+◌, ◌≤◌, ◌<◌, ◌^◌, if◌then◌else◌, length};
 ghost use Rattle.ol_limits.specs.Limits.{most_term_bytes};
-ghost use Rattle.ol_tokens.specs.Tokens.{kind_token};
+ghost use Rattle.ol_places.specs.Tokens.{kind_token};
 ghost use Rattle.ol_folds.specs.Fronts.{BeginsWithLets};
 ghost use Rattle.ol_folds.specs.Scanned.{begins_let, open_in, spot_after};
 
-use ol_tokens::{Kind, first_token};
+use ol_places::{Kind, first_token};
 
 /// Where a scan of tokens is: at the front, where a let may begin; in the value of a let that
 /// stands there, within so many lets of it; or behind the front.

@@ -6,7 +6,7 @@ use Rattle.ol_parse.specs.Grammar.{Token}
 use Rattle.ol_parse.specs.Texts.{Class, blank, hash, letter, sign, lead, class_of, in_word, token_of, is_word, IsLine, IsGap}
 use Rattle.ol_parse.specs.Texts.{gap_none, gap_blank, gap_comment, IsLastGap, last_gap, last_comment, AreInWord, IsToken}
 use Rattle.ol_parse.specs.Texts.{token_sign, token_letter, token_word, Spells, spells_none, spells_one}
-use Rattle.ol_tokens.proofs.Lengths.{token_some}
+use Rattle.ol_places.proofs.Lengths.{token_some}
 use Rattle.ol_places.specs.Lets.{let_start}
 
 -- ---- lists

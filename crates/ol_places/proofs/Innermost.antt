@@ -5,9 +5,9 @@ use Rattle.std.proofs.Math.Seq.{drop-append_seam}
 use Rattle.std.specs.Prelude.{IsSome, IfSome, IsTrue, ◌↔◌, option_to_list}
 use Rattle.ol_parse.specs.Grammar.{Named, Token, name, let_key, in_key, equals}
 use Rattle.ol_parse.specs.Texts.{Spells, spells_none, spells_one, IsText, BeginsText}
-use Rattle.ol_tokens.specs.declared.tokens.FirstToken.{FirstToken}
-use Rattle.ol_tokens.specs.Tokens.{kind_token, IsFirstToken}
-use Rattle.ol_tokens.proofs.Lengths.{token_some}
+use Rattle.ol_places.specs.declared.tokens.FirstToken.{FirstToken}
+use Rattle.ol_places.specs.Tokens.{kind_token, IsFirstToken}
+use Rattle.ol_places.proofs.Lengths.{token_some}
 use Rattle.ol_places.specs.Lets.{let_start, IsOpenLet, IsInnermostLet}
 use Rattle.ol_places.specs.Scanned.{lets_after, lets_from, IsLast, nothing, top, IsLastLet}
 use Rattle.ol_places.proofs.Cuts.{Seam, inside, beyond, no_false, seam, head_of, tail_of, none_ends, Cut, cut}

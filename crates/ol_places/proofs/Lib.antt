@@ -1,6 +1,13 @@
+pub mod Lengths
+pub mod Firsts
 pub mod Blanks
 pub mod Stops
 pub mod Cuts
 pub mod Nesting
 pub mod Innermost
 pub mod Taken
+pub mod ScannedNames
+pub mod Lefts
+pub mod Unique
+pub mod Turns
+pub mod Refused

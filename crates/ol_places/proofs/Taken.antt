@@ -1,10 +1,10 @@
 -- One token is taken.
 use Rattle.std.proofs.Common.{◌≡◌, ℕ, ◌-◌, List, [], ◌∷◌, ◌++◌, length, take, refl, sym, ap, ◌∙◌, subst}
-use Rattle.ol_tokens.specs.declared.tokens.Kind.{Kind}
-use Rattle.ol_tokens.specs.declared.tokens.Kind.TheVariants as kind
-use Rattle.ol_tokens.specs.declared.tokens.Sign.{Sign}
-use Rattle.ol_tokens.specs.declared.tokens.Sign.TheVariants as sign
-use Rattle.ol_tokens.specs.Tokens.{sign_token, kind_token}
+use Rattle.ol_places.specs.declared.tokens.Kind.{Kind}
+use Rattle.ol_places.specs.declared.tokens.Kind.TheVariants as kind
+use Rattle.ol_places.specs.declared.tokens.Sign.{Sign}
+use Rattle.ol_places.specs.declared.tokens.Sign.TheVariants as sign
+use Rattle.ol_places.specs.Tokens.{sign_token, kind_token}
 use Rattle.ol_places.specs.Scanned.{lets_after}
 
 module _ (k : Kind) (lets : List ℕ) (at : ℕ) where

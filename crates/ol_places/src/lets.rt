@@ -2,15 +2,15 @@
 
 ghost use Rattle.std.specs.Prelude.{◌≡◌, ℕ, ◌<◌, ◌≤◌, List, length, IfOk, IfSome, OnOk};
 ghost use Rattle.ol_limits.specs.Limits.{most_term_bytes};
-ghost use Rattle.ol_tokens.specs.Tokens.{kind_token};
+ghost use Rattle.ol_places.specs.Tokens.{kind_token};
 ghost use Rattle.ol_places.specs.Lets.{IsInnermostLet, IsLetLine};
 ghost use Rattle.ol_places.specs.Scanned.{lets_after, IsLastLet, IsOpenLine};
 
 use crate::placing::{line_of, put_line_and_column};
 use crate::stopping::goes_on;
+use crate::tokens::{Kind, first_token};
 use ol_limits::NoMemory;
 use ol_subjects::put;
-use ol_tokens::{Kind, first_token};
 use std::alloc::Global;
 
 // Takes a token of this kind, which begins at this byte.

@@ -1,7 +1,7 @@
 use Rattle.std.proofs.Common.{◌≡◌, ◌+◌, ◌-◌, ◌<◌, ◌≤◌, length, length-drop, sym, ap, ◌∙◌, subst, arith}
 use Rattle.ol_folds.specs.declared.fronts.Spot.{Spot}
 use Rattle.ol_folds.specs.Scanned.{open_in, spot_after}
-use Rattle.ol_tokens.specs.Tokens.{kind_token}
+use Rattle.ol_places.specs.Tokens.{kind_token}
 use Rattle.ol_folds.proofs.Counting.{counted_begin, counted_more, counted_end, open_few}
 use Rattle.ol_folds.proofs.fronts.front_lets.Goals as goal
 

@@ -1,5 +1,0 @@
-pub mod Scanned
-pub mod Lefts
-pub mod Unique
-pub mod Turns
-pub mod Refused

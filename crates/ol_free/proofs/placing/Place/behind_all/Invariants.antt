@@ -1,7 +1,0 @@
-use Rattle.std.proofs.Common.{◌≡◌, ◌+◌, ◌≤◌, drop}
-use Rattle.ol_free.specs.Frees.{behind_all}
-use Rattle.ol_free.proofs.placing.Place.behind_all.Given as goal
-
-abbrev pub invariant-loop-k : goal.invariant-loop-k
-invariant-loop-k l = (behind_all l.place (drop l.k l.bytes) ≡ behind_all l.fn.self l.bytes)
-    × (l.place.line ≤ l.fn.self.line + l.k) × (l.place.column ≤ l.fn.self.column + l.k)
