@@ -33,10 +33,10 @@ use Rattle.ol_explain.specs.Judged.{IsJudged}
 use Rattle.ol_explain.specs.Objects.{IsJudgedObject, IsExplainedObject}
 use Rattle.ol_subjects.specs.declared.layouts.Layout.{Layout}
 use Rattle.ol_subjects.specs.declared.layouts.Layout.TheVariants.{Lines, Object}
-use Rattle.ol_same.specs.Same.{IsSame}
+use Rattle.ol_orders.specs.Same.{IsSame}
 use Rattle.ol_places.specs.Frees.{IsFree}
 use Rattle.ol_waves.specs.Answers.{IsWavesAnswer}
-use Rattle.ol_stories.specs.Stories.{IsStoryAnswer}
+use Rattle.ol_orders.specs.Stories.{IsStoryAnswer}
 use Rattle.ol_walks.specs.declared.telling.Wanted.{Wanted}
 use Rattle.ol_walks.specs.Answers.{IsFrameWalk}
 use Rattle.ol_grades.specs.declared.grading.Student.{Student}

@@ -23,7 +23,7 @@ use Rattle.ol_diamond.proofs.Rewirings.{Clear}
 use Rattle.ol_diamond.proofs.WaveEntries.{IsWaveEntry, WavedRun, ends, goes, entry_of}
 use Rattle.ol_diamond.proofs.WaveSteps.{step_has_wave}
 use Rattle.ol_explain.specs.Found.{IsOfPair}
-use Rattle.ol_replay.specs.Replays.{AreRising}
+use Rattle.ol_orders.specs.Replays.{AreRising}
 use Rattle.ol_explain.proofs.Waits.{AllWait, steps, faces_of, apart, apart_named, all_stay}
 
 -- a link weighs as much from either end

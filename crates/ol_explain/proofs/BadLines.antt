@@ -8,11 +8,11 @@ use Rattle.ol_view.specs.declared.forms.Form.{Form}
 use Rattle.ol_view.specs.Checks.{start_net_of_graph, IsFound}
 use Rattle.ol_subjects.specs.declared.answers.End.TheVariants as end
 use Rattle.ol_explain.specs.declared.following.Stop.TheVariants as stop
-use Rattle.ol_replay.specs.declared.replaying.Replay.{Replay}
+use Rattle.ol_orders.specs.declared.replaying.Replay.{Replay}
 use Rattle.ol_explain.specs.Afters.{line_with}
 use Rattle.ol_explain.specs.Explained.{IsExplainedOf, bad_text}
 use Rattle.ol_explain.specs.Followed.{Stops}
-use Rattle.ol_replay.specs.Replays.{net_here}
+use Rattle.ol_orders.specs.Replays.{net_here}
 use Rattle.ol_explain.specs.Wanted.{IsReached, bytes_at, end_at}
 use Rattle.ol_explain.specs.Wanted as wanted
 use Rattle.ol_explain.specs.Fields.{IsBrokenBy, IsBadBy, broken, unordered}

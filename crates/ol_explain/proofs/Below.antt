@@ -7,7 +7,7 @@ use Rattle.ol_diamond.specs.declared.weighing.Rewritten.{Rewritten}
 use Rattle.ol_view.specs.declared.answers.Check.TheVariants.{BadText, NotARun}
 use Rattle.ol_view.specs.declared.forms.Form.{Form}
 use Rattle.ol_view.specs.declared.line_reading.Line.{Line}
-use Rattle.ol_replay.specs.declared.replaying.Replay.{Replay}
+use Rattle.ol_orders.specs.declared.replaying.Replay.{Replay}
 use Rattle.ol_explain.specs.Afters.{line_with}
 use Rattle.ol_explain.specs.Explained.{cause_words}
 use Rattle.ol_explain.specs.Explanations.{IsBelow}

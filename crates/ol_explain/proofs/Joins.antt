@@ -23,9 +23,9 @@ use Rattle.ol_view.specs.declared.forms.Form.{Form}
 use Rattle.ol_view.specs.declared.forms.Form.TheVariants.{One, Two}
 use Rattle.ol_view.specs.declared.line_reading.Line.{Line}
 use Rattle.ol_view.specs.Checks.{start_net_of_graph, IsRunTold}
-use Rattle.ol_replay.specs.declared.replaying.Replay.{Replay}
-use Rattle.ol_replay.specs.Replays.{net_here, names_of, IsReplay, ReplaysNamed, AreApart}
-use Rattle.ol_replay.proofs.KeptRuns.{run_named, advanced}
+use Rattle.ol_orders.specs.declared.replaying.Replay.{Replay}
+use Rattle.ol_orders.specs.Replays.{net_here, names_of, IsReplay, ReplaysNamed, AreApart}
+use Rattle.ol_orders.proofs.KeptRuns.{run_named, advanced}
 use Rattle.ol_explain.specs.Explained.{IsJoinedAfter}
 use Rattle.ol_explain.specs.Followed.{IsTold, IsOff}
 use Rattle.ol_explain.proofs.Leaving.{taken_on}

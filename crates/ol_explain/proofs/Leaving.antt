@@ -27,7 +27,7 @@ use Rattle.ol_view.proofs.Finding.{last_is}
 use Rattle.ol_view.proofs.WaveTraces.{wave_lines_on}
 use Rattle.ol_explain.specs.Left.{GoesOnWith, AreInOrder, AreLeft, lines_of, more_text, left_text}
 use Rattle.ol_explain.specs.Found.{IsOfPair}
-use Rattle.ol_replay.specs.Replays.{AreRising}
+use Rattle.ol_orders.specs.Replays.{AreRising}
 use Rattle.ol_explain.proofs.Waits.{AllWait, of_step, pair_same, run_all}
 use Rattle.ol_explain.proofs.Alone.{balanced, balanced_first, IsNext, AllNext, all_next, others_next}
 use Rattle.ol_explain.proofs.Alone.{parted}

@@ -15,12 +15,12 @@ use Rattle.ol_view.specs.declared.forms.Form.{Form}
 use Rattle.ol_view.specs.declared.forms.Form.TheVariants.{One, Two}
 use Rattle.ol_view.specs.EachForm.{wave_lines_text}
 use Rattle.ol_view.specs.Checks.{start_net_of_graph, BeginsWithRun}
-use Rattle.ol_replay.specs.declared.replaying.Replay.{Replay}
-use Rattle.ol_replay.specs.Replays.{IsReplay}
-use Rattle.ol_replay.specs.Replays.{net_here}
+use Rattle.ol_orders.specs.declared.replaying.Replay.{Replay}
+use Rattle.ol_orders.specs.Replays.{IsReplay}
+use Rattle.ol_orders.specs.Replays.{net_here}
 use Rattle.ol_explain.specs.Left.{more_text, left_text, TellsLeft}
 use Rattle.ol_explain.specs.Found.{IsOfPair, AreFound, IsLeftText, IsToldBy}
-use Rattle.ol_replay.proofs.KeptRuns.{run_named}
+use Rattle.ol_orders.proofs.KeptRuns.{run_named}
 use Rattle.ol_explain.proofs.Finds.{each_found}
 use Rattle.ol_explain.proofs.Leaving.{leaves, run_on_all, text_of_left}
 

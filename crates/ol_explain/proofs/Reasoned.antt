@@ -16,10 +16,10 @@ use Rattle.ol_view.specs.Checks.{start_net_of_graph, BeginsWithRun, IsFound, IsR
 use Rattle.ol_view.proofs.FoundCases as found
 use Rattle.ol_subjects.specs.declared.answers.End.TheVariants as end
 use Rattle.ol_explain.specs.declared.following.Stop.TheVariants as stop
-use Rattle.ol_replay.specs.declared.replaying.Replay.{Replay}
+use Rattle.ol_orders.specs.declared.replaying.Replay.{Replay}
 use Rattle.ol_explain.specs.Explained.{cause_words, IsExplainedOf, not_a_run}
 use Rattle.ol_explain.specs.Followed.{Stops, otherwise}
-use Rattle.ol_replay.specs.Replays.{net_here}
+use Rattle.ol_orders.specs.Replays.{net_here}
 use Rattle.ol_explain.specs.Reasons.{AreJoined, IsOffBy}
 use Rattle.ol_explain.specs.Found.{IsToldBy}
 use Rattle.ol_explain.proofs.Joins.{joined_by}

@@ -15,9 +15,9 @@ use Rattle.ol_diamond.proofs.OneStep.{one_entry_rule}
 use Rattle.ol_diamond.proofs.Replays.{Index}
 use Rattle.ol_view.proofs.OneVerdict.{not_idle}
 use Rattle.ol_view.proofs.Replays.{idle_names}
-use Rattle.ol_replay.specs.declared.replaying.Replay.{Replay}
-use Rattle.ol_replay.specs.Replays.{IsReplay, ReplaysPair, ReplaysNamed, AreApart}
-use Rattle.ol_replay.proofs.KeptRuns as kept
+use Rattle.ol_orders.specs.declared.replaying.Replay.{Replay}
+use Rattle.ol_orders.specs.Replays.{IsReplay, ReplaysPair, ReplaysNamed, AreApart}
+use Rattle.ol_orders.proofs.KeptRuns as kept
 
 module _ (old : Graph) (r : Replay) (u : IsReplay old r) where
   names : Names (length old.nodes) (length r.net.nodes) (length r.run.journal) u.m

@@ -19,7 +19,7 @@ use Rattle.ol_rules.proofs.Relation.{same_refl, next}
 use Rattle.ol_rules.proofs.Same.{active_same}
 use Rattle.ol_diamond.proofs.Commute.{Disjoint, faces_still}
 use Rattle.ol_explain.specs.Found.{IsOfPair}
-use Rattle.ol_replay.specs.Replays.{AreRising}
+use Rattle.ol_orders.specs.Replays.{AreRising}
 
 -- the entry names these two nodes
 abbrev pub AreNamed : Entry → NodeName → NodeName → Type 0

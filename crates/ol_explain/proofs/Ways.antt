@@ -35,11 +35,11 @@ use Rattle.ol_view.proofs.Entries.{Read, line_there, IsOfEntry, of_entry, first_
 use Rattle.ol_view.proofs.Finding.{UnderWay}
 use Rattle.ol_view.proofs.FormTexts.{text_on}
 use Rattle.ol_view.proofs.Replays.{idle_names}
-use Rattle.ol_replay.specs.declared.replaying.Replay.{Replay}
-use Rattle.ol_replay.specs.Replays.{IsReplay, ReplaysNamed, AreApart}
+use Rattle.ol_orders.specs.declared.replaying.Replay.{Replay}
+use Rattle.ol_orders.specs.Replays.{IsReplay, ReplaysNamed, AreApart}
 use Rattle.ol_explain.specs.Followed.{IsTold, IsOff}
-use Rattle.ol_replay.specs.Replays.{net_here}
-use Rattle.ol_replay.proofs.KeptRuns.{run_named, advanced}
+use Rattle.ol_orders.specs.Replays.{net_here}
+use Rattle.ol_orders.proofs.KeptRuns.{run_named, advanced}
 use Rattle.ol_explain.proofs.Steps as steps
 
 -- The text up to `at` is the trace of the run of these entries, which leads to g.

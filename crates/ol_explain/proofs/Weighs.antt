@@ -28,9 +28,9 @@ use Rattle.ol_diamond.proofs.WeighedEntries.{net_is, weighted_named, wave_entry}
 use Rattle.ol_view.specs.Checks.{start_net_of_graph}
 use Rattle.ol_view.proofs.OneVerdict.{not_idle, one_entry}
 use Rattle.ol_view.proofs.Replays.{idle_names}
-use Rattle.ol_replay.specs.declared.replaying.Replay.{Replay}
-use Rattle.ol_replay.specs.Replays.{names_of, net_here, IsReplay}
-use Rattle.ol_replay.proofs.KeptRuns.{run_named}
+use Rattle.ol_orders.specs.declared.replaying.Replay.{Replay}
+use Rattle.ol_orders.specs.Replays.{names_of, net_here, IsReplay}
+use Rattle.ol_orders.proofs.KeptRuns.{run_named}
 use Rattle.ol_explain.specs.declared.naming.Beside.{Beside}
 use Rattle.ol_explain.specs.Afters.{IsWeighedRun, ended, first, shown_text}
 use Rattle.ol_explain.specs.Besides.{port_weight, weighted_by, beside_words, IsWeighed, IsBeside, IsShown}

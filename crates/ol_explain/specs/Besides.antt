@@ -11,8 +11,8 @@ use Rattle.ol_rules.specs.UnderWay.{node_number}
 use Rattle.ol_diamond.specs.declared.weighing.Weighing.{Weighing}
 use Rattle.ol_diamond.specs.Waves.{WeightedNet, weightless}
 use Rattle.ol_view.specs.Checks.{start_net_of_graph}
-use Rattle.ol_replay.specs.declared.replaying.Replay.{Replay}
-use Rattle.ol_replay.specs.Replays.{names_of, net_here}
+use Rattle.ol_orders.specs.declared.replaying.Replay.{Replay}
+use Rattle.ol_orders.specs.Replays.{names_of, net_here}
 use Rattle.ol_explain.specs.declared.naming.Beside.{Beside}
 use Rattle.ol_explain.specs.declared.naming.Beside.TheVariants.{Nothing, Weights}
 use Rattle.ol_explain.specs.NamedTexts.{no_words}

@@ -13,10 +13,10 @@ use Rattle.ol_view.specs.declared.line_reading.Line.{Line}
 use Rattle.ol_view.specs.LineReading.{TellsOf}
 use Rattle.ol_view.specs.Checks.{start_net_of_graph, IsFound, IsRunTold, BeginsWithRun, HasNoLine}
 use Rattle.ol_view.specs.Forms.{header_of, BeginsWithEntry}
-use Rattle.ol_replay.specs.declared.replaying.Replay.{Replay}
+use Rattle.ol_orders.specs.declared.replaying.Replay.{Replay}
 use Rattle.ol_explain.specs.declared.following.Stop.{Stop}
 use Rattle.ol_explain.specs.declared.following.Stop.TheVariants as stop
-use Rattle.ol_replay.specs.Replays.{net_here}
+use Rattle.ol_orders.specs.Replays.{net_here}
 
 -- The text of a form begins with that of the run's entries, and what follows begins here.
 abbrev pub IsTold : Form → List ℕ → Graph → Replay → List ℕ → ℕ → Type 0

@@ -5,7 +5,7 @@ ghost use Rattle.std.specs.Prelude.{string_bytes, slice_get, OnOk, IfOk, IfSome,
 ghost use Rattle.ol_net.specs.Nets.{slot, Linked};
 ghost use Rattle.ol_rules.specs.declared.journal.Entry.{Entry};
 ghost use Rattle.ol_view.specs.LineReading.{TellsOf};
-ghost use Rattle.ol_replay.specs.Replays.{names_of, net_here, IsReplay};
+ghost use Rattle.ol_orders.specs.Replays.{names_of, net_here, IsReplay};
 ghost use Rattle.ol_explain.specs.Explained.{IsGone, Names, NoneNames, FacesCopy, FacesNoCopy};
 ghost use Rattle.ol_explain.specs.Explained.{never_text, copy_text, link_text, cause_words};
 ghost use Rattle.ol_explain.specs.Reasons.{IsReplayed, IsLive, IsNodeNamed};
@@ -18,7 +18,7 @@ use crate::naming::{put, put_long, put_number};
 use ol_diamond::Rewritten;
 use ol_limits::NoMemory;
 use ol_net::{Net, NodeId, Port, Rule};
-use ol_replay::Replay;
+use ol_orders::Replay;
 use ol_rules::{Entry, Journal, NodeName};
 use ol_view::{Line, put_name, rule_word};
 use std::alloc::Global;

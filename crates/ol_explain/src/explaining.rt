@@ -5,7 +5,7 @@ ghost use Rattle.std.specs.Prelude.{◌≡◌, ◌≤◌, ◌<◌, length, IfOk,
 ghost use Rattle.ol_view.specs.LineReading.{TellsOf};
 ghost use Rattle.ol_explain.specs.Found.{IsToldBy};
 ghost use Rattle.ol_explain.specs.Reasons.{AreJoined, IsOffBy};
-ghost use Rattle.ol_replay.specs.Replays.{IsReplay};
+ghost use Rattle.ol_orders.specs.Replays.{IsReplay};
 ghost use Rattle.ol_explain.specs.Explained.{IsExplained};
 ghost use Rattle.ol_explain.specs.Explanations.{IsExplanation};
 ghost use Rattle.ol_subjects.specs.Subjects.{most_bytes};
@@ -21,7 +21,7 @@ use crate::wanting::{bad_header, bad_line, past_the_end};
 use ol_diamond::Rewritten;
 use ol_limits::{MOST_FUEL, NoMemory};
 use ol_net::Net;
-use ol_replay::Replay;
+use ol_orders::Replay;
 use ol_subjects::{Answer, End, NetRead, Subject, read_subject};
 use ol_view::{Check, Line, check};
 use std::alloc::Global;

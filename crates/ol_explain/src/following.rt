@@ -1,14 +1,14 @@
 //! A journal, followed line by line by a run from a net.
 
 ghost use Rattle.std.specs.Prelude.{◌≤◌, length, IfOk};
-ghost use Rattle.ol_replay.specs.Replays.{IsReplay};
+ghost use Rattle.ol_orders.specs.Replays.{IsReplay};
 ghost use Rattle.ol_explain.specs.Followed.{Stops};
 ghost use Rattle.ol_limits.specs.Limits.{most_fuel, most_nodes};
 
 use ol_diamond::{Rewritten, Weighing};
 use ol_limits::NoMemory;
 use ol_net::Net;
-use ol_replay::Replay;
+use ol_orders::Replay;
 use ol_view::{Form, Line, form_of, is_so, line_at};
 use std::alloc::Global;
 

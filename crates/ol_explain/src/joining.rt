@@ -3,14 +3,14 @@
 ghost use Rattle.std.specs.Prelude.{◌≡◌, ◌≤◌, true, false, length, IfOk};
 ghost use Rattle.ol_net.specs.Nets.{slot, Linked};
 ghost use Rattle.ol_view.specs.Checks.{start_net_of_graph};
-ghost use Rattle.ol_replay.specs.Replays.{net_here, IsReplay};
+ghost use Rattle.ol_orders.specs.Replays.{net_here, IsReplay};
 ghost use Rattle.ol_explain.specs.Explained.{IsJoinedAfter};
 ghost use Rattle.ol_explain.specs.Reasons.{IsReplayed};
 ghost use Rattle.ol_limits.specs.Limits.{most_fuel, most_nodes};
 
 use ol_limits::NoMemory;
 use ol_net::Net;
-use ol_replay::Replay;
+use ol_orders::Replay;
 use ol_rules::{NodeName, are_facing};
 use std::alloc::Global;
 

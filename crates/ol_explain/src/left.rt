@@ -4,7 +4,7 @@ ghost use Rattle.std.specs.Prelude.{◌≡◌, ℕ, ◌<◌, ◌≤◌, ◌+◌,
 ghost use Rattle.std.specs.Prelude.{string_bytes, OnOk, IfOk};
 ghost use Rattle.ol_view.specs.EachForm.{wave_line_text, wave_lines_text};
 ghost use Rattle.ol_explain.specs.Afters.{line_with};
-ghost use Rattle.ol_replay.specs.Replays.{IsReplay};
+ghost use Rattle.ol_orders.specs.Replays.{IsReplay};
 ghost use Rattle.ol_explain.specs.Reasons.{IsReplayed};
 ghost use Rattle.ol_explain.specs.Left.{more_text};
 ghost use Rattle.ol_subjects.specs.declared.answers.End.{End};
@@ -15,7 +15,7 @@ use crate::naming::{put, put_number};
 use ol_diamond::{WaveList, waves};
 use ol_limits::NoMemory;
 use ol_net::{Facing, Net, NodeId, Port};
-use ol_replay::Replay;
+use ol_orders::Replay;
 use ol_rules::{Entry, Journal};
 use ol_subjects::{Answer, End};
 use ol_view::{put_name, rule_word};

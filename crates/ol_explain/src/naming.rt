@@ -5,12 +5,12 @@ ghost use Rattle.std.specs.Fmt.{decimal};
 ghost use Rattle.ol_net.specs.Graph.{kind_at, partner_of};
 ghost use Rattle.ol_explain.specs.NamedTexts.{named_port, named_partner, named_free, named_node, named_nodes, named_text};
 ghost use Rattle.ol_explain.specs.Besides.{port_weight, port_named, beside_words};
-ghost use Rattle.ol_replay.specs.Replays.{names_of};
+ghost use Rattle.ol_orders.specs.Replays.{names_of};
 
 use ol_diamond::Weighing;
 use ol_limits::NoMemory;
 use ol_net::{IndexOf, NodeId, Port};
-use ol_replay::Replay;
+use ol_orders::Replay;
 use ol_view::put_name;
 use std::alloc::Global;
 use std::fmt;

@@ -4,7 +4,7 @@ ghost use Rattle.std.specs.Prelude.{◌≡◌, ◌+◌, ◌≤◌, length, IfOk}
 ghost use Rattle.ol_view.specs.Laws.{IsTable};
 ghost use Rattle.ol_explain.specs.Afters.{IsAfter, IsAfterOf, IsAfterWithWeights, IsPausedAnswer, shown_text};
 ghost use Rattle.ol_explain.specs.Besides.{IsShown, beside_words};
-ghost use Rattle.ol_replay.specs.Replays.{IsReplay, names_of};
+ghost use Rattle.ol_orders.specs.Replays.{IsReplay, names_of};
 ghost use Rattle.ol_subjects.specs.Subjects.{most_bytes};
 ghost use Rattle.ol_limits.specs.Limits.{most_fuel, most_nodes};
 
@@ -14,7 +14,7 @@ use crate::naming::{Beside, named_net};
 use crate::weighing::words_beside;
 use ol_limits::NoMemory;
 use ol_net::Net;
-use ol_replay::Replay;
+use ol_orders::Replay;
 use ol_subjects::{Answer, End, NetRead, Subject, put, put_number, read_subject};
 use std::alloc::Global;
 

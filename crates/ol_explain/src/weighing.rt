@@ -5,7 +5,7 @@ ghost use Rattle.ol_net.specs.Nets.{NamedNet};
 ghost use Rattle.ol_rules.specs.declared.journal.NodeName.{NodeName};
 ghost use Rattle.ol_rules.specs.Runs.{IsRun};
 ghost use Rattle.ol_view.specs.Checks.{start_net_of_graph};
-ghost use Rattle.ol_replay.specs.Replays.{IsReplay};
+ghost use Rattle.ol_orders.specs.Replays.{IsReplay};
 ghost use Rattle.ol_explain.specs.Besides.{IsWeighed, IsBeside};
 ghost use Rattle.ol_limits.specs.Limits.{most_fuel, most_nodes};
 
@@ -13,7 +13,7 @@ use crate::naming::Beside;
 use ol_diamond::Weighing;
 use ol_limits::NoMemory;
 use ol_net::Net;
-use ol_replay::Replay;
+use ol_orders::Replay;
 use ol_rules::Journal;
 use std::alloc::Global;
 

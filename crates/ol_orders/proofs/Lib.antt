@@ -1,6 +1,15 @@
+pub mod KeptRuns
 pub mod Traced
 pub mod ActivePairs
 pub mod OneRound
 pub mod RoundByRound
-pub mod Turns
+pub mod RoundOnItsWay
 pub mod RoundWaves
+pub mod Steps
+pub mod Tables
+pub mod Walking
+pub mod OneNet
+pub mod Renumbered
+pub mod Seeking
+pub mod Trying
+pub mod Heads

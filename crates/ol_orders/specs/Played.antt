@@ -11,8 +11,8 @@ use Rattle.ol_net.specs.Pairs.{IsInActive}
 use Rattle.ol_rules.specs.declared.journal.Entry.{Entry}
 use Rattle.ol_rules.specs.declared.one_thread.Ended.{Ended}
 use Rattle.ol_rules.specs.declared.one_thread.Ended.TheVariants.{Done, Spent}
-use Rattle.ol_replay.specs.declared.replaying.Replay.{Replay}
-use Rattle.ol_replay.specs.Replays.{ReplaysPair}
+use Rattle.ol_orders.specs.declared.replaying.Replay.{Replay}
+use Rattle.ol_orders.specs.Replays.{ReplaysPair}
 use Rattle.ol_orders.specs.Rounds.{EndsInRounds, GoesOnInRounds}
 
 -- x and y, of which x has the smaller number, are an active pair with this rule

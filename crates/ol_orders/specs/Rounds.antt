@@ -9,7 +9,7 @@ use Rattle.ol_rules.specs.declared.journal.Entry.{Entry}
 use Rattle.ol_rules.specs.Names.{IsNamed}
 use Rattle.ol_rules.specs.Runs.{IsRun}
 use Rattle.ol_view.specs.Checks.{start_net_of_graph}
-use Rattle.ol_replay.specs.Replays.{AreRising}
+use Rattle.ol_orders.specs.Replays.{AreRising}
 
 -- the entry is that of an active pair
 pub record IsActiveEntry (N : NamedNet NodeName) (e : Entry) : Type 0 where

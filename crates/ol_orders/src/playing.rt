@@ -8,13 +8,13 @@ ghost use Rattle.ol_rules.specs.declared.journal.NodeName.{NodeName};
 ghost use Rattle.ol_rules.specs.Running.{AllWait};
 ghost use Rattle.ol_rules.specs.Runs.{IsRun};
 ghost use Rattle.ol_view.specs.Checks.{start_net_of_graph};
-ghost use Rattle.ol_replay.specs.Replays.{ReplaysPair};
+ghost use Rattle.ol_orders.specs.Replays.{ReplaysPair};
 ghost use Rattle.ol_orders.specs.Played.{IsPair, ArePairs, StillWait, NewWait, Plays, IsCut, IsPlayed};
 ghost use Rattle.ol_limits.specs.Limits.{most_nodes};
 
+use crate::replaying::Replay;
 use ol_limits::{Fuel, NoMemory};
 use ol_net::{Facing, Net, NodeId, Port};
-use ol_replay::Replay;
 use ol_rules::{Ended, Ran, await_active, await_beside};
 use std::alloc::Global;
 use std::collections::BTreeSet;

@@ -1,5 +1,5 @@
 use Rattle.std.proofs.Common.{◌≡◌, subst, arith}
-use Rattle.ol_replay.specs.Replays.{net_here}
+use Rattle.ol_orders.specs.Replays.{net_here}
 use Rattle.ol_explain.specs.Explained.{IsGone, IsOfBefore, Decides}
 use Rattle.ol_explain.specs.Explained as explained
 use Rattle.ol_explain.proofs.WhyNot.{is_of_before, went}

@@ -1,5 +1,5 @@
 use Rattle.std.proofs.Common.{subst}
-use Rattle.ol_replay.specs.Replays.{names_of, net_here}
+use Rattle.ol_orders.specs.Replays.{names_of, net_here}
 use Rattle.ol_explain.specs.Explained.{FacesCopy, FacesNoCopy}
 use Rattle.ol_explain.proofs.WhyNot.{idle_first, idle_second}
 use Rattle.ol_explain.proofs.causes.idle.Goals as goal

@@ -5,7 +5,7 @@ use Rattle.ol_view.proofs.Finding as finding
 use Rattle.ol_view.proofs.Entries.{none_read}
 use Rattle.ol_view.proofs.AtPlaces.{line_is_read}
 use Rattle.ol_explain.specs.Followed.{good, no_header, no_line, otherwise}
-use Rattle.ol_replay.proofs.KeptRuns.{longer}
+use Rattle.ol_orders.proofs.KeptRuns.{longer}
 use Rattle.ol_explain.proofs.Ways.{Way, under, first_way, is_told, never_apart, made_one, is_off}
 use Rattle.ol_explain.proofs.following.follow.Goals as goal
 

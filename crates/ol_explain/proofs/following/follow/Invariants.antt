@@ -1,5 +1,5 @@
 use Rattle.std.proofs.Common.{length, ◌-◌, ◌≤◌}
-use Rattle.ol_replay.specs.Replays.{IsReplay}
+use Rattle.ol_orders.specs.Replays.{IsReplay}
 use Rattle.ol_explain.proofs.Ways.{Way}
 use Rattle.ol_explain.proofs.following.follow.Given as goal
 

@@ -2,7 +2,7 @@ use Rattle.std.proofs.Common.{◌≡◌, ◌++◌}
 use Rattle.std.specs.Prelude.{string_bytes}
 use Rattle.ol_explain.specs.NamedTexts.{named_free}
 use Rattle.ol_explain.specs.Besides.{beside_words}
-use Rattle.ol_replay.specs.Replays.{names_of}
+use Rattle.ol_orders.specs.Replays.{names_of}
 use Rattle.ol_explain.proofs.naming.put_free_ports.Given as goal
 
 abbrev pub invariant-loop-k : goal.invariant-loop-k

@@ -8,7 +8,7 @@ use Rattle.ol_net.specs.PartTexts.{kind_text, index_text}
 use Rattle.ol_view.specs.TraceTexts.{name_text}
 use Rattle.ol_explain.specs.NamedTexts.{named_node, named_partners}
 use Rattle.ol_explain.specs.Besides.{beside_words}
-use Rattle.ol_replay.specs.Replays.{names_of}
+use Rattle.ol_orders.specs.Replays.{names_of}
 use Rattle.ol_explain.proofs.naming.put_node.Goals as goal
 
 joined : (b0 b1 b2 b3 b4 b5 b6 b7 n k i p : List ℕ) → b1 ≡ b0 ++ n → b2 ≡ b1 ++ 32 ∷ [] →

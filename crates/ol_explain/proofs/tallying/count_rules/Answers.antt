@@ -1,6 +1,6 @@
 use Rattle.std.proofs.Common.{◌+◌, length, inl, inr, refl, subst}
 use Rattle.ol_explain.specs.Followed.{Stops}
-use Rattle.ol_replay.specs.Replays.{net_here}
+use Rattle.ol_orders.specs.Replays.{net_here}
 use Rattle.ol_explain.proofs.Told.{at_header, at_no_line, at_other}
 use Rattle.ol_explain.proofs.Reasoned.{whole, full}
 use Rattle.ol_explain.proofs.tallying.count_rules.Goals as goal

@@ -1,8 +1,8 @@
 use Rattle.std.proofs.Common.{Bool, refl, sym, subst}
 use Rattle.ol_explain.specs.Besides.{IsBeside}
 use Rattle.ol_explain.specs.declared.naming.Beside.TheVariants.{Weights}
-use Rattle.ol_replay.proofs.KeptRuns.{run_named}
-use Rattle.ol_replay.specs.Replays.{net_here}
+use Rattle.ol_orders.proofs.KeptRuns.{run_named}
+use Rattle.ol_orders.specs.Replays.{net_here}
 use Rattle.ol_explain.proofs.weighing.words_beside.Goals as goal
 
 pub weigh-requires-clause-run : goal.weigh-requires-clause-run

@@ -3,7 +3,7 @@ use Rattle.std.proofs.lemmas.Bool.Decides.{nat_tests}
 use Rattle.ol_rules.specs.declared.journal.Entry.{Entry}
 use Rattle.ol_rules.proofs.Waiting.{active_below}
 use Rattle.ol_orders.specs.Played.{ArePairs}
-use Rattle.ol_replay.proofs.KeptRuns.{run_named}
+use Rattle.ol_orders.proofs.KeptRuns.{run_named}
 use Rattle.ol_orders.proofs.RoundByRound.{begun, one_more, still_run, cut, ends_with, few_nodes, goes_on}
 use Rattle.ol_orders.proofs.playing.play.Goals as goal
 

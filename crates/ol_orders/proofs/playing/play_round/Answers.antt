@@ -1,5 +1,5 @@
 use Rattle.std.proofs.Common.{◌≡◌, ◌≢◌, ◌≤◌, length, sym, ◌∙◌, arith}
-use Rattle.ol_orders.proofs.Turns.{round_begun, turn_on, is_cut, all_played, all_waits}
+use Rattle.ol_orders.proofs.RoundOnItsWay.{round_begun, turn_on, is_cut, all_played, all_waits}
 use Rattle.ol_orders.proofs.playing.play_round.Goals as goal
 
 pub loop-pair-init : goal.loop-pair-init

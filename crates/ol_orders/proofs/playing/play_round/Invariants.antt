@@ -1,4 +1,4 @@
-use Rattle.ol_orders.proofs.Turns.{IsPlaying}
+use Rattle.ol_orders.proofs.RoundOnItsWay.{IsPlaying}
 use Rattle.ol_orders.proofs.playing.play_round.Given as goal
 
 abbrev pub invariant-loop-pair : goal.invariant-loop-pair

@@ -1,7 +1,0 @@
-use Rattle.std.proofs.Common.{ℕ, ◌<◌}
-use Rattle.ol_same.specs.Same.{HasHead}
-use Rattle.ol_same.proofs.reading.net_at.Given as goal
-
--- the line stands at none of the bytes so far
-abbrev pub invariant-loop-at : goal.invariant-loop-at
-invariant-loop-at l = (k : ℕ) → k < l.at → HasHead l.bytes k → ⊥
