@@ -15,15 +15,15 @@ use Rattle.ol_parse.specs.Texts.{IsLine}
 use Rattle.ol_subjects.specs.Limited.{depth_words, nodes_words}
 use Rattle.ol_subjects.proofs.Glyphs.{glyph_is}
 use Rattle.ol_term.specs.Texts.{text_of_term}
-use Rattle.ol_named.specs.NamedTexts.{named_text}
-use Rattle.ol_binders.specs.Naming as own
-use Rattle.ol_binders.specs.Binders.{Binders}
-use Rattle.ol_folds.specs.Folded.{pruned}
+use Rattle.ol_steps.specs.NamedTexts.{named_text}
+use Rattle.ol_steps.specs.Naming as own
+use Rattle.ol_steps.specs.Binders.{Binders}
+use Rattle.ol_steps.specs.Folded.{pruned}
 use Rattle.ol_steps.specs.declared.stepping.Shown.{Shown}
 use Rattle.ol_steps.specs.Steps.{Glossary, shown_tree, shown_term, term_line, address_line, carets_if, redex_lines, begun}
 use Rattle.ol_steps.specs.Steps.{shown_line, walk_lines, unfold_line, last_unfolding, last_binders, lines_to}
 use Rattle.ol_steps.specs.Steps.{lines_with_redex, how_many, last_line, past_line, reached_words, return_words, return_line}
-use Rattle.ol_steps.specs.Laws.{HasLastLine}
+use Rattle.ol_steps.specs.StepLaws.{HasLastLine}
 
 -- ---- no line feed
 

@@ -15,24 +15,24 @@ use Rattle.ol_parse.specs.Numbered.{position_of, var_at, numbered}
 use Rattle.ol_beta.specs.Beta.{contracted, applied}
 use Rattle.ol_beta.proofs.Redexes.{some_map}
 use Rattle.ol_strategies.proofs.Nexts.{next_is_redex}
-use Rattle.ol_named.specs.Marks.{part}
-use Rattle.ol_named.specs.Lettered.{lettered}
-use Rattle.ol_named.specs.Laws.{LeadsToApplication, here, into_body, into_function, into_argument}
-use Rattle.ol_named.proofs.LetteredTexts.{lettered_text}
-use Rattle.ol_named.proofs.MarksUnder.{mark_is_under}
-use Rattle.ol_binders.specs.Binders as binders
-use Rattle.ol_binders.specs.Binders.{Binders, Fits}
-use Rattle.ol_binders.specs.Naming as own
-use Rattle.ol_folds.specs.Folded.{value_at, or_name, all_folded, folded_round, folded_at, pruned}
-use Rattle.ol_folds.specs.Laws.{unfolded, subterm_along}
-use Rattle.ol_folds.proofs.Complete.{root_is}
-use Rattle.ol_folds.proofs.Values.{leads_to}
-use Rattle.ol_folds.proofs.Unfolding.{unfolded_is_term, no_value_no_change, folded_fits}
+use Rattle.ol_steps.specs.Marks.{part}
+use Rattle.ol_steps.specs.Lettered.{lettered}
+use Rattle.ol_steps.specs.TextLaws.{LeadsToApplication, here, into_body, into_function, into_argument}
+use Rattle.ol_steps.proofs.LetteredTexts.{lettered_text}
+use Rattle.ol_steps.proofs.MarksUnder.{mark_is_under}
+use Rattle.ol_steps.specs.Binders as binders
+use Rattle.ol_steps.specs.Binders.{Binders, Fits}
+use Rattle.ol_steps.specs.Naming as own
+use Rattle.ol_steps.specs.Folded.{value_at, or_name, all_folded, folded_round, folded_at, pruned}
+use Rattle.ol_steps.specs.LetLaws.{unfolded, subterm_along}
+use Rattle.ol_steps.proofs.Complete.{root_is}
+use Rattle.ol_steps.proofs.Values.{leads_to}
+use Rattle.ol_steps.proofs.ValuesPutIn.{unfolded_is_term, no_value_no_change, folded_fits}
 use Rattle.ol_steps.specs.declared.stepping.Shown.{Shown}
 use Rattle.ol_steps.specs.Steps.{Glossary, shown_term}
-use Rattle.ol_steps.specs.Laws.{IsRedex, MarksRedex, RedexIsMarked, StandsForAbstraction, IsFoldedRedex, FoldedRedexIsMarked}
-use Rattle.ol_steps.specs.Laws.{leads_to_part, binders_round, binders_along, UnfoldsToNext}
-use Rattle.ol_steps.specs.Laws.{PartsAreThere, BindersAlongFit, NamedPartIsSubterm, LetteredPartIsSubterm, PartIsRead}
+use Rattle.ol_steps.specs.StepLaws.{IsRedex, MarksRedex, RedexIsMarked, StandsForAbstraction, IsFoldedRedex, FoldedRedexIsMarked}
+use Rattle.ol_steps.specs.StepLaws.{leads_to_part, binders_round, binders_along, UnfoldsToNext}
+use Rattle.ol_steps.specs.StepLaws.{PartsAreThere, BindersAlongFit, NamedPartIsSubterm, LetteredPartIsSubterm, PartIsRead}
 
 -- one move more
 pub take_on : (ms : List ℕ) (k m : ℕ) → slice_get ms k ≡ Some m → take (suc k) ms ≡ take k ms ++ m ∷ []

@@ -13,12 +13,12 @@ use Rattle.ol_strategies.specs.declared.orders.Order.{Order}
 use Rattle.ol_strategies.specs.declared.orders.Reached.{Reached}
 use Rattle.ol_subjects.specs.declared.answers.End.{End}
 use Rattle.ol_subjects.specs.declared.answers.End.TheVariants.{No}
-use Rattle.ol_binders.specs.Binders.{Binders}
+use Rattle.ol_steps.specs.Binders.{Binders}
 use Rattle.ol_steps.specs.declared.stepping.Shown.{Shown}
 use Rattle.ol_steps.specs.Steps.{Glossary, Walk, IsNew, lines_to, lines_with_redex}
 use Rattle.ol_steps.specs.Steps.{last_line, past_line, return_line, reached_words, reached_end}
 use Rattle.ol_steps.specs.Steps.{Tells, ends, returns, left, past}
-use Rattle.ol_steps.specs.Laws.{HasLastLine}
+use Rattle.ol_steps.specs.StepLaws.{HasLastLine}
 use Rattle.ol_steps.proofs.LastLines.{counted_line, reached_line, return_one, left_one, past_one, ends_with}
 use Rattle.ol_steps.proofs.LastLines.{shown_ends, redex_told}
 use Rattle.ol_steps.proofs.OneWalk.{Stops, one_stop, redex_in, one_place}

@@ -18,7 +18,7 @@ use Rattle.ol_strategies.specs.declared.orders.Order.TheVariants as order
 use Rattle.ol_strategies.proofs.Nexts.{next_is_redex, at_head_address}
 use Rattle.ol_strategies.proofs.Rounds.{return_is_endless}
 use Rattle.ol_steps.specs.Steps.{Walk, starts, goes}
-use Rattle.ol_steps.specs.Laws.{HasNoEnd, HasNone, ReturnIsEndless, ReturnHasNone}
+use Rattle.ol_steps.specs.StepLaws.{HasNoEnd, HasNone, ReturnIsEndless, ReturnHasNone}
 use Rattle.ol_steps.proofs.WeakHeads.{weak_none}
 
 -- ---- a walk leads from each of its terms to the last one

@@ -4,14 +4,14 @@ use Rattle.std.proofs.lemmas.List.{length-map}
 use Rattle.ol_term.specs.declared.terms.Term.{Term}
 use Rattle.ol_term.specs.Trees.{Tree, tree_of, is_below, is_named_below}
 use Rattle.ol_beta.specs.Beta.{IsWithin}
-use Rattle.ol_binders.specs.Binders.{Binders}
-use Rattle.ol_folds.specs.Kept.{trees_of}
-use Rattle.ol_folds.specs.Lets.{let_names, lets, names_of_lets, values_of_lets}
-use Rattle.ol_folds.specs.declared.lets.Lets.{Lets}
-use Rattle.ol_steps.specs.Kept.{glossary_of}
+use Rattle.ol_steps.specs.Binders.{Binders}
+use Rattle.ol_steps.specs.ValueTrees.{trees_of}
+use Rattle.ol_steps.specs.Lets.{let_names, lets, names_of_lets, values_of_lets}
+use Rattle.ol_steps.specs.declared.lets.Lets.{Lets}
+use Rattle.ol_steps.specs.EarlierTerms.{glossary_of}
 use Rattle.ol_steps.specs.Steps.{Glossary, glossary}
-use Rattle.ol_folds.specs.Folded.{folded_at}
-use Rattle.ol_folds.proofs.Smaller.{is_fold_of, still_within}
+use Rattle.ol_steps.specs.Folded.{folded_at}
+use Rattle.ol_steps.proofs.Smaller.{is_fold_of, still_within}
 
 pub record IsShowable (all : ℕ) (u : Tree) : Type 0 where
   pub bound : is_below 0 u ≡ true

@@ -15,18 +15,18 @@ use Rattle.ol_strategies.specs.Redexes.{next}
 use Rattle.ol_strategies.specs.declared.orders.Order.{Order}
 use Rattle.ol_subjects.specs.Subjects.{IsTerm, RefusesTerm, syntax_at, deep, large}
 use Rattle.ol_subjects.specs.declared.answers.End.{End}
-use Rattle.ol_binders.specs.Binders.{Binders, leaf, binders_of}
-use Rattle.ol_folds.specs.Fronts.{BeginsWithLets}
-use Rattle.ol_folds.specs.Folded.{pruned}
+use Rattle.ol_steps.specs.Binders.{Binders, leaf, binders_of}
+use Rattle.ol_steps.specs.Fronts.{BeginsWithLets}
+use Rattle.ol_steps.specs.Folded.{pruned}
 use Rattle.ol_steps.specs.declared.stepping.Shown.{Shown}
 use Rattle.ol_steps.specs.declared.showing.Unfolding.{Unfolding}
-use Rattle.ol_named.specs.Marks.{mark_line}
+use Rattle.ol_steps.specs.Marks.{mark_line}
 use Rattle.ol_steps.specs.Steps.{Glossary, glossary, address_line, shown_term, term_line, shown_tree, shown_line, redex_lines}
 use Rattle.ol_steps.specs.Steps.{step_lines}
 use Rattle.ol_steps.specs.Steps.{lines_of_step, unfolds, unfold_line, begun, unfolding_after, last_unfolding, next_binders}
 use Rattle.ol_steps.specs.Steps.{last_binders, walk_lines, lines_to, lines_with_redex, past_line, Tells}
 use Rattle.ol_steps.specs.Steps.{refused, too_large, steps}
-use Rattle.ol_steps.specs.Laws.{EachStepCounts, HasLastLine, ShowingChangesNoEnd, NoLetSameAnswer}
+use Rattle.ol_steps.specs.StepLaws.{EachStepCounts, HasLastLine, ShowingChangesNoEnd, NoLetSameAnswer}
 use Rattle.ol_steps.proofs.Walks.{counts}
 use Rattle.ol_steps.proofs.LastLines.{OneLine, syntax_one, deep_one, large_one, past_one, only_line}
 use Rattle.ol_steps.proofs.Outcomes.{Told, told, agree}

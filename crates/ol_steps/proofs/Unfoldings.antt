@@ -10,14 +10,14 @@ use Rattle.ol_beta.specs.Beta as beta
 use Rattle.ol_strategies.specs.Redexes.{next}
 use Rattle.ol_strategies.specs.declared.orders.Order.{Order}
 use Rattle.ol_strategies.proofs.Nexts.{next_is_redex}
-use Rattle.ol_binders.specs.Binders.{Binders, binders_of, Fits}
-use Rattle.ol_binders.specs.Contraction.{contracted}
-use Rattle.ol_binders.proofs.Fitting.{contracted_fits}
-use Rattle.ol_folds.specs.Lets.{let_names, is_let_at, lets, values_of_lets}
-use Rattle.ol_folds.specs.Laws.{redex_binder, IsAmongOthers, LeadsToRedex}
-use Rattle.ol_folds.proofs.Complete.{nothing_is_left}
-use Rattle.ol_folds.proofs.LetsLeft.{let_goes, lets_stay, text_has_lets}
-use Rattle.ol_folds.proofs.Rows.{values_are_closed}
+use Rattle.ol_steps.specs.Binders.{Binders, binders_of, Fits}
+use Rattle.ol_steps.specs.Contraction.{contracted}
+use Rattle.ol_steps.proofs.Fitting.{contracted_fits}
+use Rattle.ol_steps.specs.Lets.{let_names, is_let_at, lets, values_of_lets}
+use Rattle.ol_steps.specs.LetLaws.{redex_binder, IsAmongOthers, LeadsToRedex}
+use Rattle.ol_steps.proofs.Complete.{nothing_is_left}
+use Rattle.ol_steps.proofs.LetsLeft.{let_goes, lets_stay, text_has_lets}
+use Rattle.ol_steps.proofs.Rows.{values_are_closed}
 use Rattle.ol_steps.specs.Steps.{Walk, starts, goes, unfolds, binders_after, next_binders, last_binders, begun, unfolding_after, last_unfolding}
 use Rattle.ol_steps.specs.Unfoldings.{let_of_step, lets_unfolded, EndsInUnfoldings, no_step, another_step, one_more, LetsAreUnfolded, NoValueIsShown}
 use Rattle.ol_steps.specs.declared.showing.Unfolding.{Unfolding}

@@ -13,10 +13,10 @@ use Rattle.ol_strategies.specs.declared.orders.Reached.{Reached}
 use Rattle.ol_subjects.specs.declared.answers.End.TheVariants.{No}
 use Rattle.ol_steps.specs.declared.earlier.Earlier.{Earlier}
 use Rattle.ol_steps.specs.declared.stepping.Shown.{Shown}
-use Rattle.ol_binders.specs.Binders.{Binders}
-use Rattle.ol_binders.specs.Contraction as own
-use Rattle.ol_steps.specs.Kept.{terms_of}
-use Rattle.ol_steps.proofs.Keeping.{kept_length, kept_more}
+use Rattle.ol_steps.specs.Binders.{Binders}
+use Rattle.ol_steps.specs.Contraction as own
+use Rattle.ol_steps.specs.EarlierTerms.{terms_of}
+use Rattle.ol_steps.proofs.EarlierTerms.{kept_length, kept_more}
 use Rattle.ol_steps.proofs.Named.{step_named}
 use Rattle.ol_steps.specs.Steps.{Walk, starts, goes, IsNew, Glossary, shown_line, step_lines, lines_of_step, walk_lines}
 use Rattle.ol_steps.specs.Steps.{binders_after, next_binders, last_binders, lines_to, lines_with_redex}

@@ -13,7 +13,7 @@ use Rattle.ol_strategies.specs.Reductions.{IsStep, Leads}
 use Rattle.ol_strategies.specs.declared.orders.Order.TheVariants as order
 use Rattle.ol_strategies.specs.declared.orders.Reached.TheVariants as word
 use Rattle.ol_strategies.proofs.Finals.{no_next_is_end}
-use Rattle.ol_steps.specs.Laws.{HasNoEnd, HasWeakHeadNormalForm}
+use Rattle.ol_steps.specs.StepLaws.{HasNoEnd, HasWeakHeadNormalForm}
 
 abbrev IsWeakStep : Tree → Tree → Type 0
 IsWeakStep t u = IsStep order.WeakHead t u

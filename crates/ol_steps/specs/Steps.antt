@@ -20,15 +20,15 @@ use Rattle.ol_subjects.specs.declared.answers.End.TheVariants.{Yes, No, Refused}
 use Rattle.ol_subjects.specs.Subjects.{IsTerm, RefusesTerm}
 use Rattle.ol_parse.specs.Grammar.{Named}
 use Rattle.ol_parse.specs.Texts.{IsText}
-use Rattle.ol_named.specs.NamedTexts.{named_text}
-use Rattle.ol_named.specs.Lettered.{lettered}
-use Rattle.ol_named.specs.Marks.{mark_line}
-use Rattle.ol_binders.specs.Binders.{Binders, binders_of}
-use Rattle.ol_binders.specs.Contraction.{contracted}
-use Rattle.ol_binders.specs.Naming as own
-use Rattle.ol_folds.specs.Fronts.{BeginsWithLets}
-use Rattle.ol_folds.specs.Lets.{let_names, lets, names_of_lets, values_of_lets, is_let_at}
-use Rattle.ol_folds.specs.Folded.{folded_at, pruned}
+use Rattle.ol_steps.specs.NamedTexts.{named_text}
+use Rattle.ol_steps.specs.Lettered.{lettered}
+use Rattle.ol_steps.specs.Marks.{mark_line}
+use Rattle.ol_steps.specs.Binders.{Binders, binders_of}
+use Rattle.ol_steps.specs.Contraction.{contracted}
+use Rattle.ol_steps.specs.Naming as own
+use Rattle.ol_steps.specs.Fronts.{BeginsWithLets}
+use Rattle.ol_steps.specs.Lets.{let_names, lets, names_of_lets, values_of_lets, is_let_at}
+use Rattle.ol_steps.specs.Folded.{folded_at, pruned}
 use Rattle.ol_steps.specs.declared.stepping.Shown.{Shown}
 use Rattle.ol_steps.specs.declared.showing.Unfolding.{Unfolding}
 

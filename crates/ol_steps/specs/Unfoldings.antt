@@ -8,10 +8,10 @@ use Rattle.ol_strategies.specs.declared.orders.Order.{Order}
 use Rattle.ol_parse.specs.Grammar.{Named}
 use Rattle.ol_parse.specs.Texts.{IsText}
 use Rattle.ol_parse.specs.Numbered.{names_of, number}
-use Rattle.ol_binders.specs.Binders.{Binders, binders_of, Fits}
-use Rattle.ol_folds.specs.Fronts.{BeginsWithLets}
-use Rattle.ol_folds.specs.Lets.{let_names, is_let_at}
-use Rattle.ol_folds.specs.Laws.{subterm_along, IsOffTheWay, redex_binder}
+use Rattle.ol_steps.specs.Binders.{Binders, binders_of, Fits}
+use Rattle.ol_steps.specs.Fronts.{BeginsWithLets}
+use Rattle.ol_steps.specs.Lets.{let_names, is_let_at}
+use Rattle.ol_steps.specs.LetLaws.{subterm_along, IsOffTheWay, redex_binder}
 use Rattle.ol_steps.specs.Steps.{Walk, glossary, shown_tree, next_binders, last_binders, unfolds, begun, unfolding_after, last_unfolding}
 use Rattle.ol_steps.specs.declared.stepping.Shown.{Shown}
 use Rattle.ol_steps.specs.declared.showing.Unfolding.{Unfolding}

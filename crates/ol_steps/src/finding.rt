@@ -2,7 +2,7 @@
 
 ghost use Rattle.std.specs.Prelude.{◌<◌, ◌^◌};
 ghost use Rattle.ol_term.specs.Trees.{tree_of, term_size};
-ghost use Rattle.ol_steps.specs.Kept.{terms_of, IsFound};
+ghost use Rattle.ol_steps.specs.EarlierTerms.{terms_of, IsFound};
 
 use crate::earlier::Earlier;
 use ol_term::{Term, size};

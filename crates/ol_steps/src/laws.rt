@@ -1,8 +1,107 @@
-//! Laws of terms that come back, of carets, of addresses, of names and of the end of an answer: no
-//! code, only what follows from the definitions.
+//! Laws of printed terms, of the names of binders, of lets and of answers: no code, only what follows
+//! from the definitions.
 
-ghost use Rattle.ol_steps.specs.Laws.{BindersAlongFit, EachStepCounts, FoldedLettersReadAgain, FoldedReadsAgain, FoldedRedexIsMarked, LetteredPartIsSubterm, LettersReadAgain, NamedPartIsSubterm, NoLetSameAnswer, PartIsRead, PartsAreThere, ReadsAgain, RedexIsMarked, ReturnIsEndless, ReturnHasNone, ShowingChangesNoEnd, UnfoldsToNext};
+ghost use Rattle.ol_steps.specs.TextLaws.{LetteredIsText, MarkIsUnder};
+ghost use Rattle.ol_steps.specs.BinderLaws.{ContractedFits, LettersAreRead, NamedIsRead, NoneIsCaught, PrimedIsLeast, SourceFits, SourceIsKept, TextHasNames};
+ghost use Rattle.ol_steps.specs.LetLaws.{FoldedFits, LetGoes, LetsDiffer, LetsStay, NothingIsLeft, NothingIsPruned, NoValueNoChange, TextHasLets, UnfoldedIsTerm, ValuesAreClosed};
+ghost use Rattle.ol_steps.specs.StepLaws.{BindersAlongFit, EachStepCounts, FoldedLettersReadAgain, FoldedReadsAgain, FoldedRedexIsMarked, LetteredPartIsSubterm, LettersReadAgain, NamedPartIsSubterm, NoLetSameAnswer, PartIsRead, PartsAreThere, ReadsAgain, RedexIsMarked, ReturnIsEndless, ReturnHasNone, ShowingChangesNoEnd, UnfoldsToNext};
 ghost use Rattle.ol_steps.specs.Unfoldings.{LetsAreUnfolded, NoValueIsShown};
+
+/// A term with the names that it is printed with has its printed text.
+pub fn lettered_is_text()
+    ensures { LetteredIsText }
+{}
+
+/// Whatever application stands at an address, its text stands in the term's text behind the same
+/// bytes and before the same bytes: those before it have a space each in the line of carets, and
+/// its own a caret each.
+pub fn marks_are_under()
+    ensures { MarkIsUnder }
+{}
+
+/// Some primes stand behind a primed name; with as many it is none of the names that are taken,
+/// with fewer it is one of them.
+pub fn primed_is_least()
+    ensures { PrimedIsLeast }
+{}
+
+/// The names of a source's binders have the shape of its term.
+pub fn source_fits()
+    ensures { SourceFits }
+{}
+
+/// The names of binders after a contraction have the shape of the term after it.
+pub fn contracted_fits()
+    ensures { ContractedFits }
+{}
+
+/// The tree of a source is named as the source is: none of its binders gets a prime.
+pub fn source_is_kept()
+    ensures { SourceIsKept }
+{}
+
+/// The names of a term that is named stand for the places of the term: no binder takes what isn't
+/// its own.
+pub fn none_is_caught()
+    ensures { NoneIsCaught }
+{}
+
+/// Let a term be closed but for free names, and less than 2^64 deep. Let its free names be fewer than
+/// 2^32, and no two the same. If it is written with letters for its binders, it is read, with these
+/// names, as the term: no binder takes what isn't its own. Law `binder_names_are_new` of `ol_term`
+/// says that no letter is a free name.
+pub fn letters_are_read()
+    ensures { LettersAreRead }
+{}
+
+/// Each name of a text's term is a name of the grammar.
+pub fn text_has_names()
+    ensures { TextHasNames }
+{}
+
+/// The printed text of a term with names is read as the term.
+pub fn named_is_read()
+    ensures { NamedIsRead }
+{}
+
+/// If the values of the lets are put in the places of their names again, the term is what it was
+/// before.
+pub fn unfolded_is_term()
+    ensures { UnfoldedIsTerm }
+{}
+
+/// Without lets a term stays as it is, and so do the names of its binders.
+pub fn no_lets_no_change()
+    ensures term { NoValueNoChange }
+    ensures binders { NothingIsPruned }
+{}
+
+/// The names of binders that are left have the shape of the term.
+pub fn folded_fits()
+    ensures { FoldedFits }
+{}
+
+/// No name of a let is a free name or that of another let that counts. The value of each is closed.
+pub fn lets_differ()
+    ensures names { LetsDiffer }
+    ensures values { ValuesAreClosed }
+{}
+
+/// No subterm of a folded term is a value that is closed, but for the redex at the address that is
+/// given and what this stands in. If no address is given, no subterm is one.
+pub fn nothing_is_left()
+    ensures { NothingIsLeft }
+{}
+
+/// As many lets as a text begins with are at the front of its term. If the redex of one of them is
+/// contracted, its binder has the let's name, and the others are left at the front, in their order.
+/// If another redex is contracted, all of them are left there. It is so with the redex of any order,
+/// and whatever names the binders have, so also if each has its own.
+pub fn lets_are_left()
+    ensures front { TextHasLets }
+    ensures goes { LetGoes }
+    ensures stay { LetsStay }
+{}
 
 /// Where a term of an order's walk is that of an earlier step, the order has no end: each term that
 /// it leads to from the first has a next redex. So the first term has no normal form, if the order

@@ -5,17 +5,18 @@ ghost use Rattle.std.specs.Prelude.{◌≡◌, ◌++◌, ◌+◌, ◌<◌, ◌�
 ghost use Rattle.ol_term.specs.Trees.{tree_of, is_below, is_named_below};
 ghost use Rattle.ol_beta.specs.Beta.{IsWithin};
 ghost use Rattle.ol_strategies.specs.Redexes.{next};
-ghost use Rattle.ol_binders.specs.Trees.{binders_in};
-ghost use Rattle.ol_folds.specs.Kept.{trees_of};
-ghost use Rattle.ol_folds.specs.Folded.{folded_at, pruned};
-ghost use Rattle.ol_steps.specs.Kept.{glossary_of};
+ghost use Rattle.ol_steps.specs.Trees.{binders_in};
+ghost use Rattle.ol_steps.specs.ValueTrees.{trees_of};
+ghost use Rattle.ol_steps.specs.Folded.{folded_at, pruned};
+ghost use Rattle.ol_steps.specs.EarlierTerms.{glossary_of};
 ghost use Rattle.ol_steps.specs.Steps.{begun, lines_of_step, shown_line, step_lines, unfold_line, unfolding_after, unfolds};
 
+use crate::folding::{fold, fold_round, prune};
+use crate::lets::{Lets, is_let_at};
 use crate::lines::{moves_of, put_how_many, put_redex, put_term};
 use crate::stepping::Shown;
+use crate::trees::BinderTree;
 use ol_beta::Address;
-use ol_binders::BinderTree;
-use ol_folds::{Lets, fold, fold_round, is_let_at, prune};
 use ol_limits::NoMemory;
 use ol_subjects::{put, put_number};
 use ol_term::{Names, Term};

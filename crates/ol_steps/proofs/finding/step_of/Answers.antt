@@ -1,8 +1,8 @@
 use Rattle.std.proofs.Common.{arith}
 use Rattle.std.proofs.lemmas.Option.{slice_get_within}
 use Rattle.ol_term.specs.Trees.{tree_of}
-use Rattle.ol_steps.specs.Kept.{terms_of}
-use Rattle.ol_steps.proofs.Keeping.{kept_length, not_next}
+use Rattle.ol_steps.specs.EarlierTerms.{terms_of}
+use Rattle.ol_steps.proofs.EarlierTerms.{kept_length, not_next}
 use Rattle.ol_steps.proofs.finding.step_of.Goals as goal
 
 pub loop-k-preserved : goal.loop-k-preserved

@@ -1,7 +1,7 @@
 use Rattle.std.proofs.Common.{◌≡◌, ℕ, ◌<◌, Some}
 use Rattle.std.specs.Prelude.{slice_get}
 use Rattle.ol_term.specs.Trees.{tree_of}
-use Rattle.ol_steps.specs.Kept.{terms_of}
+use Rattle.ol_steps.specs.EarlierTerms.{terms_of}
 use Rattle.ol_steps.proofs.finding.step_of.Given as goal
 
 abbrev pub invariant-loop-k : goal.invariant-loop-k

@@ -1,4 +1,4 @@
-use Rattle.ol_steps.proofs.Letters.{letters_read_again, folded_letters_read_again}
+use Rattle.ol_steps.proofs.LettersRead.{letters_read_again, folded_letters_read_again}
 use Rattle.ol_steps.proofs.laws.letters_are_read_again.Goals as goal
 
 pub returns-clause-plain : goal.returns-clause-plain

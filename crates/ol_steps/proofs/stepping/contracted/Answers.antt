@@ -1,7 +1,7 @@
 use Rattle.std.proofs.Common.{◌≡◌, List, ℕ, rules, ap, ◌∙◌}
 use Rattle.ol_term.specs.Trees.{tree_of}
-use Rattle.ol_binders.specs.Trees.{binders_in}
-use Rattle.ol_binders.specs.Contraction.{contracted}
+use Rattle.ol_steps.specs.Trees.{binders_in}
+use Rattle.ol_steps.specs.Contraction.{contracted}
 use Rattle.ol_steps.proofs.stepping.contracted.Goals as goal
 
 pub returns : goal.returns

@@ -1,6 +1,6 @@
 use Rattle.std.proofs.Common.{subst}
 use Rattle.ol_term.specs.Trees.{tree_of}
-use Rattle.ol_binders.specs.Trees.{binders_in}
+use Rattle.ol_steps.specs.Trees.{binders_in}
 use Rattle.ol_steps.specs.Steps.{Glossary, Tells}
 use Rattle.ol_steps.proofs.Showable.{same_glossary}
 use Rattle.ol_steps.proofs.stepping.of_small.Goals as goal

@@ -6,11 +6,11 @@ use Rattle.ol_beta.specs.Faults.{IsBetaFault}
 use Rattle.ol_beta.specs.declared.contracting.BetaFault.{BetaFault}
 use Rattle.ol_subjects.specs.declared.answers.End.{End}
 use Rattle.ol_steps.specs.declared.earlier.Earlier.{Earlier}
-use Rattle.ol_binders.specs.Trees.{binders_in}
+use Rattle.ol_steps.specs.Trees.{binders_in}
 use Rattle.ol_steps.specs.declared.showing.Place.{Place}
-use Rattle.ol_steps.specs.Kept.{terms_of, glossary_of}
+use Rattle.ol_steps.specs.EarlierTerms.{terms_of, glossary_of}
 use Rattle.ol_steps.specs.Steps.{IsNew, Tells, shown_line, step_lines, unfold_line}
-use Rattle.ol_steps.proofs.Keeping.{kept_length}
+use Rattle.ol_steps.proofs.EarlierTerms.{kept_length}
 use Rattle.ol_steps.proofs.Walks.{tells_ends, tells_returns, tells_left, tells_past, walked_begin, walked_more, made_so_far, no_fault}
 use Rattle.ol_steps.proofs.stepping.walk.Goals as goal
 

@@ -1,7 +1,7 @@
 use Rattle.std.proofs.Common.{◌-◌, length}
 use Rattle.ol_term.specs.Trees.{tree_of}
-use Rattle.ol_binders.specs.Trees.{binders_in}
-use Rattle.ol_steps.specs.Kept.{glossary_of}
+use Rattle.ol_steps.specs.Trees.{binders_in}
+use Rattle.ol_steps.specs.EarlierTerms.{glossary_of}
 use Rattle.ol_steps.proofs.Walks.{IsWalked}
 use Rattle.ol_steps.proofs.stepping.walk.Given as goal
 

@@ -1,5 +1,0 @@
-use Rattle.ol_binders.proofs.Worded.{text_has_names}
-use Rattle.ol_binders.proofs.laws.text_has_names.Goals as goal
-
-pub returns : goal.returns
-returns c = text_has_names

@@ -1,9 +1,0 @@
-pub mod Same
-pub mod Values
-pub mod Unfolding
-pub mod Smaller
-pub mod Rows
-pub mod Passed
-pub mod Counting
-pub mod Complete
-pub mod LetsLeft

@@ -1,4 +1,0 @@
-use Rattle.ol_folds.proofs.lets.+gather.Given as goal
-
-abbrev pub decreases-gather : goal.decreases-gather
-decreases-gather l = l.count

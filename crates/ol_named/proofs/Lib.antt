@@ -1,2 +1,0 @@
-pub mod LetteredTexts
-pub mod MarksUnder

@@ -1,5 +1,0 @@
-use Rattle.ol_named.proofs.MarksUnder.{mark_is_under}
-use Rattle.ol_named.proofs.laws.marks_are_under.Goals as goal
-
-pub returns : goal.returns
-returns c = mark_is_under

@@ -1,3 +1,0 @@
-pub mod Frames
-pub mod Images
-pub mod Words
