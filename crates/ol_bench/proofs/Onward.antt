@@ -21,9 +21,9 @@ use Rattle.ol_bench.specs.Commands.{IsAnswerToOne, IsAnswerToTwo, IsCauseOfOne, 
 use Rattle.ol_bench.specs.Commands.{content_of, contents_of, of_term, IsStudent, IsWork, IsCauseOfStudents, IsCauseOfSolution, IsCauseOfGrade, IsCauseOfWalk}
 use Rattle.ol_walks.specs.declared.telling.Wanted.{Wanted}
 use Rattle.ol_walks.specs.Answers.{IsFrameWalk}
-use Rattle.ol_grades.specs.declared.grading.Student.{Student}
-use Rattle.ol_grades.specs.declared.grading.Work.{Work}
-use Rattle.ol_grades.specs.declared.reading.Bounds.{Bounds}
+use Rattle.ol_derivations.specs.declared.grading.Student.{Student}
+use Rattle.ol_derivations.specs.declared.grading.Work.{Work}
+use Rattle.ol_derivations.specs.declared.reading.Bounds.{Bounds}
 use Rattle.ol_bench.specs.Inputs.{ComesOf, Files, IsAllWithin, fault, too_long, of_bytes, most_of, after_taking, told_of}
 use Rattle.ol_bench.specs.Taking.{IsReadOnce, IsRefusal, IsWorkOf}
 use Rattle.ol_bench.specs.Writing.{Change, GoesTo, Told, WritesAnswer, is_shown, status_of, told}

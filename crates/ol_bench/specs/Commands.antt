@@ -39,11 +39,11 @@ use Rattle.ol_waves.specs.Answers.{IsWavesAnswer}
 use Rattle.ol_orders.specs.Stories.{IsStoryAnswer}
 use Rattle.ol_walks.specs.declared.telling.Wanted.{Wanted}
 use Rattle.ol_walks.specs.Answers.{IsFrameWalk}
-use Rattle.ol_grades.specs.declared.grading.Student.{Student}
-use Rattle.ol_grades.specs.declared.grading.Work.{Work}
-use Rattle.ol_grades.specs.declared.grading.Work.TheVariants as work
-use Rattle.ol_grades.specs.declared.reading.Bounds.{Bounds}
-use Rattle.ol_grades.specs.Grades.{IsGraded}
+use Rattle.ol_derivations.specs.declared.grading.Student.{Student}
+use Rattle.ol_derivations.specs.declared.grading.Work.{Work}
+use Rattle.ol_derivations.specs.declared.grading.Work.TheVariants as work
+use Rattle.ol_derivations.specs.declared.reading.Bounds.{Bounds}
+use Rattle.ol_derivations.specs.Grades.{IsGraded}
 use Rattle.ol_decoding.specs.Shown.{IsShown}
 use Rattle.ol_boehm.specs.Told.{IsTreeAnswer}
 

@@ -5,8 +5,8 @@ use Rattle.std.specs.declared.alloc.Global.{Global}
 use Rattle.ol_io.specs.Readings.{Reading}
 use Rattle.ol_io.specs.declared.calls.ReadAll.{ReadAll}
 use Rattle.ol_io.specs.declared.calls.ReadAll.TheVariants as read
-use Rattle.ol_grades.specs.declared.grading.Work.{Work}
-use Rattle.ol_grades.specs.declared.grading.Work.TheVariants as work
+use Rattle.ol_derivations.specs.declared.grading.Work.{Work}
+use Rattle.ol_derivations.specs.declared.grading.Work.TheVariants as work
 use Rattle.ol_bench.specs.declared.asked.Given.{Given}
 use Rattle.ol_bench.specs.declared.asked.Given.TheVariants as given
 use Rattle.ol_bench.specs.declared.asked.Content.{Content}

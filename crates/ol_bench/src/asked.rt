@@ -10,9 +10,8 @@ ghost use Rattle.ol_bench.specs.Commands.{IsOneWithin, IsTwoWithin, IsAnswerToOn
 use ol_boehm::tree;
 use ol_counts::{Bounds, Columns, counted};
 use ol_decoding::show;
-use ol_derivations::derivation;
+use ol_derivations::{Bounds as Following, derivation};
 use ol_explain::{after, after_with_weights, explained, explained_object, judged, judged_object};
-use ol_grades::Bounds as Following;
 use ol_limits::{Fuel, Heads, MOST_JOURNAL_BYTES, NoMemory};
 use ol_orders::{Order, journal, same, story};
 use ol_places::{free_names, stop, whereabouts};

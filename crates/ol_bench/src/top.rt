@@ -12,7 +12,7 @@ ghost use Rattle.ol_bench.specs.Writing.{Told, WritesAnswer, change_of, is_shown
 use crate::asked::{Asked, Content, Given, OnOne, OnTwo, TERM};
 use crate::piecewise::check_by_pieces;
 use crate::taking::{bytes_of, refusal};
-use ol_grades::{Bounds as Following, Student, Work, grade};
+use ol_derivations::{Bounds as Following, Student, Work, grade};
 use ol_io::{ReadAll, Sink, Source, Written, write_all};
 use ol_limits::NoMemory;
 use ol_subjects::{Answer, End, put};

@@ -9,7 +9,7 @@ use crate::rows::{MOST_LINES, MOST_MOVES, MOST_STUDENTS};
 use clap::{ArgMatches, Error};
 use ol_bench::{Asked, Given, OnOne, OnTwo};
 use ol_counts::{Bounds, Columns};
-use ol_grades::Bounds as Following;
+use ol_derivations::Bounds as Following;
 use ol_limits::{
     Fuel, Heads, MOST_EDGES, MOST_FUEL, MOST_HEADS, MOST_JOURNAL_BYTES, MOST_NODES, MOST_STEPS,
     PLAIN_FUEL, PLAIN_HEADS,

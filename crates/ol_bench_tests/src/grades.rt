@@ -4,7 +4,7 @@ ghost use Rattle.ol_bench.specs.Commands.{IsWithinBounds};
 
 use crate::fakes::{NONE, file, named, ran, shown, written};
 use ol_bench::{Asked, Given};
-use ol_grades::Bounds;
+use ol_derivations::Bounds;
 use ol_limits::{Fuel, Heads};
 use ol_term::Translation;
 use std::alloc::Global;

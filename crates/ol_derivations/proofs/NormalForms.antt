@@ -7,7 +7,7 @@ use Rattle.ol_beta.specs.Leftmost.{leftmost}
 use Rattle.ol_beta.specs.Roads.{RoadLeads}
 use Rattle.ol_beta.proofs.Onward.{past_within}
 use Rattle.ol_derivations.specs.NormalForms.{ReducesTo, DifferInNormalForm}
-use Rattle.ol_derivations.specs.Inside.{IsNormalFound}
+use Rattle.ol_derivations.specs.StepsFound.{IsNormalFound}
 
 -- a term without a redex is its own normal form
 pub normal_here : (n : ℕ) (t : Tree) → IsWithin t → leftmost t ≡ None → ReducesTo n t t

@@ -12,7 +12,7 @@ use Rattle.ol_derivations.specs.declared.judging.Verdict.{Verdict}
 use Rattle.ol_derivations.specs.declared.judging.Verdict.TheVariants.{Step, Same, Steps, Apart, NoStep}
 use Rattle.ol_derivations.specs.Derivations.{Terms, IsTold, first, behind, IsLine}
 use Rattle.ol_derivations.specs.Derivations.{left_out, no_term, term, AreLines, none, more, IsDerivation, nothing, said}
-use Rattle.ol_derivations.specs.Laws.{AreTerms, no_line, passed, one_more, IsRightBehind}
+use Rattle.ol_derivations.specs.DerivationLaws.{AreTerms, no_line, passed, one_more, IsRightBehind}
 
 clash : false ≡ true → ⊥
 clash h = absurd (cc)

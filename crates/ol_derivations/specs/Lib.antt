@@ -6,8 +6,16 @@ pub mod NormalForms
 pub mod Reductions
 pub mod Verdicts
 pub mod Derivations
-pub mod Laws
+pub mod DerivationLaws
 pub mod Conversion
+pub mod Heads
+pub mod HeadLaws
+pub mod Applied
+pub mod Reads
+pub mod Grades
+pub mod GradeLaws
 -- What only contracts of private functions and proofs cite.
-pub mod Inside
+pub mod StepsFound
 pub mod Searches
+pub mod PlacesOfPaths
+pub mod StudentsSoFar

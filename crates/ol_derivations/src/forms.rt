@@ -5,7 +5,7 @@ ghost use Rattle.std.specs.Option.{option_map};
 ghost use Rattle.ol_term.specs.Trees.{Tree, tree_of, is_below};
 ghost use Rattle.ol_beta.specs.Beta.{IsWithin};
 ghost use Rattle.ol_derivations.specs.NormalForms.{DifferInNormalForm};
-ghost use Rattle.ol_derivations.specs.Inside.{IsNormalFound, form_in};
+ghost use Rattle.ol_derivations.specs.StepsFound.{IsNormalFound, form_in};
 
 use ol_beta::{BetaFault, beta, redex};
 use ol_limits::NoMemory;

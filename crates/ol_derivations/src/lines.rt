@@ -5,7 +5,7 @@ ghost use Rattle.std.specs.Fmt.{decimal};
 ghost use Rattle.ol_term.specs.Trees.{tree_of};
 ghost use Rattle.ol_derivations.specs.Lines.{lines_of, is_blank, is_left_out, all_left_out};
 ghost use Rattle.ol_derivations.specs.Derivations.{IsRead};
-ghost use Rattle.ol_derivations.specs.Inside.{IsLeft};
+ghost use Rattle.ol_derivations.specs.StepsFound.{IsLeft};
 
 use ol_limits::{MOST_SIZE, MOST_TERM_BYTES, NoMemory};
 use ol_parse::{ParseFault, parse};

@@ -9,7 +9,7 @@ ghost use Rattle.ol_term.specs.Trees as trees;
 ghost use Rattle.ol_term.specs.Trees.{tree_of, depth};
 ghost use Rattle.ol_beta.specs.Beta.{shifted, substituted, applied};
 ghost use Rattle.ol_beta.specs.Leftmost.{under};
-ghost use Rattle.ol_derivations.specs.Inside.{IsStepFound, address_of};
+ghost use Rattle.ol_derivations.specs.StepsFound.{IsStepFound, address_of};
 
 use ol_limits::NoMemory;
 use ol_term::{Term, alpha_eq};

@@ -5,7 +5,7 @@ ghost use Rattle.ol_term.specs.Trees.{tree_of, is_below};
 ghost use Rattle.ol_beta.specs.Beta.{IsWithin};
 ghost use Rattle.ol_derivations.specs.Tables.{with_names, in_table};
 ghost use Rattle.ol_derivations.specs.Derivations.{IsTermLine, IsTold, IsLine, IsDerivation, with_term};
-ghost use Rattle.ol_derivations.specs.Inside.{last_of, terms_of};
+ghost use Rattle.ol_derivations.specs.StepsFound.{last_of, terms_of};
 
 use crate::holding::{Last, Sofar};
 use crate::judging::judge;

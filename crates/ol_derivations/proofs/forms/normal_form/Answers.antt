@@ -5,7 +5,7 @@ use Rattle.ol_beta.specs.Faults.{IsBetaFault}
 use Rattle.ol_beta.specs.declared.contracting.BetaFault.{BetaFault}
 use Rattle.ol_beta.specs.Leftmost.{leftmost}
 use Rattle.ol_beta.proofs.Onward.{no_fault}
-use Rattle.ol_derivations.specs.Inside.{form_in}
+use Rattle.ol_derivations.specs.StepsFound.{form_in}
 use Rattle.ol_derivations.proofs.NormalForms.{agree_first, agree_on, found_here, found_past, found_on}
 use Rattle.ol_derivations.proofs.forms.normal_form.Goals as goal
 

@@ -4,7 +4,7 @@ use Rattle.ol_term.specs.Trees.{tree_of}
 use Rattle.ol_parse.specs.Texts.{IsRefusedAt}
 use Rattle.ol_subjects.specs.Limited.{bytes_words, depth_words, size_words}
 use Rattle.ol_derivations.specs.Derivations.{long, syntax_at, deep, large}
-use Rattle.ol_derivations.proofs.Told.{told_so, too_large}
+use Rattle.ol_derivations.proofs.LineVerdicts.{told_so, too_large}
 use Rattle.ol_derivations.proofs.lines.read_line.Goals as goal
 
 pub returns-then-line : goal.returns-then-line

@@ -1,7 +1,7 @@
 use Rattle.std.proofs.Common.{◌≡◌, suc, ◌+◌, take, sym, ap, ◌∙◌, arith}
 use Rattle.ol_parse.specs.Numbered.{position_of}
 use Rattle.ol_derivations.specs.Tables.{put_unless, with_names}
-use Rattle.ol_derivations.proofs.Walks.{names_on}
+use Rattle.ol_derivations.proofs.LineByLine.{names_on}
 use Rattle.ol_derivations.proofs.tables.add_names.Goals as goal
 
 pub loop-k-preserved : goal.loop-k-preserved

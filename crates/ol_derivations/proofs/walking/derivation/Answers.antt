@@ -1,8 +1,8 @@
 use Rattle.std.proofs.Common.{◌≡◌, ◌+◌, ◌++◌, ◌&&◌, map, true, false, codes, rules, sym, ap, ◌∙◌, subst, arith}
 use Rattle.ol_derivations.specs.Lines.{lines_of, all_left_out}
 use Rattle.ol_derivations.specs.Derivations.{no_terms, AreLines, IsDerivation, nothing, said}
-use Rattle.ol_derivations.specs.Inside.{terms_of}
-use Rattle.ol_derivations.proofs.Walks.{Onward, goes_on, ends, line_here, none_left, sheet}
+use Rattle.ol_derivations.specs.StepsFound.{terms_of}
+use Rattle.ol_derivations.proofs.LineByLine.{Onward, goes_on, ends, line_here, none_left, sheet}
 use Rattle.ol_derivations.proofs.walking.derivation.Goals as goal
 
 pub loop-k-preserved : goal.loop-k-preserved

@@ -1,6 +1,6 @@
 use Rattle.std.proofs.Common.{map}
-use Rattle.ol_derivations.specs.Inside.{terms_of}
-use Rattle.ol_derivations.proofs.Walks.{Onward}
+use Rattle.ol_derivations.specs.StepsFound.{terms_of}
+use Rattle.ol_derivations.proofs.LineByLine.{Onward}
 use Rattle.ol_derivations.proofs.walking.derivation.Given as goal
 
 abbrev pub invariant-loop-k : goal.invariant-loop-k

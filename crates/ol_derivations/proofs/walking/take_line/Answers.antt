@@ -1,10 +1,10 @@
 use Rattle.std.proofs.Common.{◌≡◌, rules, refl, ap, ◌∙◌, subst}
 use Rattle.ol_term.specs.Trees.{tree_of}
 use Rattle.ol_derivations.specs.Derivations.{IsRead, line_text}
-use Rattle.ol_derivations.specs.Inside.{terms_of}
+use Rattle.ol_derivations.specs.StepsFound.{terms_of}
 use Rattle.ol_derivations.specs.declared.lines.Read.{Read}
 use Rattle.ol_derivations.specs.declared.lines.Read.TheVariants as read
-use Rattle.ol_derivations.proofs.Told.{line_left_out, line_no_term, line_term}
+use Rattle.ol_derivations.proofs.LineVerdicts.{line_left_out, line_no_term, line_term}
 use Rattle.ol_derivations.proofs.walking.take_line.Goals as goal
 
 pub returns-in-LeftOut : goal.returns-in-LeftOut

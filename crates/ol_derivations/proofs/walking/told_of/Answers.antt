@@ -1,7 +1,7 @@
 use Rattle.std.proofs.Common.{ap}
 use Rattle.ol_term.specs.Trees.{tree_of}
-use Rattle.ol_derivations.specs.Inside.{last_of}
-use Rattle.ol_derivations.proofs.Told.{told_first, told_behind}
+use Rattle.ol_derivations.specs.StepsFound.{last_of}
+use Rattle.ol_derivations.proofs.LineVerdicts.{told_first, told_behind}
 use Rattle.ol_derivations.proofs.walking.told_of.Goals as goal
 
 pub returns-in-None : goal.returns-in-None

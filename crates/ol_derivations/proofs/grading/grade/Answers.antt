@@ -1,0 +1,28 @@
+use Rattle.std.proofs.Common.{◌≡◌, ◌++◌, rules, sym, ap, ◌∙◌, subst, List, ℕ, codes}
+use Rattle.std.specs.Borrow.{Bor}
+use Rattle.ol_subjects.specs.declared.answers.End.TheVariants.{Refused}
+use Rattle.ol_derivations.specs.Lines.{lines_of}
+use Rattle.ol_derivations.specs.declared.inputs.Inputs.{Inputs}
+use Rattle.ol_derivations.specs.Grades.{IsGraded}
+use Rattle.ol_derivations.specs.StudentsSoFar.{AreFunctions, IsInputs, seen_lines}
+use Rattle.ol_derivations.proofs.InputByInput.{are_functions}
+use Rattle.ol_derivations.proofs.Said.{graded_so}
+use Rattle.ol_derivations.proofs.grading.grade.Goals as goal
+
+pub graded_on-requires : goal.graded_on-requires
+graded_on-requires c =
+    let h = subst (λ (r : Inputs). IsInputs (lines_of c.args.inputs.now) r) c.in-Lines.is c.in_ok-line.ensures in
+    let v : c.deref-in-Lines.result.now ≡ c.in-Lines.lines.items = search rules in
+    record {
+      inputs = subst (λ (l : List (Bor (List ℕ))). AreFunctions (seen_lines l)) (sym v) (are_functions h);
+    }
+
+pub returns-in_ok-answer-in-Fault : goal.returns-in_ok-answer-in-Fault
+returns-in_ok-answer-in-Fault c =
+    let text = c.in-Fault.line.items in
+    let a = c.in_ok-answer-in-Fault in
+    let h = subst (λ (r : Inputs). IsInputs (lines_of c.args.inputs.now) r) c.in-Fault.is c.in_ok-line.ensures in
+    let v : c.deref.result.now ≡ text = search rules in
+    graded_so c.args.inputs.now c.args.solution.now c.args.students.now c.args.bounds a.answer.text.items
+    (codes "inputs: " ++ text) a.answer.end Refused
+    (a.ensures.text ∙ ap (λ (line : List ℕ). codes "inputs: " ++ line) v) a.ensures.end (IsGraded.bad_inputs h)

@@ -1,6 +1,0 @@
-use Rattle.ol_grades.specs.Inside.{seen_lines}
-use Rattle.ol_grades.proofs.Walks.{Behind}
-use Rattle.ol_grades.proofs.grading.grades.Given as goal
-
-abbrev pub invariant-loop-k : goal.invariant-loop-k
-invariant-loop-k l = Behind l.bounds (seen_lines l.inputs) l.wanted.items l.students l.k l.text.items l.fine

@@ -1,9 +1,0 @@
-use Rattle.std.proofs.Common.{subst, ℕ, Option, Global}
-use Rattle.std.specs.declared.vec.Vec.{Vec}
-use Rattle.ol_grades.specs.Grades.{IsGrade}
-use Rattle.ol_grades.specs.Inside.{IsFault}
-use Rattle.ol_grades.proofs.grading.told_of_text.Goals as goal
-
-pub returns-in-Some : goal.returns-in-Some
-returns-in-Some c = IsGrade.bad_text
-    (subst (λ (o : Option (Vec ℕ Global)). IsFault c.args.student.now o) c.in-Some.is c.in_ok-words.ensures)

@@ -1,8 +1,0 @@
-use Rattle.std.proofs.Common.{take}
-use Rattle.std.specs.List.{AllZip}
-use Rattle.ol_grades.specs.Grades.{IsRight}
-use Rattle.ol_grades.specs.Inside.{seen_lines}
-use Rattle.ol_grades.proofs.grading.told_on.Given as goal
-
-abbrev pub invariant-loop-k : goal.invariant-loop-k
-invariant-loop-k l = AllZip (IsRight l.bounds l.student) (take l.k (seen_lines l.inputs)) (take l.k l.wanted.items)

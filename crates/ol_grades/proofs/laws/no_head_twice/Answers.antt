@@ -1,9 +1,0 @@
-use Rattle.ol_grades.proofs.Differing.{heads_differ}
-use Rattle.ol_grades.proofs.Twice.{no_head_twice}
-use Rattle.ol_grades.proofs.laws.no_head_twice.Goals as goal
-
-pub returns-clause-heads : goal.returns-clause-heads
-returns-clause-heads c = heads_differ
-
-pub returns-clause-lines : goal.returns-clause-lines
-returns-clause-lines c = no_head_twice

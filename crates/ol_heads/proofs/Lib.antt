@@ -1,7 +1,0 @@
-pub mod Reached
-pub mod Gone
-pub mod Printed
-pub mod Held
-pub mod Plain
-pub mod Parted
-pub mod Told
