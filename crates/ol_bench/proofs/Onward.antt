@@ -19,8 +19,8 @@ use Rattle.ol_bench.specs.declared.asked.OnTwo.{OnTwo}
 use Rattle.ol_bench.specs.declared.top.Status.{Status}
 use Rattle.ol_bench.specs.Commands.{IsAnswerToOne, IsAnswerToTwo, IsCauseOfOne, IsCauseOfTwo, IsCauseOnward}
 use Rattle.ol_bench.specs.Commands.{content_of, contents_of, of_term, IsStudent, IsWork, IsCauseOfStudents, IsCauseOfSolution, IsCauseOfGrade, IsCauseOfWalk}
-use Rattle.ol_walks.specs.declared.telling.Wanted.{Wanted}
-use Rattle.ol_walks.specs.Answers.{IsFrameWalk}
+use Rattle.ol_decoding.specs.declared.frame_walks.Wanted.{Wanted}
+use Rattle.ol_decoding.specs.WalkAnswers.{IsFrameWalk}
 use Rattle.ol_derivations.specs.declared.grading.Student.{Student}
 use Rattle.ol_derivations.specs.declared.grading.Work.{Work}
 use Rattle.ol_derivations.specs.declared.reading.Bounds.{Bounds}

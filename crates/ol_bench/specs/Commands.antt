@@ -37,15 +37,15 @@ use Rattle.ol_orders.specs.Same.{IsSame}
 use Rattle.ol_places.specs.Frees.{IsFree}
 use Rattle.ol_waves.specs.Answers.{IsWavesAnswer}
 use Rattle.ol_orders.specs.Stories.{IsStoryAnswer}
-use Rattle.ol_walks.specs.declared.telling.Wanted.{Wanted}
-use Rattle.ol_walks.specs.Answers.{IsFrameWalk}
+use Rattle.ol_decoding.specs.declared.frame_walks.Wanted.{Wanted}
+use Rattle.ol_decoding.specs.WalkAnswers.{IsFrameWalk}
 use Rattle.ol_derivations.specs.declared.grading.Student.{Student}
 use Rattle.ol_derivations.specs.declared.grading.Work.{Work}
 use Rattle.ol_derivations.specs.declared.grading.Work.TheVariants as work
 use Rattle.ol_derivations.specs.declared.reading.Bounds.{Bounds}
 use Rattle.ol_derivations.specs.Grades.{IsGraded}
 use Rattle.ol_decoding.specs.Shown.{IsShown}
-use Rattle.ol_boehm.specs.Told.{IsTreeAnswer}
+use Rattle.ol_decoding.specs.ToldTrees.{IsTreeAnswer}
 
 -- ---- a command on one file
 

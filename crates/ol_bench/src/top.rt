@@ -12,11 +12,11 @@ ghost use Rattle.ol_bench.specs.Writing.{Told, WritesAnswer, change_of, is_shown
 use crate::asked::{Asked, Content, Given, OnOne, OnTwo, TERM};
 use crate::piecewise::check_by_pieces;
 use crate::taking::{bytes_of, refusal};
+use ol_decoding::{Wanted, frame_walk};
 use ol_derivations::{Bounds as Following, Student, Work, grade};
 use ol_io::{ReadAll, Sink, Source, Written, write_all};
 use ol_limits::NoMemory;
 use ol_subjects::{Answer, End, put};
-use ol_walks::{Wanted, frame_walk};
 use std::alloc::Global;
 
 /// How a call of the bench ended.

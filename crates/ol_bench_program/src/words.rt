@@ -9,6 +9,7 @@ use crate::rows::{MOST_LINES, MOST_MOVES, MOST_STUDENTS};
 use clap::{ArgMatches, Error};
 use ol_bench::{Asked, Given, OnOne, OnTwo};
 use ol_counts::{Bounds, Columns};
+use ol_decoding::Wanted;
 use ol_derivations::Bounds as Following;
 use ol_limits::{
     Fuel, Heads, MOST_EDGES, MOST_FUEL, MOST_HEADS, MOST_JOURNAL_BYTES, MOST_NODES, MOST_STEPS,
@@ -19,7 +20,6 @@ use ol_steps::Shown;
 use ol_strategies::Order as Reduction;
 use ol_subjects::{Layout, Subject};
 use ol_term::Translation;
-use ol_walks::Wanted;
 use std::alloc::Global;
 
 // How many interactions `story` tells by itself.

@@ -1,9 +1,9 @@
 //! `walk --frame`.
 use crate::fakes::{NONE, ran, shown, written};
 use ol_bench::Asked;
+use ol_decoding::Wanted;
 use ol_limits::Heads;
 use ol_term::Translation;
-use ol_walks::Wanted;
 use std::alloc::Global;
 use std::process::Abort;
 use std::test::Fail;

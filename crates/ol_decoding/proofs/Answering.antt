@@ -21,8 +21,8 @@ use Rattle.ol_decoding.specs.Decoders.{of, told}
 use Rattle.ol_decoding.specs.Numerals.{IsNumeralOf}
 use Rattle.ol_decoding.specs.Shown.{TellsTree, IsShown}
 use Rattle.ol_decoding.specs.Shown as shown
-use Rattle.ol_decoding.specs.Inside.{deep_text, TellsDeep, TellsNet}
-use Rattle.ol_decoding.specs.Inside as net
+use Rattle.ol_decoding.specs.NormalFormsOfNets.{deep_text, TellsDeep, TellsNet}
+use Rattle.ol_decoding.specs.NormalFormsOfNets as net
 use Rattle.ol_decoding.proofs.Decoding.{church_found}
 use Rattle.ol_decoding.proofs.NormalForms.{is_normal_form}
 use Rattle.ol_decoding.proofs.Texts.{telling}

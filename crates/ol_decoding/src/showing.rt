@@ -5,7 +5,7 @@ ghost use Rattle.ol_limits.specs.Limits.{most_nodes, most_term_bytes};
 ghost use Rattle.ol_readback.specs.Texts.{AreNamed, IsTextOf};
 ghost use Rattle.ol_beta.specs.TreeTerms.{IsTreeTooDeep};
 ghost use Rattle.ol_decoding.specs.Shown.{fuel_line, deep_line, TellsTree, IsShown};
-ghost use Rattle.ol_decoding.specs.Inside.{deep_text, TellsDeep, TellsNet};
+ghost use Rattle.ol_decoding.specs.NormalFormsOfNets.{deep_text, TellsDeep, TellsNet};
 
 use crate::numerals::numeral;
 use crate::telling::{Told, put_count, tell};

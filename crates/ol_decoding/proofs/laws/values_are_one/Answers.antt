@@ -1,4 +1,4 @@
-use Rattle.ol_decoding.proofs.One.{numeral_is_one, value_is_one, told_is_one}
+use Rattle.ol_decoding.proofs.OneValue.{numeral_is_one, value_is_one, told_is_one}
 use Rattle.ol_decoding.proofs.laws.values_are_one.Goals as goal
 
 pub returns-clause-numeral : goal.returns-clause-numeral

@@ -1,7 +1,7 @@
 use Rattle.std.proofs.Common.{◌≡◌, ◌-◌, length, sym, subst, arith}
 use Rattle.ol_readback.specs.Texts.{AreNamed}
 use Rattle.ol_demand.specs.Answers.{IsSpent}
-use Rattle.ol_decoding.specs.Inside.{goes_on, ends}
+use Rattle.ol_decoding.specs.NormalFormsOfNets.{goes_on, ends}
 use Rattle.ol_decoding.proofs.showing.of_net.Goals as goal
 
 pub of_tree-requires : goal.of_tree-requires

@@ -1,5 +1,0 @@
-use Rattle.ol_walks.proofs.Placed.{Found}
-use Rattle.ol_walks.proofs.finding.place_of.Given as goal
-
-abbrev pub invariant-loop-k : goal.invariant-loop-k
-invariant-loop-k l = Found l.tree l.path l.k l.at
