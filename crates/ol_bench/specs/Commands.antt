@@ -35,7 +35,7 @@ use Rattle.ol_subjects.specs.declared.layouts.Layout.{Layout}
 use Rattle.ol_subjects.specs.declared.layouts.Layout.TheVariants.{Lines, Object}
 use Rattle.ol_orders.specs.Same.{IsSame}
 use Rattle.ol_places.specs.Frees.{IsFree}
-use Rattle.ol_waves.specs.Answers.{IsWavesAnswer}
+use Rattle.ol_counts.specs.WaveAnswers.{IsWavesAnswer}
 use Rattle.ol_orders.specs.Stories.{IsStoryAnswer}
 use Rattle.ol_decoding.specs.declared.frame_walks.Wanted.{Wanted}
 use Rattle.ol_decoding.specs.WalkAnswers.{IsFrameWalk}

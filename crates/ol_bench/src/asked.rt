@@ -7,7 +7,7 @@ ghost use Rattle.std.specs.Prelude.{◌≡◌, ◌≤◌, length, IfOk};
 ghost use Rattle.ol_bench.specs.Inputs.{most_of};
 ghost use Rattle.ol_bench.specs.Commands.{IsOneWithin, IsTwoWithin, IsAnswerToOne, IsAnswerToTwo, IsExplainedIn, IsJudgedIn, content_of, contents_of};
 
-use ol_counts::{Bounds, Columns, counted};
+use ol_counts::{Bounds, Columns, counted, wave_table};
 use ol_decoding::{Wanted, show, tree};
 use ol_derivations::{Bounds as Following, derivation};
 use ol_explain::{after, after_with_weights, explained, explained_object, judged, judged_object};
@@ -17,7 +17,6 @@ use ol_places::{free_names, stop, whereabouts};
 use ol_steps::{Shown, steps};
 use ol_subjects::{Answer, Layout, Subject, most_bytes};
 use ol_term::Translation;
-use ol_waves::wave_table;
 use std::alloc::Global;
 
 /// Where the bytes of a file come from.

@@ -4,7 +4,7 @@ use Rattle.std.specs.Prelude.{length, take, codes, Option, None, Some}
 use Rattle.std.specs.Fmt.{decimal}
 use Rattle.std.specs.List.{flat_map, list_all, list_any}
 use Rattle.ol_rules.specs.declared.journal.Counts.{Counts}
-use Rattle.ol_tallies.specs.Sums.{interactions}
+use Rattle.ol_counts.specs.Sums.{interactions}
 use Rattle.ol_subjects.specs.declared.answers.End.{End}
 use Rattle.ol_subjects.specs.declared.answers.End.TheVariants.{Yes, No}
 use Rattle.ol_counts.specs.declared.tables.Column.{Column}

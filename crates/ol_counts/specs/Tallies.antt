@@ -14,8 +14,8 @@ use Rattle.ol_demand.specs.Demands.{HasMoreSteps}
 use Rattle.ol_strategies.specs.declared.orders.Order.{Order}
 use Rattle.ol_strategies.specs.declared.orders.Order.TheVariants as order
 use Rattle.ol_beta.specs.Beta.{IsPast}
-use Rattle.ol_costs.specs.Ordered.{IsOrderCount}
-use Rattle.ol_need.specs.Machines.{need_count}
+use Rattle.ol_counts.specs.Ordered.{IsOrderCount}
+use Rattle.ol_counts.specs.Machines.{need_count}
 use Rattle.ol_families.specs.Counts.{IsFamilyCount}
 use Rattle.ol_counts.specs.declared.tallies.Tally.{Tally}
 use Rattle.ol_counts.specs.declared.tallies.Tally.TheVariants.{Rules, Steps, NotEnded, NoTerm}

@@ -118,7 +118,7 @@ fn of_net_file(
 ///   pairs are stuck in the net that is left.
 /// - `leftmost`, `applicative`: how many beta steps that order makes to its end.
 /// - `need`: how many beta steps the machine of call-by-need makes to the normal form (`need_count`
-///   of `ol_need`).
+///   of `ol_counts`).
 /// - `families`: of how many families the redexes are that leftmost reduction contracts
 ///   (`IsFamilyCount` of `ol_families`).
 ///

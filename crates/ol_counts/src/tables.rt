@@ -4,12 +4,12 @@ ghost use Rattle.std.specs.Prelude.{◌≡◌, ◌++◌, IfOk, OnOk};
 ghost use Rattle.std.specs.List.{flat_map};
 ghost use Rattle.ol_counts.specs.Tables.{at_right, cell, digits, end_of, has_ended, has_net, have_ended, head, in_row, net_rows, number_in, row_name, row_text, steps_in, table_text};
 
+use crate::sums::interactions;
 use crate::tallies::Tally;
 use crate::ways::{Way, is_of_net, title};
 use ol_limits::NoMemory;
 use ol_rules::Counts;
 use ol_subjects::{End, put, put_number};
-use ol_tallies::interactions;
 use std::alloc::Global;
 
 /// A column: a way of reducing, and what it comes to.

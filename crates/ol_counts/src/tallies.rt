@@ -6,12 +6,12 @@ ghost use Rattle.ol_limits.specs.Limits.{most_nodes};
 ghost use Rattle.ol_counts.specs.Tallies.{steps_tally, IsRunTally, IsDemandTally, IsFamilyTally, IsNeedTally, IsOrderTally, IsTally};
 ghost use Rattle.ol_counts.specs.Tabled.{tree_in};
 
+use crate::need::steps_by_need;
+use crate::ordered::steps_to_end;
 use crate::ways::{Bounds, Way};
-use ol_costs::steps_to_end;
 use ol_demand::{Demanded, demand};
 use ol_families::families;
 use ol_limits::{Fuel, Heads, MOST_DEPTH, MOST_SIZE, NoMemory};
-use ol_need::steps_by_need;
 use ol_net::Net;
 use ol_rules::{Counts, Ended, counts, run};
 use ol_strategies::Order;

@@ -5,7 +5,7 @@ use Rattle.ol_counts.specs.declared.ways.Way.TheVariants as way
 use Rattle.ol_counts.specs.Tabled.{tree_in}
 use Rattle.ol_counts.specs.Tallies.{IsTally}
 use Rattle.ol_counts.specs.Ways.{all_ways, is_shown}
-use Rattle.ol_counts.proofs.Onward.{AreBegun, longer, without_column}
+use Rattle.ol_counts.proofs.ColumnsSoFar.{AreBegun, longer, without_column}
 use Rattle.ol_counts.proofs.counting.columns_of.Goals as goal
 use Rattle.ol_counts.proofs.counting.columns_of.Goals.{then-is_shown+in_ok-tally+in_ok-push, else-is_shown}
 

@@ -2,7 +2,7 @@ use Rattle.std.proofs.Common.{drop}
 use Rattle.ol_counts.specs.Tabled.{tree_in}
 use Rattle.ol_counts.specs.Tallies.{IsTally}
 use Rattle.ol_counts.specs.Ways.{all_ways}
-use Rattle.ol_counts.proofs.Onward.{AreBegun}
+use Rattle.ol_counts.proofs.ColumnsSoFar.{AreBegun}
 use Rattle.ol_counts.proofs.counting.columns_of.Given as goal
 
 abbrev pub invariant-loop-way : goal.invariant-loop-way

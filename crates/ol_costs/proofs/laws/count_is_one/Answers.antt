@@ -1,5 +1,0 @@
-use Rattle.ol_costs.proofs.One.{count_is_one}
-use Rattle.ol_costs.proofs.laws.count_is_one.Goals as goal
-
-pub returns : goal.returns
-returns c = record { one = count_is_one }

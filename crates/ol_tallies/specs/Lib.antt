@@ -1,2 +1,0 @@
--- What clauses of public functions rest on.
-pub mod Sums

@@ -1,7 +1,0 @@
-use Rattle.std.proofs.Common.{◌≡◌, ◌++◌}
-use Rattle.ol_waves.specs.Tallied.{rows_text}
-use Rattle.ol_waves.proofs.rows.put_rows.Given as goal
-
--- the lines so far are put
-abbrev pub invariant-loop-k : goal.invariant-loop-k
-invariant-loop-k l = l.text.items ≡ l.fn.text.items ++ rows_text l.tallies l.k

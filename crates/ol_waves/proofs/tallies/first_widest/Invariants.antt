@@ -1,6 +1,0 @@
-use Rattle.ol_waves.specs.Tallied.{IsWidestBelow}
-use Rattle.ol_waves.proofs.tallies.first_widest.Given as goal
-
--- the first of the widest so far
-abbrev pub invariant-loop-k : goal.invariant-loop-k
-invariant-loop-k l = IsWidestBelow l.tallies l.k l.pairs l.wave
