@@ -1,6 +1,5 @@
 -- Where the bytes of a file come from, and what comes of a file that can't be read or is too long.
-use Rattle.std.specs.Prelude.{◌≡◌, ℕ, ◌+◌, ◌≤◌, List, ◌++◌, length, Option, Some}
-use Rattle.std.specs.Prelude.{codes, string_bytes}
+use Rattle.std.specs.Prelude.{◌≡◌, ℕ, ◌+◌, ◌≤◌, List, ◌++◌, length, Option, Some, codes, string_bytes}
 use Rattle.std.specs.Fmt.{decimal}
 use Rattle.ol_io.specs.Outside.{Rose, IsAllOf, IsLonger}
 use Rattle.ol_limits.specs.Limits.{most_journal_bytes}

@@ -4,8 +4,7 @@ use Rattle.std.proofs.Common.{Bool, false, List, length, ◌==◌, ◌&&◌, ◌
 use Rattle.std.proofs.lemmas.Bool.{and_parts, and_from}
 use Rattle.ol_counts.specs.Machines.{Machine, Link, Control, goes, came, function, name, next, after, has_name, is_ended}
 use Rattle.ol_law_optimality.specs.Labels.{Labelled}
-use Rattle.ol_counts.proofs.Firsts.{LeadsToHead, head_on}
-use Rattle.ol_counts.proofs.Firsts.{Leads, leads_on}
+use Rattle.ol_counts.proofs.Firsts.{LeadsToHead, head_on, Leads, leads_on}
 use Rattle.ol_counts.specs.NeedLaws.{has_head, has_come_to_name}
 use Rattle.ol_counts.proofs.Moving.{State, measure_of, Outcome}
 use Rattle.ol_counts.proofs.Stepping.{moves_on}

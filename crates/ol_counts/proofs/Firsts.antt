@@ -14,9 +14,8 @@ use Rattle.ol_law_optimality.specs.Readings as readings
 use Rattle.ol_law_optimality.specs.Reductions.{Parallel, of_var, of_free, of_lam, of_app, of_redex, reduct}
 use Rattle.ol_law_optimality.proofs.Putting.{ren, ren_reduct, before_reduct}
 use Rattle.ol_law_optimality.proofs.Together.{parallel_reduct}
-use Rattle.ol_counts.proofs.Normals.{HeadShape, shape_after, plain_of}
-use Rattle.ol_counts.proofs.Normals.{Neutral, Normal, Plain, plain_ren, neutral_ren, normal_ren}
-use Rattle.ol_counts.proofs.Normals.{neutral_after, normal_stays, still_normal, plain_neutral}
+use Rattle.ol_counts.proofs.Normals.{HeadShape, shape_after, plain_of, Neutral, Normal, Plain, plain_ren, neutral_ren}
+use Rattle.ol_counts.proofs.Normals.{normal_ren, neutral_after, normal_stays, still_normal, plain_neutral}
 
 -- ---- any redexes at once
 

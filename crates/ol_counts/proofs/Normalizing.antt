@@ -1,7 +1,6 @@
 -- The machine follows the rules on to the normal form.
-use Rattle.std.proofs.Common.{◌≡◌, ℕ, zero, suc, ◌+◌, ◌<◌, ◌≤◌, true}
-use Rattle.std.proofs.Common.{List, [], ◌∷◌, ◌++◌, length, Some, is_none}
-use Rattle.std.proofs.Common.{refl, sym, ap, ◌∙◌, subst, arith}
+use Rattle.std.proofs.Common.{◌≡◌, ℕ, zero, suc, ◌+◌, ◌<◌, ◌≤◌, true, List, [], ◌∷◌, ◌++◌, length, Some, is_none, refl}
+use Rattle.std.proofs.Common.{sym, ap, ◌∙◌, subst, arith}
 use Rattle.ol_counts.specs.Machines.{Machine, Link, Weak, Frame, Control, goes, came, first_link}
 use Rattle.ol_counts.specs.Machines.{entered, named, next, after, begun, has_name, is_ended, steps_if_ended, passed, need_count}
 use Rattle.ol_counts.specs.Machines as machine
@@ -16,9 +15,8 @@ use Rattle.ol_law_optimality.specs.Labels.{Labelled}
 use Rattle.ol_counts.proofs.Ending.{begins}
 use Rattle.ol_counts.proofs.Moving.{State}
 use Rattle.ol_counts.proofs.Matching.{slice_get_last, first_kept}
-use Rattle.ol_counts.proofs.Following.{ChainOf, ValueOf, HeapOf, Grown, chain_on, heap_links}
-use Rattle.ol_counts.proofs.Following.{heap_push, Mach, EndsAfter, Onward, onward, no_name, on_left, ended_if, Ran}
-use Rattle.ol_counts.proofs.Following.{runs_cell, runs}
+use Rattle.ol_counts.proofs.Following.{ChainOf, ValueOf, HeapOf, Grown, chain_on, heap_links, heap_push, Mach}
+use Rattle.ol_counts.proofs.Following.{EndsAfter, Onward, onward, no_name, on_left, ended_if, Ran, runs_cell, runs}
 
 -- cells put before what is left, the last first
 abbrev pub push : List ℕ → List ℕ → List ℕ

@@ -1,18 +1,15 @@
 -- Where reduction goes on within a term, and what is left of it.
-use Rattle.std.proofs.Common.{Bool, true, false}
-use Rattle.std.proofs.Common.{◌≡◌, ℕ, zero, suc, ◌<◌, ◌⊎◌, inl, inr}
-use Rattle.std.proofs.Common.{List, [], ◌∷◌, refl, sym, ap, ◌∙◌, subst, arith}
+use Rattle.std.proofs.Common.{Bool, true, false, ◌≡◌, ℕ, zero, suc, ◌<◌, ◌⊎◌, inl, inr, List, [], ◌∷◌, refl, sym, ap}
+use Rattle.std.proofs.Common.{◌∙◌, subst, arith}
 use Rattle.std.proofs.lemmas.Bool.{cases_eq}
 use Rattle.ol_law_edges.specs.Edges.{IsIn}
-use Rattle.ol_law_optimality.specs.Labels.{Label, none, Labelled, var, free, lam, app}
-use Rattle.ol_law_optimality.specs.Labels.{substituted}
+use Rattle.ol_law_optimality.specs.Labels.{Label, none, Labelled, var, free, lam, app, substituted}
 use Rattle.ol_law_optimality.specs.Reductions.{Parallel, of_lam, of_app}
 use Rattle.ol_law_optimality.proofs.Putting.{ren, up, inst, point, inst_like}
 use Rattle.ol_law_optimality.proofs.Putting.{ren_ren, ren_inst, ren_is, ren_same, substituted_inst}
 use Rattle.ol_law_optimality.proofs.Together.{parallel_same, parallel_ren}
 use Rattle.ol_counts.proofs.Heaps.{with_at, with_own, with_other}
-use Rattle.ol_counts.proofs.Normals.{HeadShape, shape_unren}
-use Rattle.ol_counts.proofs.Normals.{Neutral, Normal, neutral_plain, normal_ren, neutral_after}
+use Rattle.ol_counts.proofs.Normals.{HeadShape, shape_unren, Neutral, Normal, neutral_plain, normal_ren, neutral_after}
 use Rattle.ol_counts.proofs.Firsts.{Any, to_any, FirstStep, first_function, first_argument, first_below, first_ren}
 
 -- ---- a new name for the variable of an abstraction

@@ -1,13 +1,11 @@
 -- Every move of the machine, as a family step of the labelled term, or none.
-use Rattle.std.proofs.Common.{Bool, false}
-use Rattle.std.proofs.Common.{◌≡◌, ℕ, zero, suc, ◌+◌, ◌<◌, ◌⊎◌, inl, inr, List, [], ◌∷◌, ◌++◌, length}
+use Rattle.std.proofs.Common.{Bool, false, ◌≡◌, ℕ, zero, suc, ◌+◌, ◌<◌, ◌⊎◌, inl, inr, List, [], ◌∷◌, ◌++◌, length}
 use Rattle.std.proofs.Common.{true, is_none, slice_get, slice_set, Option, Some, refl, sym, ap, ◌∙◌, subst, arith}
 use Rattle.std.proofs.lemmas.Bool.{cases_eq}
 use Rattle.std.proofs.lemmas.List.{length_push}
 use Rattle.ol_law_edges.specs.Edges.{IsIn}
 use Rattle.ol_counts.specs.Machines.{Machine, Link, Weak, function, name, Cell, waits, has, Frame, argument, write}
-use Rattle.ol_counts.specs.Machines.{Control, goes, came, first_link, behind, entered_link}
-use Rattle.ol_counts.specs.Machines.{passed, named, next}
+use Rattle.ol_counts.specs.Machines.{Control, goes, came, first_link, behind, entered_link, passed, named, next}
 use Rattle.ol_term.specs.Trees.{Tree, is_below}
 use Rattle.ol_term.specs.Trees as trees
 use Rattle.ol_law_optimality.specs.Labels.{Label, none, over, under, joined, Labelled, var, free, lam, app}
@@ -18,22 +16,19 @@ use Rattle.ol_law_optimality.proofs.Putting.{ren, up, inst, before_none, inst_in
 use Rattle.ol_law_optimality.proofs.Needed.{Of}
 use Rattle.ol_law_optimality.proofs.Steps.{at_once}
 use Rattle.ol_law_optimality.proofs.Together.{parallel_same, parallel_inst}
-use Rattle.ol_counts.proofs.Heaps.{with_at, with_own, with_other, Sees, sees_after, Sound}
-use Rattle.ol_counts.proofs.Heaps.{rank, rank_own, rank_other, sees_more, sees_below, cell_values, one_cell_more}
-use Rattle.ol_counts.proofs.Heaps.{one_name_more, var_after}
+use Rattle.ol_counts.proofs.Heaps.{with_at, with_own, with_other, Sees, sees_after, Sound, rank, rank_own, rank_other}
+use Rattle.ol_counts.proofs.Heaps.{sees_more, sees_below, cell_values, one_cell_more, one_name_more, var_after}
 use Rattle.ol_counts.proofs.Stacks.{sees_fun, sees_arg, sees_app, sees_var, var_sees, Stands, root, under_argument}
 use Rattle.ol_counts.proofs.Stacks.{stands_sees, root_sees, busy_rank, busy_within, busy_or_not}
 use Rattle.ol_counts.proofs.Stacks.{at_root, UnderArgument, under_argument_view, UnderWrite, under_write_view, stands_more, Replaced, replaced}
 use Rattle.ol_counts.proofs.Stacks.{SameValue, same_value, StepFurther, step_further, FirstPlain, first_replaced}
 use Rattle.ol_counts.proofs.Normals.{Normal, redex_or_shape}
-use Rattle.ol_counts.proofs.Places.{shape_inside}
-use Rattle.ol_counts.proofs.Places.{close_at, open_at, substituted_open, closed_again}
-use Rattle.ol_counts.proofs.Places.{Around, below, in_function, onward, around_else, WholeStep, whole_step}
+use Rattle.ol_counts.proofs.Places.{shape_inside, close_at, open_at, substituted_open, closed_again, Around, below}
+use Rattle.ol_counts.proofs.Places.{in_function, onward, around_else, WholeStep, whole_step}
 use Rattle.ol_counts.proofs.Matching.{Chain, env, slice_get_last, slice_get_kept, first_kept, chain_new, put_env}
-use Rattle.ol_counts.proofs.Matching.{reduct_env, Closure, Abstraction, NameOf, of_var, of_free, of_argument}
-use Rattle.ol_counts.proofs.Matching.{WeakOf, ControlOf, weak_before, name_neutral, name_more}
-use Rattle.ol_counts.proofs.Matching.{cell_more, Found, var_closure, free_closure, lam_closure, app_closure}
-use Rattle.ol_counts.proofs.Matching.{Application}
+use Rattle.ol_counts.proofs.Matching.{reduct_env, Closure, Abstraction, NameOf, of_var, of_free, of_argument, WeakOf}
+use Rattle.ol_counts.proofs.Matching.{ControlOf, weak_before, name_neutral, name_more, cell_more, Found, var_closure}
+use Rattle.ol_counts.proofs.Matching.{free_closure, lam_closure, app_closure, Application}
 use Rattle.ol_counts.specs.NeedLaws.{has_head}
 use Rattle.ol_counts.proofs.Moving.{onward_if, contracted_if}
 use Rattle.ol_counts.proofs.Moving.{HasCell, HaveCells, Held, State, Looked, looked, have_still, same_sees, more_sees}

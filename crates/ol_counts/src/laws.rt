@@ -3,7 +3,13 @@
 
 ghost use Rattle.ol_counts.specs.Ordered.{CountIsOne};
 ghost use Rattle.ol_counts.specs.WaveLaws.{TablesAgree};
-ghost use Rattle.ol_counts.specs.NeedLaws.{NeedIsByFamilies, NeedEndsInTheNormalForm, DemandIsNoMoreThanNeed, DemandIsNoMoreThanNeedForAHead, NeedFindsTheNormalForm, NeedIsNoMoreThanLeftmost, NeedFindsAHead, NeedComesToAHead, MachineIsByRules, RulesAreFollowed, RulesGiveTheNormalForm, RulesFindTheNormalForm, RulesAreNoMoreThanLeftmost, DemandIsNoMoreThanRules};
+ghost use Rattle.ol_counts.specs.NeedLaws.{NeedIsByFamilies, NeedEndsInTheNormalForm};
+ghost use Rattle.ol_counts.specs.NeedLaws.{DemandIsNoMoreThanNeed, DemandIsNoMoreThanNeedForAHead};
+ghost use Rattle.ol_counts.specs.NeedLaws.{NeedFindsTheNormalForm, NeedIsNoMoreThanLeftmost};
+ghost use Rattle.ol_counts.specs.NeedLaws.{NeedFindsAHead, NeedComesToAHead, MachineIsByRules};
+ghost use Rattle.ol_counts.specs.NeedLaws.{RulesAreFollowed, RulesGiveTheNormalForm};
+ghost use Rattle.ol_counts.specs.NeedLaws.{RulesFindTheNormalForm, RulesAreNoMoreThanLeftmost};
+ghost use Rattle.ol_counts.specs.NeedLaws.{DemandIsNoMoreThanRules};
 ghost use Rattle.ol_counts.specs.NeedExamples.{SmallCounts, SmallForms};
 ghost use Rattle.ol_counts.specs.Columns.{TableIsInOrder};
 

@@ -9,13 +9,12 @@ use Rattle.ol_net.specs.Nets.{NamedNet, free}
 use Rattle.ol_context.specs.Contexts.{Level, empty, o, Context, levels}
 use Rattle.ol_context.specs.Asked.{os, asked}
 use Rattle.ol_context.specs.Short.{live}
-use Rattle.ol_context.specs.Shapes.{value, AreHeld, Extends, IsNumberOf, context_of}
+use Rattle.ol_context.specs.Shapes.{value, AreHeld, Extends, IsNumberOf, context_of, IsHeld}
 use Rattle.ol_context.proofs.Shapes.{map_more, extends_refl, extends_trans}
 use Rattle.ol_decoding.specs.declared.trailing.Ending.{Ending}
 use Rattle.ol_decoding.specs.declared.trailing.Ending.TheVariants.{Barred}
 use Rattle.ol_decoding.specs.Lines.{IsWritten, question_line}
 use Rattle.ol_decoding.specs.Trails.{IsFrameQuestion, AreQuestions, AreLinesOf}
-use Rattle.ol_context.specs.Shapes.{IsHeld}
 use Rattle.ol_context.proofs.ValueLists.{held_append}
 use Rattle.ol_decoding.specs.Trails as trails
 use Rattle.ol_decoding.specs.AddedLines.{AddsContext, AddsTrail, AddsQuestion}

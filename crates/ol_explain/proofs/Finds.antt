@@ -20,10 +20,8 @@ use Rattle.ol_rules.proofs.OnTheWay.{node_below}
 use Rattle.ol_diamond.proofs.Pairs.{one_rule}
 use Rattle.ol_view.proofs.OneVerdict.{one_entry}
 use Rattle.ol_orders.specs.declared.replaying.Replay.{Replay}
-use Rattle.ol_orders.specs.Replays.{names_of, IsReplay}
-use Rattle.ol_orders.specs.Replays.{net_here}
+use Rattle.ol_orders.specs.Replays.{names_of, IsReplay, net_here, AreRising}
 use Rattle.ol_explain.specs.Found.{IsOfPair, IsPairAt, AreBelow, AreFound}
-use Rattle.ol_orders.specs.Replays.{AreRising}
 
 -- one of two nodes acts on the other, by this rule
 abbrev pub Act : Graph → ℕ → ℕ → Rule → Type 0

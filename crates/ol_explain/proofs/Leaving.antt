@@ -1,7 +1,6 @@
 -- The pairs that are left after a run: what was found node by node, with the waves that a replay gives of the first.
-use Rattle.std.proofs.Common.{◌≡◌, ℕ, zero, suc, ◌+◌, ◌-◌, ◌≤◌, List, [], ◌∷◌, ◌++◌, length, take, drop}
-use Rattle.std.proofs.Common.{inl, inr, refl, sym, ap, ◌∙◌, subst, arith}
-use Rattle.std.proofs.Common.{append_assoc, length-drop, Some}
+use Rattle.std.proofs.Common.{◌≡◌, ℕ, zero, suc, ◌+◌, ◌-◌, ◌≤◌, List, [], ◌∷◌, ◌++◌, length, take, drop, inl, inr, refl}
+use Rattle.std.proofs.Common.{sym, ap, ◌∙◌, subst, arith, append_assoc, length-drop, Some}
 use Rattle.std.proofs.lemmas.List.{drop_at, take_all}
 use Rattle.std.specs.Prelude.{slice_get}
 use Rattle.ol_law_edges.specs.Edges.{IsIn}
@@ -29,8 +28,7 @@ use Rattle.ol_explain.specs.Left.{GoesOnWith, AreInOrder, AreLeft, lines_of, mor
 use Rattle.ol_explain.specs.Found.{IsOfPair}
 use Rattle.ol_orders.specs.Replays.{AreRising}
 use Rattle.ol_explain.proofs.Waits.{AllWait, of_step, pair_same, run_all}
-use Rattle.ol_explain.proofs.Alone.{balanced, balanced_first, IsNext, AllNext, all_next, others_next}
-use Rattle.ol_explain.proofs.Alone.{parted}
+use Rattle.ol_explain.proofs.Alone.{balanced, balanced_first, IsNext, AllNext, all_next, others_next, parted}
 
 -- ---- entries and their waves, side by side
 

@@ -16,8 +16,7 @@ use Rattle.ol_view.specs.declared.forms.Form.TheVariants.{One, Two}
 use Rattle.ol_view.specs.EachForm.{wave_lines_text}
 use Rattle.ol_view.specs.Checks.{start_net_of_graph, BeginsWithRun}
 use Rattle.ol_orders.specs.declared.replaying.Replay.{Replay}
-use Rattle.ol_orders.specs.Replays.{IsReplay}
-use Rattle.ol_orders.specs.Replays.{net_here}
+use Rattle.ol_orders.specs.Replays.{IsReplay, net_here}
 use Rattle.ol_explain.specs.Left.{more_text, left_text, TellsLeft}
 use Rattle.ol_explain.specs.Found.{IsOfPair, AreFound, IsLeftText, IsToldBy}
 use Rattle.ol_orders.proofs.KeptRuns.{run_named}

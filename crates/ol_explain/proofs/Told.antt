@@ -13,10 +13,9 @@ use Rattle.ol_view.specs.Laws.{IsTable}
 use Rattle.ol_orders.specs.declared.replaying.Replay.{Replay}
 use Rattle.ol_explain.specs.Afters.{IsPaused, Shows, HasLines}
 use Rattle.ol_explain.specs.Besides.{IsShown}
-use Rattle.ol_orders.specs.Replays.{names_of, IsReplay}
+use Rattle.ol_orders.specs.Replays.{names_of, IsReplay, net_here}
 use Rattle.ol_explain.specs.declared.following.Stop.TheVariants as stop
 use Rattle.ol_explain.specs.Followed.{IsTold, Stops, no_header, good, no_line, otherwise}
-use Rattle.ol_orders.specs.Replays.{net_here}
 
 module _ (old : Graph) (r : Replay) (u : IsReplay old r) (journal : List ℕ) (end : ℕ)
     (form : Form) (waves : List ℕ) (told : IsTold form waves old r journal end) (lines : ℕ) where

@@ -1,7 +1,6 @@
 -- A journal that is followed line by line: each line that is good is one entry more, and the run makes its step.
-use Rattle.std.proofs.Common.{◌≡◌, ◌≢◌, ℕ, suc, ◌+◌, ◌*◌, ◌≤◌, true, List, [], ◌∷◌, ◌++◌}
-use Rattle.std.proofs.Common.{append_assoc, get_or, length, length-append, drop, Option, None, Some}
-use Rattle.std.proofs.Common.{refl, sym, ap, ◌∙◌, subst, arith}
+use Rattle.std.proofs.Common.{◌≡◌, ◌≢◌, ℕ, suc, ◌+◌, ◌*◌, ◌≤◌, true, List, [], ◌∷◌, ◌++◌, append_assoc, get_or, length}
+use Rattle.std.proofs.Common.{length-append, drop, Option, None, Some, refl, sym, ap, ◌∙◌, subst, arith}
 use Rattle.std.specs.Prelude.{IfSome, IfNone, IsSomeAnd}
 use Rattle.ol_net.specs.declared.parts.Rule.{Rule}
 use Rattle.ol_net.specs.Graph.{Graph}
@@ -36,9 +35,8 @@ use Rattle.ol_view.proofs.Finding.{UnderWay}
 use Rattle.ol_view.proofs.FormTexts.{text_on}
 use Rattle.ol_view.proofs.Replays.{idle_names}
 use Rattle.ol_orders.specs.declared.replaying.Replay.{Replay}
-use Rattle.ol_orders.specs.Replays.{IsReplay, ReplaysNamed, AreApart}
+use Rattle.ol_orders.specs.Replays.{IsReplay, ReplaysNamed, AreApart, net_here}
 use Rattle.ol_explain.specs.Followed.{IsTold, IsOff}
-use Rattle.ol_orders.specs.Replays.{net_here}
 use Rattle.ol_orders.proofs.KeptRuns.{run_named, advanced}
 use Rattle.ol_explain.proofs.Steps as steps
 

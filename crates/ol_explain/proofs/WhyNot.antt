@@ -27,8 +27,7 @@ use Rattle.ol_view.specs.LineReading.{TellsOf}
 use Rattle.ol_view.specs.Checks.{start_net_of_graph, IsRunTold}
 use Rattle.ol_explain.specs.declared.causes.Cause.TheVariants as cause
 use Rattle.ol_orders.specs.declared.replaying.Replay.{Replay}
-use Rattle.ol_orders.specs.Replays.{names_of, IsReplay}
-use Rattle.ol_orders.specs.Replays.{net_here}
+use Rattle.ol_orders.specs.Replays.{names_of, IsReplay, net_here}
 use Rattle.ol_explain.specs.Explained.{IsThere, IsGone, Names, NoneNames, AreThere, IsOfBefore, Decides, FacesCopy, FacesNoCopy, FaceNoCopies, IsJoinedAfter, IsCause}
 use Rattle.ol_explain.specs.Explained as explained
 use Rattle.ol_explain.specs.Reasons.{IsLive, IsNodeNamed, IsFaced, IsOtherCopy, NoCopies, IsCauseIdle, IsCauseOff}

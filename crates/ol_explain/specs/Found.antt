@@ -11,10 +11,8 @@ use Rattle.ol_diamond.specs.Waves.{AreWaves}
 use Rattle.ol_view.specs.declared.forms.Form.{Form}
 use Rattle.ol_view.specs.Checks.{start_net_of_graph, BeginsWithRun}
 use Rattle.ol_orders.specs.declared.replaying.Replay.{Replay}
-use Rattle.ol_orders.specs.Replays.{names_of}
-use Rattle.ol_orders.specs.Replays.{net_here}
+use Rattle.ol_orders.specs.Replays.{names_of, net_here, AreRising}
 use Rattle.ol_explain.specs.Left.{AreLeft, left_text}
-use Rattle.ol_orders.specs.Replays.{AreRising}
 
 -- the entry tells an active pair of the net, the smaller name first
 abbrev pub IsOfPair : NamedNet NodeName → Entry → Type 0

@@ -15,9 +15,8 @@ use Rattle.ol_view.specs.declared.line_reading.Line.{Line}
 use Rattle.ol_view.specs.Checks.{start_net_of_graph}
 use Rattle.ol_explain.specs.declared.causes.Cause.{Cause}
 use Rattle.ol_orders.specs.declared.replaying.Replay.{Replay}
-use Rattle.ol_orders.specs.Replays.{names_of, IsReplay}
+use Rattle.ol_orders.specs.Replays.{names_of, IsReplay, net_here}
 use Rattle.ol_explain.specs.Followed.{IsOff}
-use Rattle.ol_orders.specs.Replays.{net_here}
 use Rattle.ol_explain.specs.Afters.{line_with}
 use Rattle.ol_explain.specs.Explained.{Decides, FacesNoCopy, IsCause, cause_words}
 

@@ -20,11 +20,9 @@ use Rattle.ol_diamond.proofs.Pairs.{one_rule}
 use Rattle.ol_view.proofs.OneVerdict.{one_entry}
 use Rattle.ol_demand.proofs.Entries.{one_name}
 use Rattle.ol_orders.specs.declared.replaying.Replay.{Replay}
-use Rattle.ol_orders.specs.Replays.{net_here}
+use Rattle.ol_orders.specs.Replays.{net_here, names_of, IsReplay, ReplaysPair, AreRising}
 use Rattle.ol_rules.specs.UnderWay.{entry_for}
-use Rattle.ol_orders.specs.Replays.{names_of, IsReplay, ReplaysPair}
 use Rattle.ol_orders.specs.Rounds.{IsActiveEntry, AreActivePairs}
-use Rattle.ol_orders.specs.Replays.{AreRising}
 use Rattle.ol_orders.specs.Played.{IsPair, AreRisingPairs, ArePairs, Plays, stop, go}
 use Rattle.ol_orders.proofs.ActivePairs.{acts, pair_after, pair_below}
 use Rattle.ol_orders.proofs.KeptRuns.{longer, still_named, step_named, advanced}

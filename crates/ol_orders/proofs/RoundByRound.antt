@@ -12,9 +12,8 @@ use Rattle.ol_rules.specs.Runs.{IsRun}
 use Rattle.ol_rules.proofs.Renaming.{active_from}
 use Rattle.ol_view.specs.Checks.{start_net_of_graph}
 use Rattle.ol_orders.specs.declared.replaying.Replay.{Replay}
-use Rattle.ol_orders.specs.Replays.{net_here}
+use Rattle.ol_orders.specs.Replays.{net_here, IsReplay, ReplaysPair}
 use Rattle.ol_rules.specs.UnderWay.{entry_for}
-use Rattle.ol_orders.specs.Replays.{IsReplay, ReplaysPair}
 use Rattle.ol_orders.specs.Rounds.{AreActivePairs, IsInRounds, EndsInRounds, GoesOnInRounds}
 use Rattle.ol_orders.specs.Played.{ArePairs, Plays, stop, go, IsCut}
 use Rattle.ol_orders.proofs.ActivePairs.{complete}

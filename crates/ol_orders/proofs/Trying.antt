@@ -7,10 +7,8 @@ use Rattle.ol_net.specs.declared.parts.Kind.{Kind}
 use Rattle.ol_net.specs.Graph.{Graph, kind_at}
 use Rattle.ol_net.specs.Nets.{HasNode}
 use Rattle.ol_net.specs.Numbered.{net_of}
-use Rattle.ol_orders.specs.Same.{GoesOn, Walks, IsFirstAlone, MayMeet}
-use Rattle.ol_orders.specs.Same.{Fails, ends, all_fail, FailsBelow, below_0, below}
-use Rattle.ol_orders.specs.Same.{FailsAt, may_not, nowhere, further}
-use Rattle.ol_orders.specs.Same.{Spends, spends, SpendsAt, next, later}
+use Rattle.ol_orders.specs.Same.{GoesOn, Walks, IsFirstAlone, MayMeet, Fails, ends, all_fail, FailsBelow, below_0}
+use Rattle.ol_orders.specs.Same.{below, FailsAt, may_not, nowhere, further, Spends, spends, SpendsAt, next, later}
 use Rattle.ol_orders.specs.Meetings.{met_by, TellPairs, EachMet}
 use Rattle.ol_orders.specs.Walked.{NoneFollow, NoneTake, SearchedFrom, SearchedAt}
 use Rattle.ol_orders.specs.declared.comparing.Tried.{Tried}

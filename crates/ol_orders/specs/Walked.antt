@@ -7,8 +7,7 @@ use Rattle.ol_net.specs.declared.parts.Port.TheVariants.{Free, Of}
 use Rattle.ol_net.specs.Graph.{Graph, kind_at, partner_of}
 use Rattle.ol_net.specs.Nets.{HasNode}
 use Rattle.ol_net.specs.Numbered.{net_of}
-use Rattle.ol_orders.specs.Same.{pair_at, port_on, AreOne, IsRenumbered}
-use Rattle.ol_orders.specs.Same.{Fails, FailsAt, Spends, SpendsAt}
+use Rattle.ol_orders.specs.Same.{pair_at, port_on, AreOne, IsRenumbered, Fails, FailsAt, Spends, SpendsAt}
 use Rattle.ol_orders.specs.declared.comparing.Tried.{Tried}
 use Rattle.ol_orders.specs.declared.comparing.Tried.TheVariants as tried
 

@@ -8,8 +8,7 @@ use Rattle.ol_parse.specs.Texts.{is_word, IsToken, Spells, spells_none, spells_o
 use Rattle.ol_places.specs.declared.tokens.Kind.{Kind}
 use Rattle.ol_places.specs.Tokens.{kind_token, IsFirstToken}
 use Rattle.ol_places.specs.Gaps.{gap_length}
-use Rattle.ol_places.proofs.Lengths.{last_gap_is, token_some}
-use Rattle.ol_places.proofs.Lengths.{gap_is as gap_length_is}
+use Rattle.ol_places.proofs.Lengths.{last_gap_is, token_some, gap_is as gap_length_is}
 
 -- the token that comes first has this many bytes, whatever it is
 abbrev IsLength : List ℕ → ℕ → Type 0

@@ -1,6 +1,7 @@
 -- Names with primes are names of the grammar, and so are those of a term that is named.
-use Rattle.std.proofs.Common.{◌≡◌, ℕ, ◌<◌, Bool, true, false, ◌&&◌, cond, nat_eq, List, [], ◌∷◌, ◌++◌, length, refl, sym, ap, ◌∙◌, subst, arith}
-use Rattle.std.specs.Prelude.{slice_index_or, ◌+◌, ◌-◌, zero, suc, if◌then◌else◌}
+use Rattle.std.proofs.Common.{◌≡◌, ℕ, ◌<◌, Bool, true, false, ◌&&◌, cond, nat_eq, List, [], ◌∷◌, ◌++◌, length, refl}
+use Rattle.std.proofs.Common.{sym, ap, ◌∙◌, subst, arith, length-append, not, Option, None, Some}
+use Rattle.std.specs.Prelude.{slice_index_or, ◌+◌, ◌-◌, zero, suc, if◌then◌else◌, ◌==◌}
 use Rattle.std.specs.Str.{bytes_eq}
 use Rattle.std.proofs.lemmas.Bool.{and_parts, and_right, ltb-true}
 use Rattle.ol_term.specs.Trees as tree
@@ -24,11 +25,8 @@ use Rattle.ol_steps.proofs.Rows.{lets_differ, names_more}
 use Rattle.ol_steps.proofs.Smaller.{is_fold_of}
 use Rattle.ol_steps.proofs.ValuesPutIn.{folded_fits, unfolded_is_term}
 use Rattle.ol_term.specs.NameLists.{NoNameTwice}
-use Rattle.std.proofs.Common.{length-append, not}
 use Rattle.std.proofs.lemmas.List.{length-map}
 use Rattle.ol_steps.specs.StepLaws.{ReadsAgain, ReadsFolded, FoldedReadsAgain}
-use Rattle.std.proofs.Common.{Option, None, Some}
-use Rattle.std.specs.Prelude.{◌==◌}
 use Rattle.ol_beta.specs.Beta as beta
 use Rattle.ol_beta.proofs.Bound.{step_below}
 use Rattle.ol_strategies.specs.Redexes.{next}

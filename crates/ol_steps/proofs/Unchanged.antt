@@ -21,11 +21,10 @@ use Rattle.ol_steps.specs.Folded.{pruned}
 use Rattle.ol_steps.specs.declared.stepping.Shown.{Shown}
 use Rattle.ol_steps.specs.declared.showing.Unfolding.{Unfolding}
 use Rattle.ol_steps.specs.Marks.{mark_line}
-use Rattle.ol_steps.specs.Steps.{Glossary, glossary, address_line, shown_term, term_line, shown_tree, shown_line, redex_lines}
-use Rattle.ol_steps.specs.Steps.{step_lines}
-use Rattle.ol_steps.specs.Steps.{lines_of_step, unfolds, unfold_line, begun, unfolding_after, last_unfolding, next_binders}
-use Rattle.ol_steps.specs.Steps.{last_binders, walk_lines, lines_to, lines_with_redex, past_line, Tells}
-use Rattle.ol_steps.specs.Steps.{refused, too_large, steps}
+use Rattle.ol_steps.specs.Steps.{Glossary, glossary, address_line, shown_term, term_line, shown_tree, shown_line}
+use Rattle.ol_steps.specs.Steps.{redex_lines, step_lines, lines_of_step, unfolds, unfold_line, begun, unfolding_after}
+use Rattle.ol_steps.specs.Steps.{last_unfolding, next_binders, last_binders, walk_lines, lines_to, lines_with_redex}
+use Rattle.ol_steps.specs.Steps.{past_line, Tells, refused, too_large, steps}
 use Rattle.ol_steps.specs.StepLaws.{EachStepCounts, HasLastLine, ShowingChangesNoEnd, NoLetSameAnswer}
 use Rattle.ol_steps.proofs.Walks.{counts}
 use Rattle.ol_steps.proofs.LastLines.{OneLine, syntax_one, deep_one, large_one, past_one, only_line}

@@ -19,11 +19,10 @@ use Rattle.ol_steps.specs.EarlierTerms.{terms_of}
 use Rattle.ol_steps.proofs.EarlierTerms.{kept_length, kept_more}
 use Rattle.ol_steps.proofs.Named.{step_named}
 use Rattle.ol_steps.specs.Steps.{Walk, starts, goes, IsNew, Glossary, shown_line, step_lines, lines_of_step, walk_lines}
-use Rattle.ol_steps.specs.Steps.{binders_after, next_binders, last_binders, lines_to, lines_with_redex}
-use Rattle.ol_steps.specs.Steps.{unfolds, begun, unfolding_after, last_unfolding, unfold_line}
-use Rattle.ol_steps.specs.Steps.{last_line, past_line, return_line, reached_words, reached_end}
+use Rattle.ol_steps.specs.Steps.{binders_after, next_binders, last_binders, lines_to, lines_with_redex, unfolds, begun}
+use Rattle.ol_steps.specs.Steps.{unfolding_after, last_unfolding, unfold_line, last_line, past_line, return_line}
+use Rattle.ol_steps.specs.Steps.{reached_words, reached_end, Tells, ends, returns, left, past}
 use Rattle.ol_steps.specs.declared.showing.Unfolding.{Unfolding}
-use Rattle.ol_steps.specs.Steps.{Tells, ends, returns, left, past}
 
 -- what an order contracts next is no fault of contraction
 pub no_fault : (o : Order) (t : Tree) (at : List ℕ) → next o t ≡ Some at → contracted t at ≡ None → ⊥

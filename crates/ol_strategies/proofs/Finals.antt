@@ -9,8 +9,7 @@ use Rattle.ol_beta.specs.Leftmost.{is_abstraction, under, leftmost, IsNormal}
 use Rattle.ol_beta.proofs.Redexes.{no_under, no_leftmost, leftmost_first}
 use Rattle.ol_readback.specs.Terms.{abstracted}
 use Rattle.ol_law_meaning.specs.Shows.{applied, IsVariable, IsHeadNormal}
-use Rattle.ol_strategies.specs.Redexes.{root_if, applicative_redex, is_value, value_redex}
-use Rattle.ol_strategies.specs.Redexes.{next}
+use Rattle.ol_strategies.specs.Redexes.{root_if, applicative_redex, is_value, value_redex, next}
 use Rattle.ol_strategies.specs.Searches.{spine_redex}
 use Rattle.ol_strategies.specs.Ends.{IsNeutral, IsWeakHeadNormal, IsValue, IsStuck, HasFreeHead, IsEnd}
 use Rattle.ol_strategies.specs.Laws.{NoNextIsEnd, EndIsOne, StuckAtFreeName}

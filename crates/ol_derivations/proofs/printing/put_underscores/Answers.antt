@@ -1,5 +1,4 @@
-use Rattle.std.proofs.Common.{◌++◌}
-use Rattle.std.proofs.Common.{List, ℕ, [], ◌∷◌, sym, ap, ◌∙◌, append_assoc}
+use Rattle.std.proofs.Common.{◌++◌, List, ℕ, [], ◌∷◌, sym, ap, ◌∙◌, append_assoc}
 use Rattle.ol_derivations.specs.Heads.{underscores}
 use Rattle.ol_derivations.proofs.Printed.{underscored}
 use Rattle.ol_derivations.proofs.printing.put_underscores.Goals as goal
