@@ -1,9 +1,10 @@
-//! Laws of runs over birth names: no code, only what follows from the definitions.
+//! Theorems on reductions with birth names: no code, only what follows from the definitions.
 
 ghost use Rattle.ol_diamond.specs.Laws.{StartIsBirthNet, StepKeepsBirthNet, RunKeepsBirthNet, BornIsFresh, PairsCommute, DoneMeansDone, PairToFront, EachPairIsAmong, NoRunHasMore, NoRunIsLonger, CompleteRunsHaveOnePairs, CompleteRunsHaveOneCounts, CompleteRunsLeaveOneNet, BirthFollows, CompleteFollows, BirthNamesAreOne};
 
-/// Where no node's name is a proper part of another's, no node is there already that a rewrite will
-/// make. A net of start nodes is such a net, and each step and each run keeps it.
+/// If no node's name is a proper part of another node's name, no node that an interaction creates
+/// exists before. An initial net has this property, and each interaction and each reduction
+/// preserves it.
 pub fn names_stay_apart()
     ensures start { StartIsBirthNet }
     ensures step { StepKeepsBirthNet }
@@ -11,49 +12,52 @@ pub fn names_stay_apart()
     ensures fresh { BornIsFresh }
 {}
 
-/// Two different active pairs of a net share no node. Each is still active after the other was
-/// rewritten, and both orders leave one net.
+/// Two different active pairs of a net share no node. Each pair is still active after the
+/// interaction of the other, and both orders lead to the same net (strong confluence).
 pub fn pairs_commute()
     ensures { PairsCommute }
 {}
 
-/// A net has no active pair exactly where it has no step.
+/// A net has no active pair exactly if it has no interaction.
 pub fn done_means_done()
     ensures { DoneMeansDone }
 {}
 
-/// A pair that is active now stands in each complete run. The run with the pair moved to its front
-/// is complete too, and leaves the same net.
+/// An active pair of a net occurs in each reduction of the net to normal form. The reduction that
+/// begins with this pair and continues with the other pairs in their order is also a reduction to
+/// normal form, and leads to the same net.
 pub fn pair_to_front()
     ensures { PairToFront }
 {}
 
-/// Each pair of a run from a net is among the pairs of each complete run from this net, and stands
-/// there at least as often, so no run is longer than a complete one.
+/// Each pair of a reduction occurs in each reduction of the same net to normal form, at least as
+/// often, so that a reduction to normal form is the longest.
 pub fn no_run_is_longer()
     ensures among { EachPairIsAmong }
     ensures pairs { NoRunHasMore }
     ensures length { NoRunIsLonger }
 {}
 
-/// Complete runs from one net have the same pairs, each as often, and leave one net.
+/// All reductions of a net to normal form have the same pairs, each equally often, and lead to the
+/// same net.
 pub fn complete_runs_agree()
     ensures pairs { CompleteRunsHaveOnePairs }
     ensures counts { CompleteRunsHaveOneCounts }
     ensures net { CompleteRunsLeaveOneNet }
 {}
 
-/// A run along a journal from a net of start nodes is, entry by entry, a run by birth names: each
-/// entry is the step of its two nodes under these names, and the nodes that it made are named by
-/// them. The net that the journal leads to is that run's net, and the one is complete exactly where
-/// the other is.
+/// A reduction of an initial net with a trace is, entry by entry, a reduction with birth names:
+/// each entry is the interaction of its two nodes under their birth names, and the created nodes
+/// are named by these nodes. Both reductions lead to the same net, and both or neither is to normal
+/// form.
 pub fn birth_follows()
     ensures follows { BirthFollows }
     ensures complete { CompleteFollows }
 {}
 
-/// Two namings of the run along one journal name each node of its net alike. So there is one such
-/// run by birth names, but for which of two nodes is written first where either may act.
+/// All translations of a trace into birth names give each node of the final net the same name. The
+/// reduction with birth names is unique, except for the order of the two nodes of a pair in which
+/// either node may act.
 pub fn birth_names_are_one()
     ensures { BirthNamesAreOne }
 {}

@@ -1,20 +1,23 @@
-//! Strong confluence: where one run of a sharing graph is complete, all complete runs leave one
-//! net, in one number of steps, whatever the order in which pairs are taken.
+//! Strong confluence: if some reduction of a sharing graph to normal form exists, all reductions to
+//! normal form lead to the same net in the same number of interactions, whatever the order of the
+//! active pairs.
 //!
-//! Two rewrites that share no node commute, as in any interaction net (Yves Lafont, *Interaction
-//! Nets*, 1990). The laws are said over birth names. A node that a rewrite makes is named by the
-//! two nodes that were rewritten and its place, and not by the moment at which it came, so a
-//! rewrite depends on its pair alone, and both orders give the very same names. A journal's names
-//! tell the moment (the ticket); law `birth_follows` takes them to birth names.
+//! Two interactions of different active pairs commute, as in any interaction net (Lafont,
+//! Interaction Nets, POPL 1990). The theorems are about birth names (creation histories): a created
+//! node is named by the two nodes of its interaction and its place, and not by the moment of its
+//! creation, so that both orders of two interactions give the same names. The names in a trace
+//! contain the moment (the ticket); theorem `birth_follows` translates them into birth names.
 //!
-//! The laws have no code. `two_orders` shows one square of it on a net: two pairs, rewritten in
-//! both orders.
+//! The theorems have no code. `two_orders` computes the square of two active pairs on a net.
 //!
-//! - `one_thread`: what a run in any order tells of the one-thread run
+//! - `one_thread`: what the trace of any reduction implies for the reduction by one thread
 //! - `square`: two active pairs of a net, rewritten in both orders
-//! - `weighing`: the waves of a journal, by a replay on a net with weights
-//! - `wave_laws`: the laws of waves
-//! - `laws`: the laws of runs over birth names
+//! - `weighing`: the waves (parallel steps) of a trace, by a replay on a net with weights
+//! - `wave_laws`: the theorems on waves
+//! - `laws`: the theorems on reductions with birth names
+//!
+//! A wave is a number of a parallel step, and not a time; that no other order needs fewer parallel
+//! steps isn't proved.
 #![tactic(auto)]
 
 mod laws;

@@ -1,12 +1,12 @@
-//! What a run in any order tells of the one-thread run.
+//! What the trace of any reduction implies for the reduction by one thread.
 
 ghost use Rattle.ol_diamond.specs.OneThread.{DoneTells, EndsWhereSomeEnds, LongerTells, OneThreadExists, RunFromSame, SpentTells};
 
-/// A net of start nodes has a one-thread run for each fuel, and the journal of any run tells what
-/// it is. Where a complete run is within the fuel, the one-thread run ends within it too, with as
-/// many steps, each rule as often, and the same net under other names. Where a run is as long as
-/// the fuel with a pair still active, or is longer, the one-thread run has more steps than the
-/// fuel.
+/// An initial net has a reduction by one thread for each fuel, and the trace of any reduction
+/// determines how it ends. If a reduction to normal form is within the fuel, the reduction by one
+/// thread also ends within it, with as many interactions of each rule, and in the same net under
+/// other names. If a reduction is as long as the fuel and an active pair is left, or if it is
+/// longer, the reduction by one thread has more interactions than the fuel allows.
 pub fn one_thread_agrees()
     ensures exists { OneThreadExists }
     ensures done { DoneTells }
@@ -15,8 +15,8 @@ pub fn one_thread_agrees()
     ensures ends { EndsWhereSomeEnds }
 {}
 
-/// A run from a net is a run from each net that is the same, however the lists of the two are
-/// ordered, and leads to the same net.
+/// A reduction of a net is a reduction of each equal net, whatever the order of the two nets'
+/// lists, and leads to an equal net.
 pub fn same_nets_run_alike()
     ensures { RunFromSame }
 {}

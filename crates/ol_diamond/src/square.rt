@@ -12,13 +12,13 @@ use ol_limits::NoMemory;
 use ol_net::{Facing, Net, NodeId, Port, Rule};
 use ol_rules::{StepFault, step};
 
-/// What two active pairs of a net leave in either order, and their rules, which are the same in
-/// both.
+/// The nets to which two active pairs lead in both orders, and the rules of the pairs, which are
+/// the same in both orders.
 #[derive(Drop)]
 pub struct Square {
-    /// The net after the pair of the first node and then that of the second.
+    /// The net after the pair of the first node, followed by the pair of the second node.
     pub ab: Net,
-    /// The net after the pair of the second node and then that of the first.
+    /// The net after the pair of the second node, followed by the pair of the first node.
     pub ba: Net,
     /// The rule of the first node's pair.
     pub rule_a: Rule,
@@ -26,27 +26,27 @@ pub struct Square {
     pub rule_b: Rule,
 }
 
-/// Why two nodes have no two pairs to rewrite.
+/// Why two nodes aren't in two different active pairs.
 #[derive(Clone, Copy, Debug, PartialEq, Eq)]
 pub enum SquareFault {
-    /// One of the two is in no active pair.
+    /// At least one of the two nodes isn't in an active pair.
     NotActive,
-    /// Both are in active pairs, and these are one pair.
+    /// Both nodes are in the same active pair.
     SamePair,
-    /// No memory was found.
+    /// A memory allocation failed.
     NoMemory,
 }
 
-/// Rewrites the pairs of two nodes in both orders, on two copies of the net.
+/// Rewrites the active pairs of two nodes in both orders, on two copies of the net.
 ///
-/// Each of the two pairs is still active when the other is gone, so neither order ever gets stuck,
-/// and it has the same rule in both. The two nets differ in the numbers of new nodes alone: the
-/// nodes that the pair of `a` made have the next numbers in `ab`, and those that the pair of `b`
-/// made come after them; in `ba` it is the other way round. Where each new node is named by the two
-/// that made it and its place, they are one net (Lafont, Interaction Nets, 1990).
+/// Each pair is still active after the interaction of the other, with the same rule. The two nets
+/// differ only in the numbers of the created nodes: in `ab` the nodes created by the pair of `a`
+/// have the next numbers, followed by the nodes created by the pair of `b`; in `ba` it is the other
+/// way round. If each created node is named by the two nodes of its interaction and its place, the
+/// two nets are equal (Lafont, Interaction Nets, POPL 1990).
 ///
-/// The net has given out at most 1,999,999,000 numbers. `NotActive` and `SamePair` come exactly
-/// where they say so, and `NoMemory` where no memory was found.
+/// The net has given at most 1,999,999,000 numbers. `NotActive` and `SamePair` are returned exactly
+/// if their descriptions apply. `NoMemory`: no memory was found.
 pub fn two_orders(net: &Net, a: NodeId, b: NodeId) -> Result<Square, SquareFault>
     requires few { length net.now.nodes ≤ 1999999000 }
     ensures orders { IfOk result (IsSquare net.now a.0 b.0) }

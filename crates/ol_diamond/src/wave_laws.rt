@@ -1,20 +1,21 @@
-//! Waves: the round in which a pair would be rewritten if each round rewrote all pairs that are
-//! there.
+//! Theorems on waves. The wave of an active pair is the number of the parallel step (round) in
+//! which it is rewritten if each step rewrites all active pairs of the net at once.
 
 ghost use Rattle.ol_diamond.specs.Weights.{HeaviestOnTheWay, HeaviestIsLeft};
 ghost use Rattle.ol_diamond.specs.WaveLaws.{WavesAgree, EachPairHasItsWave, RunHasOneWaves, JournalWavesAgree, JournalHasOneWaves, StepHasWave, RunHasWaves, JournalHasWaves};
 
-/// Where edges have weights, and of two that become one the greater weight stays: an edge of weight
-/// n at most is left exactly where the edges of weight n at most leave one.
+/// Let edges have weights, and let a contraction of two edges keep the greater weight. After the
+/// contraction an edge has weight at most n exactly if it is also the result of contracting only
+/// the edges of weight at most n.
 pub fn heaviest_stays<V>()
     ensures way { HeaviestOnTheWay V }
     ensures left { HeaviestIsLeft V }
 {}
 
-/// In a run each link has a weight, and a pair's wave is one more than that of its link. Complete
-/// runs from one net have the same pairs with the same waves, each as often. A run has one list of
-/// waves. Journals of complete runs from one net give each pair, by birth names, one wave, and a
-/// journal has one list of waves.
+/// In a reduction each link has a weight, and the wave of an active pair is its link's weight plus
+/// 1. All reductions of a net to normal form have the same pairs with the same waves, each equally
+/// often. A reduction has a unique list of waves. All traces of reductions of a net to normal form
+/// give each pair, by birth names, the same wave, and a trace has a unique list of waves.
 pub fn waves_agree()
     ensures waves { WavesAgree }
     ensures each { EachPairHasItsWave }
@@ -23,8 +24,8 @@ pub fn waves_agree()
     ensures journal { JournalHasOneWaves }
 {}
 
-/// Each step of a net whose links have weights has a wave, and leaves links with weights. So each
-/// run has waves, and so does each journal.
+/// Each interaction of a net with weighted links has a wave, and results in a net with weighted
+/// links. Because of this, each reduction and each trace has waves.
 pub fn runs_have_waves<A>()
     ensures step { StepHasWave A }
     ensures run { RunHasWaves }

@@ -1,4 +1,4 @@
-//! The waves of a journal, found by a replay on a net whose ports have weights.
+//! The waves (parallel steps) of a trace, found by a replay on a net whose ports have weights.
 
 ghost use Rattle.std.specs.Prelude.{◌≡◌, ◌↔◌, IsNone, ℕ, suc, max, ◌+◌, ◌*◌, ◌≤◌, [], ◌∷◌, ◌++◌, length, true, false, slice_get, slice_index_or, IfOk, OnOk, IfSome, IfNone};
 ghost use Rattle.ol_net.specs.declared.parts.Facing.TheVariants.{Active};
@@ -21,7 +21,7 @@ use ol_rules::{Entry, Journal, NodeName, Numbers, are_facing, is_meeting, step};
 use std::alloc::Global;
 use std::marker::Model;
 
-/// The waves of the entries of a journal, in order.
+/// The waves of a trace's entries, in order.
 #[derive(Drop)]
 pub struct WaveList {
     waves: Vec<u32>,
@@ -38,14 +38,14 @@ impl Model for WaveList {
 }
 
 impl WaveList {
-    /// The number of entries.
+    /// The number of entries of the trace.
     pub fn len(&self) -> u32
         ensures { result ≡ length self.now }
     {
         self.waves.len() as u32
     }
 
-    /// The wave of the entry with ticket `k`. None comes exactly where `k` isn't below `len`.
+    /// The wave of the entry with ticket `k`. `None`: `k` isn't less than `len`.
     pub fn get(&self, k: u32) -> Option<u32>
         ensures wave { result ≡ slice_get self.now k }
         ensures none { IsNone result ↔ (length self.now ≤ k) }
@@ -54,36 +54,37 @@ impl WaveList {
     }
 }
 
-/// What the rewrite of a pair was: its rule, and the round in which it would come if each round
-/// rewrote all pairs that are there.
+/// An interaction of the replay: its rule, and its wave, which is the number of its parallel step,
+/// from 1.
 #[derive(Clone, Copy, Debug, PartialEq, Eq)]
 pub struct Rewritten {
     pub rule: Rule,
     pub wave: u32,
 }
 
-/// A net while a journal is replayed, with the numbers of its names and weights of its links, which
-/// `waves` tells of. `weights` has a weight at the place of each port: free ports come first, by
-/// number, and then three places for each node number. A link weighs as much as the heavier of its
-/// two ports.
+/// The net during the replay of a trace, with the node numbers of its names and the weights of its
+/// links, as `waves` defines them. `weights` has a weight for each port, at the place of the port:
+/// free ports are first, by number, followed by three places for each node number. The weight of a
+/// link is the greater weight of its two ports.
 #[derive(Drop)]
 pub struct Weighing {
     /// The net so far.
     pub net: Net,
-    /// The numbers of the names.
+    /// The node numbers of the names.
     pub numbers: Numbers,
-    /// The weights of the ports, each at its place.
+    /// The weights of the ports, each at the place of its port.
     pub weights: Vec<u32>,
 }
 
-/// The waves of the entries of a journal: the round in which each pair would be rewritten if each
-/// round rewrote all pairs that are there. The links of the net have weight 0. The wave of an entry
-/// is one more than the weight of the link of its two nodes, the joins that it makes weigh as much
-/// as its wave, and of two edges that become one the greater weight stays. So a pair's wave is greater
-/// than those of the pairs whose rewriting made the link of its two nodes.
+/// The waves of a trace's entries: the number, from 1, of the parallel step in which each pair is
+/// rewritten if each step rewrites all active pairs of the net at once. The links of the initial
+/// net have weight 0. The wave of an entry is the weight of the link between its two nodes plus 1,
+/// the joins that it makes have its wave as weight, and a contraction of two edges keeps the
+/// greater weight. It follows that the wave of a pair is greater than the waves of the pairs whose
+/// interactions made the link of its two nodes.
 ///
-/// The journal is that of a run from the net, whose nodes are named by their numbers. The net stays
-/// as it is. `NoMemory`: no memory was found.
+/// The trace is of a reduction of `net`, whose nodes are named by their numbers. The net is
+/// unchanged. `NoMemory`: no memory was found.
 pub fn waves(alloc: Global, net: &Net, journal: &Journal) -> Result<WaveList, NoMemory>
     requires few { length net.now.nodes + 4 * length journal.now ≤ 2000000000 }
     requires run { (M : NamedNet NodeName)
@@ -132,8 +133,8 @@ fn rule_between(net: &Net, f: NodeId, g: NodeId) -> Option<Rule>
 }
 
 impl Weighing {
-    /// A copy of the net at the start: its nodes are named by their numbers, and no port weighs
-    /// anything. `NoMemory`: no memory was found.
+    /// The replay before its first entry, on a copy of the net: nodes are named by their numbers,
+    /// and all weights are 0. `NoMemory`: no memory was found.
     pub fn new(alloc: Global, net: &Net) -> Result<Weighing, NoMemory>
         ensures net { IfOk result (λ w. w.net ≡ net.now) }
         ensures numbers { IfOk result (λ w. w.numbers.bases.items ≡ length net.now.nodes ∷ []) }
@@ -307,9 +308,9 @@ impl Weighing {
         }
     }
 
-    /// Rewrites the pair of the nodes of these names, where it is active, and answers its rule and
-    /// its wave. `None`: no such pair is active; the net stays as it is. `NoMemory`: no memory was
-    /// found, or the wave is above 4294967295.
+    /// Rewrites the pair of the nodes with these names, if it is active, and returns its rule and
+    /// its wave. `None`: the two nodes aren't an active pair; the net is unchanged. `NoMemory`: no
+    /// memory was found, or the wave exceeds 4,294,967,295.
     pub fn rewrite(
         &mut self,
         first: NodeName,
@@ -364,7 +365,7 @@ impl Weighing {
         Ok(made.wave)
     }
 
-    /// Whether no pair is active.
+    /// Whether no active pair is left.
     pub fn is_complete(&self) -> bool
         ensures complete { result ≡ true → IsComplete (net_of self.now.net) }
         ensures active { result ≡ false → HasActive (net_of self.now.net) }

@@ -1,4 +1,4 @@
-//! Reading a name to its end, and writing a whole text.
+//! Reading all bytes of a name, and writing a whole text.
 ghost use Rattle.std.specs.Prelude.{ℕ, List, Option, ◌≡◌, ◌≤◌, ◌<◌, ◌+◌, ◌↔◌, true, length, IfOk, OnOk, IsErrOf};
 ghost use Rattle.ol_io.specs.Outside.{next_count, Appended, Counts, IsAllOf, IsLonger};
 ghost use Rattle.ol_io.specs.Readings.{AreOfSince, HandsOver};
@@ -8,36 +8,35 @@ ghost use Rattle.ol_io.specs.Calls.{read_all_failed, write_all_failed, written, 
 use crate::outside::{Begun, Got, Put, Sink, Source};
 use std::alloc::Global;
 
-/// Why `read_all` gives no bytes.
+/// Why `read_all` returns no bytes.
 #[derive(Clone, Copy, Debug, PartialEq, Eq)]
 pub enum ReadAll {
-    /// The source failed: its count of faults rose, or stands at its last value.
+    /// The source failed: its count of faults rose, or is already at its greatest value.
     Fault,
-    /// The name gave more bytes than were asked for at most.
+    /// The name has more bytes than the limit of the call.
     TooLong,
-    /// No memory was found for the bytes.
+    /// A memory allocation failed.
     NoMemory,
 }
 
-/// What `write_all` answers.
+/// The answer of `write_all`.
 #[derive(Clone, Copy, Debug, PartialEq, Eq)]
 pub enum Written {
-    /// The whole text was taken.
+    /// The sink took the whole text.
     All,
-    /// The sink failed after the first `taken` bytes of the text: its count of faults rose, or
-    /// stands at its last value.
+    /// The sink failed after it took the first `taken` bytes of the text: its count of faults rose,
+    /// or is already at its greatest value.
     Fault { taken: usize },
 }
 
-/// All bytes of a name that has at most `most` of them, `most` being at most 1,000,000,000.
+/// Reads all bytes of a name. The limit `most` is at most 1,000,000,000 bytes.
 ///
 /// - `Fault`: the source failed, at the `begin` or at a `read`.
-/// - `TooLong`: it gave more than `most` bytes. Reading stops with the first byte that passes
-///   `most`.
+/// - `TooLong`: the name has more than `most` bytes. Reading stops at the first byte after these.
 /// - `NoMemory`: no memory was found for the bytes.
 ///
-/// It asks for at most 65,536 bytes at a time. Each read but the last gives at least one byte, so
-/// it ends after at most `most` + 1 reads that give bytes, and one more.
+/// Each `read` asks for at most 65,536 bytes, and each `read` except the last returns at least one
+/// byte, so that the call makes at most `most` + 2 reads.
 pub fn read_all<S: Source>(
     alloc: Global,
     src: &mut S,
@@ -109,10 +108,10 @@ fn read_on<S: Source>(alloc: Global, src: &mut S, most: usize) -> Result<Vec<u8>
     }
 }
 
-/// Writes a whole text, or as much of it as the sink took before it failed. It takes no memory.
+/// Writes a whole text, or the prefix of it that the sink takes before it fails. Takes no memory.
 ///
-/// In each write it offers all bytes that are left. Each write but a failed one takes at least one,
-/// so it ends after at most as many writes as the text has bytes.
+/// Each write offers all remaining bytes. Each write except a failing write takes at least one
+/// byte, so that the number of writes is at most the length of the text, in bytes.
 pub fn write_all<W: Sink>(out: &mut W, text: &[u8]) -> Written
     ensures bytes { Appended (W.taken out.old) (written result text.now) (W.taken out.new) }
     ensures within { FaultsWithin result (length text.now) }

@@ -6,7 +6,7 @@ ghost use Rattle.ol_io.specs.Unread.{left_of};
 
 use std::marker::Model;
 
-/// A name and its bytes. Contracts see it as these two lists of bytes.
+/// A name and its bytes. Contracts view it as these two lists of bytes.
 #[derive(Debug, Drop)]
 pub struct MemFile {
     pub name: String,

@@ -1,5 +1,5 @@
-//! What passed through a source or a sink. Only clauses read it: it takes no memory, and noting does
-//! nothing.
+//! The record of a source's or a sink's traffic. Only contracts read it: it takes no memory, and a
+//! note in it compiles to nothing.
 ghost use Rattle.std.specs.Prelude.{◌≡◌};
 ghost use base.Fml.{ftrue};
 ghost use Rattle.ol_io.specs.Passed.{Passed, nothing};

@@ -1,4 +1,4 @@
-//! A sink in memory, which fails where it is told to.
+//! A sink in memory that fails at chosen writes.
 ghost use Rattle.std.specs.Prelude.{◌≡◌, ◌<◌, IfOk, length};
 ghost use Rattle.ol_io.specs.Outside.{Counts, WritesWithin, write_failed};
 ghost use Rattle.ol_io.specs.Fakes.{fresh_sink, write_answer, after_write};
@@ -9,13 +9,14 @@ use ol_limits::NoMemory;
 use std::alloc::Global;
 use std::marker::Model;
 
-/// A sink in memory, of a room that is reserved when it is made. It tells all its bytes.
+/// A sink in memory, whose capacity is reserved when it is made. `taken` is the list of all its
+/// bytes.
 ///
-/// Writes are numbered from 0, up to a last number, 2^64 - 1, which then serves all further writes.
-/// A write whose number is in `failing` answers `Failed`, and so does one where no room is left. A
-/// write takes at most `most` bytes and no more than the room that is left. It takes no memory.
+/// Writes are numbered from 0; all writes from number 2^64 - 1 on have this number. A write whose
+/// number is in `failing` returns `Failed`, and so does a write when the capacity is used up. A
+/// write takes at most `most` bytes, and at most the remaining capacity. A write takes no memory.
 ///
-/// Contracts see it as a `SinkState`.
+/// Contracts view it as a `SinkState`.
 #[derive(Debug, Drop)]
 pub struct MemSink {
     bytes: Vec<u8>,
@@ -47,9 +48,9 @@ impl Model for MemSink {
 }
 
 impl MemSink {
-    /// A sink of this room, in bytes, to which nothing was written. It reserves the room.
+    /// An empty sink with a capacity of `room` bytes, which it reserves.
     ///
-    /// `NoMemory`: no memory was found for the room.
+    /// `NoMemory`: no memory was found for the capacity.
     pub fn new(
         alloc: Global,
         room: usize,
@@ -70,7 +71,7 @@ impl MemSink {
         })
     }
 
-    /// The bytes that were taken, in order.
+    /// The bytes taken so far, in order.
     pub fn bytes(&self) -> &[u8]
         ensures taken { result.now ≡ self.now.bytes }
     {

@@ -1,4 +1,4 @@
-//! A source in memory, which fails where it is told to.
+//! A source in memory that fails at chosen calls.
 ghost use Rattle.std.specs.Prelude.{◌≡◌, ◌≤◌, ◌<◌, ◌^◌, ◌+◌, ◌++◌, ℕ, List, true, Some, length, take, drop, min};
 ghost use Rattle.ol_io.specs.Outside.{Counts, Reads, ReadsWithin, begin_failed, read_failed};
 ghost use Rattle.ol_io.specs.Readings.{after_got};
@@ -10,14 +10,14 @@ use crate::log::{Log, Note};
 use crate::outside::{Begun, Got, Source};
 use std::marker::Model;
 
-/// A source in memory. It tells all its bytes, and knows every name.
+/// A source in memory. `contents` is known for every name, and every name can be begun.
 ///
-/// Calls of `begin` and `read` are numbered together from 0, up to a last number, 2^64 - 1, which
-/// then serves all further calls. A call whose number is in `failing` answers `Failed`, and so does
-/// a `begin` of a name that no file has. Of two files with one name the first counts. A read gives
-/// at most `most` bytes.
+/// Calls of `begin` and `read` share one numbering from 0; all calls from number 2^64 - 1 on have
+/// this number. A call whose number is in `failing` returns `Failed`, and so does a `begin` of a
+/// name that no file has. If two files have the same name, the first is read. A read returns at
+/// most `most` bytes.
 ///
-/// Contracts see it as a `SourceState`.
+/// Contracts view it as a `SourceState`.
 #[derive(Debug, Drop)]
 pub struct MemSource {
     files: Vec<MemFile>,
@@ -59,7 +59,7 @@ impl Model for MemSource {
 }
 
 impl MemSource {
-    /// A source of these files, of which no call was made. It takes no memory.
+    /// A source of these files, before its first call. Takes no memory.
     pub fn new(files: Vec<MemFile>, most: usize, failing: Vec<u64>) -> MemSource
         requires most { 0 < most }
         ensures state { result ≡ fresh_source files.items most failing.items }

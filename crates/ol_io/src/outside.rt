@@ -1,72 +1,73 @@
-//! What the program asks of the outside.
+//! The traits of sources and sinks of bytes.
 ghost use Rattle.std.specs.Prelude.{◌≡◌, ◌+◌, ◌≤◌, ◌<◌, ℕ, Bool, true, false, List, ◌∷◌, Option, length};
 ghost use Rattle.ol_io.specs.Outside.{Counts, Begins, Reads, ReadsWithin, Writes, WritesWithin, next_count, begin_failed, begin_ready, read_failed, gave_bytes, at_end, byte_count, write_failed};
 ghost use Rattle.ol_io.specs.Readings.{Reading, begun, after_got};
 
-/// What `begin` answers.
+/// The answer of `begin`.
 #[derive(Clone, Copy, Debug, PartialEq, Eq)]
 pub enum Begun {
-    /// The bytes of the name can be read, from the first on.
+    /// The bytes of the name can be read, from the first byte.
     Ready,
-    /// The name could not be begun, and the count of faults shows it.
+    /// The name couldn't be begun, and the count of faults rose, if it was below 2^64 - 1.
     Failed,
 }
 
-/// What `read` answers.
+/// The answer of `read`.
 #[derive(Clone, Copy, Debug, PartialEq, Eq)]
 pub enum Got {
-    /// So many bytes, at least one, stand in the front of the buffer.
+    /// The first bytes of the buffer, in this number, at least 1, are the bytes read.
     Bytes(usize),
     /// No byte of the name is left.
     End,
-    /// The read failed, and the count of faults shows it.
+    /// The read failed, and the count of faults rose, if it was below 2^64 - 1.
     Failed,
 }
 
-/// What `write` answers.
+/// The answer of `write`.
 #[derive(Clone, Copy, Debug, PartialEq, Eq)]
 pub enum Put {
-    /// So many bytes of the front of the piece, at least one, were taken.
+    /// The first bytes of the piece, in this number, at least 1, were taken.
     Bytes(usize),
-    /// Nothing was taken, and the count of faults shows it.
+    /// No byte was taken, and the count of faults rose, if it was below 2^64 - 1.
     Failed,
 }
 
-/// Where bytes come from, by name. The name `-` is standard input.
+/// A source of bytes, by name. The name `-` is standard input.
 ///
-/// A source tells its bytes where it can, as one in memory does. One that stands for files tells
-/// none before they are read. Each tells what it handed over.
+/// `contents` and `left` are `Some` for a source in memory, and `None` for files, whose bytes
+/// aren't known before they are read. `readings` contains the bytes that every source returned.
 pub trait Source {
-    /// How often a call has failed. It never falls, and stays at its last value, 2^64 - 1.
+    /// The number of failed calls. It never decreases, and stays at its greatest value, 2^64 - 1.
     ghost faults: { Self → ℕ };
 
-    /// Which names may be begun. No call changes it.
+    /// Whether a name can be begun. No call changes it.
     ghost knows: { Self → List ℕ → Bool };
 
-    /// How often `begin` was called. It stays at its last value, 2^64 - 1.
+    /// The number of calls of `begin`. It stays at its greatest value, 2^64 - 1.
     ghost begins: { Self → ℕ };
 
-    /// How many bytes `read` gave since the last `begin`.
+    /// The number of bytes that `read` returned since the last `begin`.
     ghost given: { Self → ℕ };
 
-    /// Whether a name is begun and neither its end nor a fault has come since.
+    /// Whether a name is begun and neither its end nor a fault was returned since.
     ghost ready: { Self → Bool };
 
     /// Whether the last answer was `End`.
     ghost ended: { Self → Bool };
 
-    /// The bytes that each name has, where the source tells them. No call changes them.
+    /// The bytes of each name, or `None` if the source doesn't know them. No call changes it.
     ghost contents: { Self → List ℕ → Option (List ℕ) };
 
-    /// The bytes left of the name that was begun last, where the source tells them.
+    /// The remaining bytes of the name that was begun last, or `None` if the source doesn't know
+    /// them.
     ghost left: { Self → Option (List ℕ) };
 
-    /// What was handed over: a reading for each `begin`, the last one first.
+    /// The bytes returned so far: a reading for each `begin`, the last reading first.
     ghost readings: { Self → List Reading };
 
-    /// Begins to read a name from its first byte.
+    /// Begins to read a name at its first byte.
     ///
-    /// `Ready` makes the bytes of that name the bytes left. After `Failed` they are what they were.
+    /// After `Ready`, `left` is all bytes of the name. After `Failed`, `left` is unchanged.
     fn begin(&mut self, name: &str) -> Begun
         requires known { knows self.old name.now ≡ true }
         ensures cause { Counts (begin_failed result) (faults self.old) (faults self.new) }
@@ -79,10 +80,10 @@ pub trait Source {
         ensures contents { contents self.new ≡ contents self.old }
         ensures readings { readings self.new ≡ begun name.now ∷ readings self.old };
 
-    /// Reads bytes of the name that was begun last, 1 to the length of the buffer.
+    /// Reads bytes of the name that was begun last: from 1 to the length of the buffer.
     ///
-    /// `Bytes(n)` puts the first n bytes left into the front of the buffer and takes them away.
-    /// `End` comes only where no byte is left. After `Failed` the bytes left are what they were.
+    /// `Bytes(n)` moves the first n remaining bytes to the start of the buffer. `End` is returned
+    /// only if no byte remains. After `Failed`, `left` is unchanged.
     fn read(&mut self, buf: &mut [u8]) -> Got
         requires room { 0 < length buf.old }
         requires ready { ready self.old ≡ true }
@@ -99,18 +100,18 @@ pub trait Source {
         ensures readings { readings self.new ≡ after_got result buf.new (readings self.old) };
 }
 
-/// Where bytes go.
+/// A sink of bytes.
 pub trait Sink {
-    /// How often a call has failed. It never falls, and stays at its last value, 2^64 - 1.
+    /// The number of failed calls. It never decreases, and stays at its greatest value, 2^64 - 1.
     ghost faults: { Self → ℕ };
 
-    /// The bytes taken, in order, where the sink tells them.
+    /// The bytes taken so far, in order, or `None` if the sink doesn't know them.
     ghost taken: { Self → Option (List ℕ) };
 
-    /// Writes the front of a piece, 1 byte to its length.
+    /// Writes a nonempty prefix of a piece.
     ///
-    /// `Bytes(n)` appends the first n bytes of the piece to the bytes taken. `Failed` takes
-    /// nothing.
+    /// `Bytes(n)` appends the first n bytes of the piece to the bytes taken. `Failed` takes no
+    /// byte.
     fn write(&mut self, piece: &[u8]) -> Put
         requires some { 0 < length piece.now }
         ensures cause { Counts (write_failed result) (faults self.old) (faults self.new) }

@@ -13,13 +13,13 @@ use ol_limits::NoMemory;
 use std::alloc::Global;
 use std::marker::Model;
 
-/// A source in memory that never fails: its count of faults is the constant 0. It tells all its
-/// bytes, and knows every name.
+/// A source in memory that never fails: its count of faults is the constant 0. `contents` is known
+/// for every name, and every name can be begun.
 ///
-/// A name that no file has is begun too, and has no bytes. Of two files with one name the first
-/// counts. A read gives as many bytes as are left and as there is room for.
+/// A name that no file has is empty. If two files have the same name, the first is read. A read
+/// returns as many bytes as remain and fit into the buffer.
 ///
-/// Contracts see it as a `SureSourceState`.
+/// Contracts view it as a `SureSourceState`.
 #[derive(Debug, Drop)]
 pub struct SureSource {
     files: Vec<MemFile>,
@@ -53,7 +53,7 @@ impl Model for SureSource {
 }
 
 impl SureSource {
-    /// A source of these files, of which no call was made. It takes no memory.
+    /// A source of these files, before its first call. Takes no memory.
     pub fn new(files: Vec<MemFile>) -> SureSource
         ensures state { result ≡ fresh_sure_source files.items }
         ensures knows { (name : List ℕ) → ⟦<SureSource as Source>⟧.knows result name ≡ true }
@@ -137,11 +137,11 @@ impl Source for SureSource {
 
 /// A sink in memory that never fails: its count of faults is the constant 0.
 ///
-/// It takes each piece whole. Up to `room` bytes it keeps, in memory that was reserved when it was
-/// made, and tells them. Past that it takes bytes without keeping them, and from then on it tells
-/// none. A write takes no memory.
+/// It takes each piece whole. It keeps the first `room` bytes in memory that was reserved when it
+/// was made, and drops all further bytes. `taken` is the list of all bytes as long as they are at
+/// most `room`, and `None` afterwards. A write takes no memory.
 ///
-/// Contracts see it as a `SureSinkState`.
+/// Contracts view it as a `SureSinkState`.
 #[derive(Debug, Drop)]
 pub struct SureSink {
     bytes: Vec<u8>,
@@ -162,9 +162,9 @@ impl Model for SureSink {
 }
 
 impl SureSink {
-    /// A sink that keeps up to `room` bytes, to which nothing was written. It reserves the room.
+    /// An empty sink that keeps up to `room` bytes, whose memory it reserves.
     ///
-    /// `NoMemory`: no memory was found for the room.
+    /// `NoMemory`: no memory was found for them.
     pub fn new(alloc: Global, room: usize) -> Result<SureSink, NoMemory>
         ensures state { IfOk result (λ sink. sink ≡ fresh_sure_sink room) }
     {
@@ -176,8 +176,8 @@ impl SureSink {
         })
     }
 
-    /// The bytes that are kept, in order: the first `room` of those taken, which are all of them
-    /// where they are no more.
+    /// The bytes kept, in order: the first `room` bytes taken, or all bytes taken if they are
+    /// fewer.
     pub fn bytes(&self) -> &[u8]
         ensures kept { result.now ≡ self.now.bytes }
     {

@@ -1,13 +1,14 @@
-//! Edges over any vertices, what they join, and the contraction of vertices.
+//! Multigraph contraction: edges over vertices of any type, and the removal of vertices.
 //!
-//! A vertex that stands in two edges {x,p} and {p,y} is taken out and the edge {x,y} is put in; a
-//! vertex whose only edge is {p,p} goes with that edge. There is no code here, only definitions and
-//! what follows from them.
+//! Removing a vertex with two edges {x,p} and {p,y} replaces both edges by {x,y}. Removing a vertex
+//! whose only edge is {p,p} also removes that edge. The crate has definitions and theorems, and no
+//! code.
 #![tactic(auto)]
 
 ghost use Rattle.ol_law_edges.specs.Laws.{ContractAnyOrder, ContractJoins};
 
-/// Vertices can be taken out in any order, and what is left is what was joined by way of them.
+/// The result of removing vertices doesn't depend on the order of removal: it joins the remaining
+/// vertices that paths through removed vertices joined.
 pub fn contract_any_order<V>()
     ensures order { ContractAnyOrder V }
     ensures joins { ContractJoins V }

@@ -1,8 +1,11 @@
-//! The limits of what is read, made ready, rewritten and printed; numbers that keep theirs; and the
+//! The limits of terms, nets, traces and options; types for numbers within these limits; and the
 //! error of a call that finds no memory.
 //!
-//! Clauses have the limits from specs/Limits.antt, where they stand as numerals. So a constant of
-//! this file that differs is refused by the function that rests on it.
+//! Contracts cite the limits of specs/Limits.antt, which are numerals, so that the proof of a
+//! function that uses a constant of this file fails if the constant differs. Nothing checks a
+//! constant that no function uses, and no contract promises that memory for an input within the
+//! limits is available. No contract of any crate says that memory is short when a call returns
+//! `NoMemory`: a call that can return `NoMemory` may return it instead of any other answer.
 #![tactic(auto)]
 
 ghost use Rattle.std.specs.Prelude.{◌≡◌, ◌≤◌};
@@ -10,7 +13,7 @@ ghost use Rattle.ol_limits.specs.Limits.{most_fuel, most_workers, plain_fuel, pl
 
 use std::alloc::{AllocError, AllocFailed};
 
-/// No memory was found. It is returned in no other case.
+/// A memory allocation failed. No other condition returns this value.
 #[derive(Clone, Copy, Debug, PartialEq, Eq)]
 pub struct NoMemory;
 
@@ -26,49 +29,49 @@ impl<T: Drop> From<AllocFailed<T>> for NoMemory {
     }
 }
 
-/// The greatest number of bytes of a term file.
+/// The greatest length of a term file, in bytes.
 pub const MOST_TERM_BYTES: u32 = 1_048_576;
 
-/// The greatest number of bytes of a journal file.
+/// The greatest length of a trace file, in bytes.
 pub const MOST_JOURNAL_BYTES: u32 = 402_653_184;
 
-/// The greatest number of bytes of a file with a net.
+/// The greatest length of a net file, in bytes.
 pub const MOST_NET_BYTES: u32 = 33_554_432;
 
 /// The greatest depth of a term.
 pub const MOST_DEPTH: u32 = 1_000;
 
-/// The most constructors of a term that beta steps are made from.
+/// The greatest number of constructors of a term to which β-steps are applied.
 pub const MOST_SIZE: u32 = 100_000;
 
-/// The greatest number of nodes of a term's net, and of a net that is printed.
+/// The greatest number of nodes of a term's translation, and of a net that is printed.
 pub const MOST_NODES: u32 = 200_000;
 
-/// How many workers may rewrite a net.
+/// The greatest number of worker threads of a reduction.
 pub const MOST_WORKERS: u32 = 64;
 
-/// How many subterms may be asked for their heads.
+/// The greatest number of subterms for whose head normal forms a request can ask.
 pub const MOST_HEADS: u32 = 100_000;
 
-/// How many interactions a run may be asked for, and how many entries a journal may have.
+/// The greatest fuel of a reduction, and the greatest number of entries of a trace.
 pub const MOST_FUEL: u32 = 8_000_000;
 
-/// How many edges a walk may cross.
+/// The greatest number of edges of a path.
 pub const MOST_EDGES: u32 = 10_000_000;
 
-/// How many beta steps may be asked for.
+/// The greatest number of β-steps of a request.
 pub const MOST_STEPS: u32 = 10_000;
 
-/// How many workers `run` has without options.
+/// The default number of worker threads of `run`.
 pub const PLAIN_WORKERS: u32 = 4;
 
-/// How many interactions `run` makes at most without options.
+/// The default fuel of `run`: the greatest number of interactions.
 pub const PLAIN_FUEL: u32 = 200_000;
 
-/// How many subterms `run` asks for their heads without options.
+/// The default number of subterms whose head normal forms are computed.
 pub const PLAIN_HEADS: u32 = 4_096;
 
-/// How many workers rewrite a net: at least one.
+/// The number of worker threads of a reduction: 1 to `MOST_WORKERS`.
 #[derive(Clone, Copy)]
 pub struct Workers {
     pub count: u32,
@@ -77,7 +80,7 @@ pub struct Workers {
 }
 
 impl Workers {
-    /// So many workers.
+    /// The number `count` as a number of worker threads.
     pub fn of(count: u32) -> Workers
         requires within { (1 ≤ count) × (count ≤ most_workers) }
         ensures count { result.count ≡ count }
@@ -85,7 +88,7 @@ impl Workers {
         Workers { count }
     }
 
-    /// The workers of `run` without options.
+    /// The default number of worker threads of `run`, `PLAIN_WORKERS`.
     pub fn plain() -> Workers
         ensures count { result.count ≡ plain_workers }
     {
@@ -93,7 +96,7 @@ impl Workers {
     }
 }
 
-/// How many interactions a run makes at most.
+/// The greatest number of interactions of a reduction: 0 to `MOST_FUEL`.
 #[derive(Clone, Copy)]
 pub struct Fuel {
     pub most: u32,
@@ -101,7 +104,7 @@ pub struct Fuel {
 }
 
 impl Fuel {
-    /// Fuel for so many interactions.
+    /// Fuel for `most` interactions.
     pub fn of(most: u32) -> Fuel
         requires within { most ≤ most_fuel }
         ensures most { result.most ≡ most }
@@ -109,7 +112,7 @@ impl Fuel {
         Fuel { most }
     }
 
-    /// The fuel of `run` without options.
+    /// The default fuel of `run`, `PLAIN_FUEL`.
     pub fn plain() -> Fuel
         ensures most { result.most ≡ plain_fuel }
     {
@@ -117,7 +120,7 @@ impl Fuel {
     }
 }
 
-/// How many subterms are asked for their heads: at least one.
+/// The greatest number of subterms whose head normal forms are computed, at least 1.
 #[derive(Clone, Copy)]
 pub struct Heads {
     pub most: u32,
@@ -125,7 +128,7 @@ pub struct Heads {
 }
 
 impl Heads {
-    /// So many subterms at most.
+    /// At most `most` subterms.
     pub fn of(most: u32) -> Heads
         requires some { 1 ≤ most }
         ensures most { result.most ≡ most }
@@ -133,7 +136,7 @@ impl Heads {
         Heads { most }
     }
 
-    /// The subterms that `run` asks without options.
+    /// The default number of subterms, `PLAIN_HEADS`.
     pub fn plain() -> Heads
         ensures most { result.most ≡ plain_heads }
     {

@@ -1,4 +1,4 @@
-//! The tests of the parts of a net, each of which finds the first fault of its sort.
+//! The checks of a net's parts, each of which finds the first fault of its sort.
 
 ghost use Rattle.std.specs.Prelude.{◌≡◌, ◌≢◌, ℕ, ◌+◌, ◌-◌, ◌*◌, ◌/◌, ◌%◌, ◌^◌, ◌<◌, ◌≤◌, length, true, false, List, slice_index, slice_set, vec_len, IfNone, IfOk, IsTrue, ◌↔◌, ◌==◌, ◌&&◌, if◌then◌else◌, not};
 ghost use Rattle.ol_net.specs.Graph.{has_port, place, IsTabled};
@@ -23,7 +23,8 @@ fn is_bad_index(top: u32, node: (Kind, u32)) -> bool
     }
 }
 
-/// The first node with an index above `top`, or that is an eraser with an index other than 0.
+/// The number of the first node whose index exceeds `top`, or that is an eraser with an index other
+/// than 0.
 pub fn first_bad_index(top: u32, nodes: &[(Kind, u32)]) -> Option<u32>
     requires { length nodes.now < 2 ^ 32 }
     ensures { FindsFirst (BadIndexAt top nodes.now) result }
@@ -36,7 +37,7 @@ pub fn first_bad_index(top: u32, nodes: &[(Kind, u32)]) -> Option<u32>
     None
 }
 
-/// The first link that names a port which does not exist.
+/// The number of the first link that names a port which doesn't exist.
 pub fn first_bad_port(
     free: u32,
     nodes: &[Option<(Kind, u32)>],
@@ -71,8 +72,8 @@ fn link_pair(partners: &mut Vec<usize>, a: usize, b: usize) -> bool
     true
 }
 
-/// Links the ports of each link, in a table in which no place has a partner, up to the first
-/// link that has a port a second time.
+/// Links the two ports of each link, in a table without partners, up to the first link with a port
+/// of an earlier link or with the same port at both ends.
 pub fn link_all(
     free: u32,
     nodes: &[Option<(Kind, u32)>],
@@ -96,7 +97,7 @@ pub fn link_all(
     None
 }
 
-/// The first place of a port that has no partner.
+/// The first port without a partner.
 pub fn first_loose(free: u32, nodes: &[Option<(Kind, u32)>], partners: &[usize]) -> Option<Port>
     requires few { length nodes.now < 2 ^ 31 }
     requires size { length partners.now ≡ free + 3 * length nodes.now }
@@ -111,7 +112,7 @@ pub fn first_loose(free: u32, nodes: &[Option<(Kind, u32)>], partners: &[usize])
     None
 }
 
-/// The nodes as they stand in a net, each of them live.
+/// The table of nodes of a new net, all of which are live.
 pub fn live_nodes(
     alloc: Global,
     nodes: &[(Kind, u32)],
@@ -121,7 +122,7 @@ pub fn live_nodes(
     nodes.iter().map(|node| Some(*node)).collect(alloc)
 }
 
-/// A table of places without partners.
+/// A table of `places` places without partners.
 pub fn alone(alloc: Global, places: usize) -> Result<Vec<usize>, AllocError>
     ensures size { IfOk result (λ v. length v.items ≡ places) }
     ensures each { IfOk result (λ v. (k : ℕ) → other v.items k ≡ k) }
@@ -133,7 +134,7 @@ pub fn alone(alloc: Global, places: usize) -> Result<Vec<usize>, AllocError>
     Ok(v)
 }
 
-/// The table of the links, whose ports exist.
+/// The table of partners for these links, whose ports exist.
 pub fn table_of(
     alloc: Global,
     free: u32,
@@ -157,7 +158,7 @@ pub fn table_of(
     Ok(partners)
 }
 
-/// The tables of a net with these nodes and links, whose indexes may be at most `top`.
+/// The tables of a net with these nodes and links, whose indexes are at most `top`.
 pub fn tables(
     alloc: Global,
     top: u32,

@@ -1,4 +1,4 @@
-//! What the nodes of a net are to those that they face.
+//! Active and stuck pairs of a net.
 
 ghost use Rattle.std.specs.Prelude.{◌≡◌, ℕ, ◌+◌, ◌*◌, ◌^◌, ◌<◌, ◌≤◌, length, true, ◌↔◌};
 ghost use Rattle.ol_net.specs.Graph.{Graph, IsTabled, facing_at};
@@ -10,7 +10,8 @@ ghost use Rattle.ol_net.specs.Scans.{IsLesserOfStuck};
 use crate::parts::{Facing, Kind, NodeId, Port, facing_of};
 use crate::table::{kind_in, partner_in};
 
-/// What the node is to the one whose principal port is the partner of its own.
+/// What a node and the node at the other end of its principal port's link are to each other, if
+/// that link joins two principal ports.
 pub fn facing_in(free: u32, nodes: &[Option<(Kind, u32)>], partners: &[usize], at: NodeId) -> Facing
     requires few { length nodes.now < 2 ^ 31 }
     requires net { IsTabled free nodes.now partners.now }
@@ -29,7 +30,7 @@ pub fn facing_in(free: u32, nodes: &[Option<(Kind, u32)>], partners: &[usize], a
     }
 }
 
-/// The number of stuck pairs. Each is counted at its lesser node.
+/// The number of stuck pairs. Each pair is counted at its node with the smaller number.
 pub fn stuck_in(free: u32, nodes: &[Option<(Kind, u32)>], partners: &[usize]) -> u32
     requires few { length nodes.now < 2 ^ 31 }
     requires net { IsTabled free nodes.now partners.now }

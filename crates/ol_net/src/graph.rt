@@ -25,8 +25,9 @@ use std::marker::Model;
 // The greatest index that `build` allows.
 const TOP_INDEX: u32 = 1_000_000;
 
-/// A net: nodes with a kind and an index under numbers of their own, free ports, and links, each of
-/// two ports. Each port stands in one link. A node's number is never given to another node.
+/// A sharing graph: nodes with a kind and an index, free ports, and links, each of which connects
+/// two ports. Each port is in exactly one link. Nodes are numbered in the order of their creation,
+/// and no number is given twice.
 #[derive(Drop)]
 pub struct Net {
     // The number of free ports, and that of live nodes.
@@ -58,15 +59,15 @@ impl Model for Net {
 }
 
 impl Net {
-    /// Numbers the nodes from 0 in the order given, and links their ports.
+    /// Builds a net. The nodes are numbered from 0 in the given order.
     ///
     /// - `free`: the number of free ports.
-    /// - `nodes`: each node's kind and index, fewer than 1,000,000,000 of them. An index is at most
-    ///   1,000,000, and 0 for an eraser; else `BadIndex` is answered.
-    /// - `links`: the two ports of each link, fewer than 2^32 of them.
+    /// - `nodes`: the kind and the index of each node, fewer than 1,000,000,000 nodes. An index is
+    ///   at most 1,000,000, and 0 for an eraser; otherwise `BadIndex` is returned.
+    /// - `links`: the two ports of each link, fewer than 2^32 links.
     ///
-    /// The first fault in the order of `BuildFault` is answered. `NoMemory` may stand in the place
-    /// of any answer.
+    /// Returns the first fault in the order of `BuildFault`. `NoMemory` may be returned instead of
+    /// any other answer.
     pub fn build(
         alloc: Global,
         free: u32,
@@ -81,17 +82,17 @@ impl Net {
         Net::build_to(alloc, TOP_INDEX, free, nodes, links)
     }
 
-    /// As `build`, with another greatest index in the place of 1,000,000: for a net whose indexes
-    /// have risen while it was rewritten.
+    /// Builds a net as `build` does, with another greatest index than 1,000,000, for a net whose
+    /// indexes rose during a reduction.
     ///
-    /// - `top`: the greatest index that a node may have, itself at most 100,000,000.
+    /// - `top`: the greatest index of a node, itself at most 100,000,000.
     /// - `free`: the number of free ports.
-    /// - `nodes`: each node's kind and index, fewer than 1,000,000,000 of them. An index is at most
-    ///   `top`, and 0 for an eraser; else `BadIndex` is answered.
-    /// - `links`: the two ports of each link, fewer than 2^32 of them.
+    /// - `nodes`: the kind and the index of each node, fewer than 1,000,000,000 nodes. An index is
+    ///   at most `top`, and 0 for an eraser; otherwise `BadIndex` is returned.
+    /// - `links`: the two ports of each link, fewer than 2^32 links.
     ///
-    /// The first fault in the order of `BuildFault` is answered. `NoMemory` may stand in the place
-    /// of any answer.
+    /// Returns the first fault in the order of `BuildFault`. `NoMemory` may be returned instead of
+    /// any other answer.
     pub fn build_to(
         alloc: Global,
         top: u32,
@@ -116,7 +117,7 @@ impl Net {
         }
     }
 
-    /// The number of free ports, which are `Free(0)` up to that number.
+    /// The number of free ports, which are `Free(0)` to `Free(free_ports - 1)`.
     pub fn free_ports(&self) -> u32
         ensures free { result ≡ self.now.free }
         ensures free_ports { result ≡ (net_of self.now).free_ports }
@@ -132,7 +133,7 @@ impl Net {
         self.live
     }
 
-    /// The number of node numbers given out so far. The next node gets this number.
+    /// The number of node numbers given so far, which is the number of the next node.
     pub fn born(&self) -> u32
         ensures born { result ≡ length self.now.nodes }
         ensures bound { result < 2 ^ 31 }
@@ -140,7 +141,7 @@ impl Net {
         self.nodes.len() as u32
     }
 
-    /// The greatest index of a live node, or 0 where there is none.
+    /// The greatest index of a live node, or 0 for a net without nodes.
     pub fn top_index(&self) -> u32
         ensures top { result ≡ top_index_of self.now.nodes }
         ensures bound { result ≤ 100000000 + length self.now.nodes }
@@ -148,7 +149,7 @@ impl Net {
         top_index_in(&self.nodes)
     }
 
-    /// Kind and index of a live node. `None`: no live node has the number.
+    /// The kind and the index of a live node. `None`: no live node has this number.
     pub fn kind_of(&self, at: NodeId) -> Option<(Kind, u32)>
         ensures table { result ≡ kind_at self.now.nodes at.0 }
         ensures node { IfSome result (λ k. HasNode (net_of self.now) at.0 k.0 k.1) }
@@ -157,7 +158,7 @@ impl Net {
         kind_in(&self.nodes, at.0 as usize)
     }
 
-    /// The other port of a port's link. `None`: the net has no such port.
+    /// The port at the other end of a port's link. `None`: the net has no such port.
     pub fn partner(&self, of: Port) -> Option<Port>
         ensures table { result ≡ partner_of self.now of }
         ensures linked { IfSome result (λ q. PortsLinked self.now of q) }
@@ -167,9 +168,9 @@ impl Net {
         partner_in(self.free, &self.nodes, &self.partners, of)
     }
 
-    /// What the node is to the one that it faces: the node whose principal port is the partner of
-    /// its own. `Active`: the two have a rule, whichever of them acts. `Stuck`: they have none.
-    /// `None`: no live node has the number, or its principal port has another partner.
+    /// Whether a node is in an active or a stuck pair: two nodes linked by their principal ports.
+    /// `Active`: the two nodes have a rule, whichever of them acts. `Stuck`: the two nodes have no
+    /// rule. `None`: no live node has this number, or its principal port is linked to another port.
     pub fn facing(&self, at: NodeId) -> Facing
         ensures table { result ≡ facing_at self.now at }
         ensures active { (r : Rule) → (result ≡ Active r) ↔ IsInActive (net_of self.now) at.0 r }
@@ -179,15 +180,15 @@ impl Net {
         facing_in(self.free, &self.nodes, &self.partners, at)
     }
 
-    /// The number of stuck pairs: two nodes that face each other and have no rule.
+    /// The number of stuck pairs: two nodes linked by their principal ports that have no rule.
     pub fn stuck(&self) -> u32
         ensures stuck { HasStuck (net_of self.now) result }
     {
         stuck_in(self.free, &self.nodes, &self.partners)
     }
 
-    /// A net of its own that is equal to this one: the same free ports, the same nodes and links
-    /// under the same numbers, and as many numbers given out. `NoMemory`: no memory was found.
+    /// A copy of this net: the same free ports, the same nodes and links with the same numbers, and
+    /// as many numbers given. `NoMemory`: no memory was found.
     pub fn copy(&self) -> Result<Net, NoMemory>
         ensures copy { IfOk result (λ net. net ≡ self.now) }
     {
@@ -201,15 +202,15 @@ impl Net {
         })
     }
 
-    /// Law: what the tables stand for is a net. Each number has one node, and each port stands in
-    /// one link, with another port.
+    /// Theorem: the tables represent a net. Each number has a single node, and each port is in
+    /// exactly one link, whose other end is another port.
     pub fn is_net(&self)
         ensures net { IsNet (net_of self.now) }
     {
         let _ = &self.partners;
     }
 
-    /// Law: what the tables of a net keep.
+    /// Theorem: the invariant of the tables of a net.
     pub fn is_tabled(&self)
         ensures tables { IsTabled self.now.free self.now.nodes self.now.partners }
         ensures few { length self.now.nodes < 2 ^ 31 }
@@ -218,23 +219,24 @@ impl Net {
         let _ = &self.partners;
     }
 
-    /// Takes out two nodes that face each other, puts others in under the next numbers, and joins
-    /// the ends that are open. It is the one call that changes a net.
+    /// Replaces two nodes, linked by their principal ports, by new nodes, and joins the open ends.
+    /// It is the only call that changes a net.
     ///
     /// - `first`, `second`: the two nodes: live, different, and linked by their principal ports.
-    ///   That link goes with them.
-    /// - `born`: kind and index of each node that comes, at most four. An index is at most one
-    ///   above the greatest of the net, and 0 for an eraser.
-    /// - `joins`: pairs of ends. Each slot of the two nodes but the principal one, and each slot of
-    ///   a node that comes, stands in one of them once, and nothing else does.
+    ///   That link is removed.
+    /// - `born`: the kind and the index of each new node, at most four nodes. An index is at most
+    ///   one above the greatest index of the net, and 0 for an eraser. The new nodes get the next
+    ///   numbers.
+    /// - `joins`: pairs of ends. Each auxiliary port of the two nodes, and each port of a new node,
+    ///   is in exactly one pair, and nothing else is in a pair.
     ///
-    /// The joins are edges beside the links that are left. Then each slot of the two nodes is taken
-    /// out: the two edges at it become one, and an edge from it to itself goes with it. So two
-    /// ports are linked in the end where edges joined them by way of the slots that went (Lafont,
-    /// Interaction Nets, 1990).
+    /// The joins become edges, together with the remaining links. Each auxiliary port of the two
+    /// removed nodes is then contracted: its two edges become a single edge, and an edge from the
+    /// port to itself is removed with it. As a result, two ports are linked exactly if edges joined
+    /// them through removed ports (Lafont, Interaction Nets, POPL 1990).
     ///
-    /// The net has given out at most 2,000,000,000 numbers before. `NoMemory`: no memory was found,
-    /// and the net is unchanged.
+    /// At most 2,000,000,000 numbers were given before. `NoMemory`: no memory was found, and the
+    /// net is unchanged.
     pub fn replace(
         &mut self,
         first: NodeId,

@@ -1,10 +1,10 @@
-//! What the conditions of a net's calls say.
+//! The theorem on the precondition of a replacement.
 
 ghost use Rattle.ol_net.specs.Joins.{FitIsOnce};
 
-/// The joins of a replacement use up the open ends exactly where each slot of at least 1 of the two
-/// nodes that go stands in exactly one join, each slot of each node that comes does so too, and
-/// nothing else stands in a join.
+/// The joins of a replacement use each open end once exactly if each auxiliary port of the two
+/// removed nodes is in exactly one join, each port of each new node is in exactly one join, and
+/// nothing else is in a join.
 pub fn each_open_end_once()
     ensures { FitIsOnce }
 {}

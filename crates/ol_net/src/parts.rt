@@ -1,4 +1,4 @@
-//! The words that speak of a net: kinds, ports, rules.
+//! The parts of a net: kinds, node numbers, ports and rules.
 
 ghost use Rattle.std.specs.Prelude.{◌≡◌};
 ghost use Rattle.ol_net.specs.Parts.{arity, slots_of, is_eraser};
@@ -6,99 +6,105 @@ ghost use Rattle.ol_net.specs.Rules.{facing_of_pair, rule_of, by_index, crossed,
 
 /// The kinds of nodes of a sharing graph (Lamping, POPL 1990; Asperti and Guerrini, The Optimal
 /// Implementation of Functional Programming Languages, 1998).
+///
+/// Slot 0 of a node is its principal port; slots 1 and 2 are its auxiliary ports.
 #[derive(Clone, Copy, Debug, PartialEq, Eq)]
 pub enum Kind {
-    /// Abstraction: slot 1 is its body, slot 2 its variable.
+    /// Abstraction: slot 0 is the abstraction itself, slot 1 its body, slot 2 its variable.
     Lam,
     /// Application: slot 0 is its function, slot 1 its result, slot 2 its argument.
     App,
-    /// Sharing of one place by two, which are slots 1 and 2.
+    /// Fan: shares the part of the net at slot 0 between the two occurrences at slots 1 and 2.
     Fan,
-    /// A path that crosses it from slot 1 to slot 0 gets one level more.
+    /// Croissant: a path that traverses it from slot 1 to slot 0 gains a level.
     Croissant,
-    /// A path that crosses it from slot 1 to slot 0 has two of its levels joined to one.
+    /// Bracket: on a path that traverses it from slot 1 to slot 0, two levels become a single
+    /// level.
     Bracket,
-    /// The end of what is not used. It has no slot but 0.
+    /// Eraser: the end of a part of the net that isn't used. It has slot 0 only.
     Eraser,
 }
 
-/// The number of a node. Numbers are given from 0 on, and none is given twice.
+/// The number of a node. Nodes are numbered from 0 in the order of their creation, and no number is
+/// given twice.
 #[derive(Clone, Copy, Debug, PartialEq, Eq)]
 pub struct NodeId(pub u32);
 
 /// A port of a net.
 #[derive(Clone, Copy, Debug, PartialEq, Eq)]
 pub enum Port {
-    /// The free port of that number, from 0 on.
+    /// The free port with this number, from 0.
     Free(u32),
-    /// A slot of a node. Slot 0 is its principal port, the others are auxiliary.
+    /// A port of a node, by its slot: slot 0 is the principal port, slots 1 and 2 are auxiliary
+    /// ports.
     Of { node: NodeId, slot: u8 },
 }
 
-/// The rules of rewriting: what two nodes do whose principal ports are joined.
+/// The rules of interaction, for two nodes that are linked by their principal ports.
 #[derive(Clone, Copy, Debug, PartialEq, Eq)]
 pub enum Rule {
-    /// An application and an abstraction of one index.
+    /// An application and an abstraction of equal index.
     Beta,
-    /// Two fans of one index.
+    /// Two fans of equal index: annihilation.
     Fan,
-    /// Two croissants of one index.
+    /// Two croissants of equal index: annihilation.
     Croissant,
-    /// Two brackets of one index.
+    /// Two brackets of equal index: annihilation.
     Bracket,
-    /// A fan and a node of a greater index, which is no eraser.
+    /// A fan and a node of a greater index, which isn't an eraser: commutation.
     CrossFan,
-    /// A croissant and a node of a greater index, which is no eraser.
+    /// A croissant and a node of a greater index, which isn't an eraser: commutation.
     CrossCroissant,
-    /// A bracket and a node of a greater index, which is no eraser.
+    /// A bracket and a node of a greater index, which isn't an eraser: commutation.
     CrossBracket,
     /// An eraser and any node.
     Erase,
 }
 
-/// What a node is to the node that it faces: the one whose principal port is the partner of its
-/// own.
+/// What a node and the node linked to its principal port by its own principal port are to each
+/// other.
 #[derive(Clone, Copy, Debug, PartialEq, Eq)]
 pub enum Facing {
-    /// The two have this rule.
+    /// An active pair: the two nodes have this rule.
     Active(Rule),
-    /// The two have no rule.
+    /// A stuck pair: the two nodes have no rule.
     Stuck,
-    /// There is no such node, or it faces none.
+    /// There is no such node, or no principal port is linked to its principal port.
     None,
 }
 
-/// Why parts make no net, in the order in which it is tested.
+/// Why parts aren't a net, in the order of the checks.
 #[derive(Clone, Copy, Debug, PartialEq, Eq)]
 pub enum BuildFault {
-    /// The first node whose index is above the greatest one allowed (`build`: 1,000,000;
+    /// The first node whose index exceeds the greatest index allowed (`build`: 1,000,000;
     /// `build_to`: its `top`), or that is an eraser with an index other than 0. Nodes are numbered
-    /// from 0 in the order given.
+    /// from 0 in the given order.
     BadIndex { node: u32 },
-    /// The first link that names a port which does not exist, numbered from 0 in the order given.
+    /// The first link that names a port which doesn't exist. Links are numbered from 0 in the given
+    /// order.
     BadPort { link: u32 },
     /// The first link with a port of an earlier link, or with the same port at both ends.
     Twice { link: u32 },
-    /// The first port in no link: free ports come first, by number, and then the ports of nodes, by
-    /// the number of the node and the slot.
+    /// The first port in no link, in this order: free ports by number, and then the ports of nodes
+    /// by the node's number and the slot.
     Loose { port: Port },
-    /// No memory was found.
+    /// A memory allocation failed.
     NoMemory,
 }
 
-/// An end of a join: a slot of a node that goes, or of one that comes.
+/// An end of a join in a replacement: a slot of a removed node or of a new node.
 #[derive(Clone, Copy, Debug, PartialEq, Eq)]
 pub enum JoinEnd {
-    /// A slot of the first node that goes.
+    /// A slot of the first removed node.
     First(u8),
-    /// A slot of the second node that goes.
+    /// A slot of the second removed node.
     Second(u8),
-    /// A slot of the node at that place among those that come, from 0 on.
+    /// A slot of the new node at this place, from 0, in the list of new nodes.
     Born { place: u8, slot: u8 },
 }
 
 impl Kind {
-    /// The number of slots, the principal one included.
+    /// The number of ports, including the principal port.
     pub fn slots(self) -> u8
         ensures { result ≡ slots_of self }
     {
@@ -112,7 +118,7 @@ impl Kind {
         }
     }
 
-    /// The number of auxiliary slots, which are numbered from 1.
+    /// The number of auxiliary ports, which are slots 1 to `arity`.
     pub fn arity(self) -> u8
         ensures { result ≡ arity self }
     {
@@ -130,7 +136,7 @@ impl Kind {
     }
 }
 
-/// What two nodes are to each other whose principal ports are joined.
+/// What two nodes, linked by their principal ports, are to each other.
 pub fn facing_of(first: (Kind, u32), second: (Kind, u32)) -> Facing
     ensures { result ≡ facing_of_pair first second }
 {
@@ -143,8 +149,10 @@ pub fn facing_of(first: (Kind, u32), second: (Kind, u32)) -> Facing
     }
 }
 
-/// The rule of a node that acts and one that it acts on: an eraser acts on any node, and else the
-/// one of the lower index acts. Two nodes of one index both act.
+/// The rule by which `acting` acts on `other`, or `None` if it doesn't act on `other`. An eraser
+/// acts on every node, and no other kind acts on an eraser. A fan, a croissant or a bracket acts on
+/// a node of a greater index. Nodes of equal index act on each other exactly if they are an
+/// application and an abstraction, two fans, two croissants or two brackets.
 pub fn rule_of(acting: (Kind, u32), other: (Kind, u32)) -> Option<Rule>
     ensures { result ≡ rule_of acting.0 acting.1 other.0 other.1 }
 {

@@ -1,5 +1,5 @@
-//! What the tables of a net say: the kind of a node, which ports there are, the place of a port, and
-//! its partner.
+//! The kind of a node, the ports of a net, the place of a port and its partner, from the tables of
+//! a net.
 
 ghost use Rattle.std.specs.Prelude.{◌≡◌, ◌+◌, ◌*◌, ◌^◌, ◌<◌, length};
 ghost use Rattle.ol_net.specs.Pairing.{other};
@@ -7,7 +7,7 @@ ghost use Rattle.ol_net.specs.Graph.{kind_at, partner_in, IsTabled, place, port_
 
 use crate::parts::{Kind, NodeId, Port};
 
-/// Kind and index of the node of that number, if it is live.
+/// The kind and the index of the node with number `n`, if it is live.
 pub fn kind_in(nodes: &[Option<(Kind, u32)>], n: usize) -> Option<(Kind, u32)>
     ensures { result ≡ kind_at nodes.now n }
 {
@@ -34,7 +34,7 @@ pub fn is_port(free: u32, nodes: &[Option<(Kind, u32)>], p: Port) -> bool
     }
 }
 
-/// The other port of the link of a port, if the net has the port.
+/// The port at the other end of a port's link, or `None` if the net has no such port.
 pub fn partner_in(
     free: u32,
     nodes: &[Option<(Kind, u32)>],
@@ -52,7 +52,7 @@ pub fn partner_in(
     Some(port_at(free, other(partners, at)))
 }
 
-/// The place that the table pairs with this one.
+/// The partner of the place `at` in the table.
 pub fn other(partners: &[usize], at: usize) -> usize
     requires { at < length partners.now }
     ensures { result ≡ other partners.now at }
@@ -60,8 +60,8 @@ pub fn other(partners: &[usize], at: usize) -> usize
     partners[at]
 }
 
-/// The place of a port in a net with so many free ports: these come first, by number, and then three
-/// places for each node number.
+/// The place of a port in the table of a net with `free` free ports. Free ports are first, by
+/// number, followed by three places for each node number.
 pub fn place_of(free: u32, p: Port) -> usize
     ensures { result ≡ place free p }
 {
@@ -71,7 +71,7 @@ pub fn place_of(free: u32, p: Port) -> usize
     }
 }
 
-/// The port at place `k` of a net with so many free ports.
+/// The port at place `k` in the table of a net with `free` free ports.
 pub fn port_at(free: u32, k: usize) -> Port
     requires { k < free + 3 * 2 ^ 31 }
     ensures { result ≡ port_at free k }

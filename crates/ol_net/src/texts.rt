@@ -1,4 +1,4 @@
-//! The texts of kinds, indexes and ports, which shown nets and net files have in common.
+//! The texts of kinds, indexes and ports, for printed nets and net files.
 
 ghost use Rattle.std.specs.Prelude.{◌≡◌, Some};
 ghost use Rattle.ol_net.specs.PartTexts.{kind_text, index_text, port_text};
@@ -30,7 +30,8 @@ impl fmt::Display for Kind {
     }
 }
 
-/// The index of a node of this kind. Its text is the number, or `-` of an eraser, which has none.
+/// The index of a node of this kind. It is printed as a number, and as `-` for an eraser, which has
+/// no index.
 #[derive(Clone, Copy, Debug, PartialEq, Eq)]
 pub struct IndexOf {
     pub kind: Kind,
@@ -49,7 +50,7 @@ impl fmt::Display for IndexOf {
     }
 }
 
-/// A free port is written `fk`, and slot S of node N `N.S`.
+/// Free port k is printed as `fk`, and slot S of node N as `N.S`.
 impl fmt::Display for Port {
     ghost output = { λ port. Some (port_text port) };
 

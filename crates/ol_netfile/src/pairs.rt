@@ -1,4 +1,4 @@
-//! The stuck pairs of a net.
+//! The list of a net's stuck pairs.
 
 ghost use Rattle.std.specs.Prelude.{◌≡◌, ◌<◌, ◌≤◌, ◌++◌, ℕ, IfOk, OnOk, MatchOption};
 ghost use Rattle.ol_net.specs.Numbered.{net_of};
@@ -10,8 +10,8 @@ use ol_limits::NoMemory;
 use ol_net::{Facing, Net, NodeId, Port};
 use std::alloc::Global;
 
-/// The stuck pairs of a net: for each a line `pair A B`, where A and B are the numbers of its two
-/// nodes and A is the smaller. The lines are in ascending order of A.
+/// The list of a net's stuck pairs: a line `pair A B` for each pair, where A and B are the numbers
+/// of its two nodes and A is the smaller number. The lines are in ascending order of A.
 ///
 /// `NoMemory`: no memory was found.
 pub fn stuck_text(alloc: Global, net: &Net) -> Result<Vec<u8>, NoMemory>

@@ -1,4 +1,4 @@
-//! The reader over bytes.
+//! The scanner over bytes.
 
 ghost use Rattle.std.specs.Prelude.{◌≡◌, true, option_map, ◌<◌, ◌≤◌, IfOk, IfErr, IfSome, length};
 ghost use Rattle.std.specs.Str.{bytes_eq};
@@ -18,7 +18,7 @@ const FIRST_OF_LAMBDA: u8 = 0xce;
 
 const SECOND_OF_LAMBDA: u8 = 0xbb;
 
-/// What a byte is.
+/// The class of a byte.
 #[derive(Clone, Copy)]
 pub enum Class {
     Blank,
@@ -34,8 +34,8 @@ pub enum Class {
     Other,
 }
 
-/// Where the reader is: between tokens, in a comment, in a word from a place on, or in the middle
-/// of the letter λ.
+/// The state of the scanner: between tokens, in a comment, in a word that begins at a position, or
+/// between the two bytes of the letter λ.
 #[derive(Clone, Copy)]
 pub enum Place {
     Gap,
@@ -44,7 +44,7 @@ pub enum Place {
     Half,
 }
 
-/// What a word is.
+/// The class of a word.
 #[derive(Clone, Copy)]
 pub enum Key {
     Let,
@@ -260,7 +260,7 @@ fn take_text_end<'a>(
     }
 }
 
-/// Reads a term, as steps that build it.
+/// Scans and parses a term, and returns the operations that build it.
 pub fn read<'a>(alloc: Global, text: &'a [u8]) -> Result<Vec<Op<'a>>, ParseFault>
     ensures found { IfOk result (λ out. BuildsText text.now out.items) }
     ensures refused { IfErr result (λ e. IsRefused text.now e) }

@@ -1,4 +1,4 @@
-//! How deep the tree of a row of steps is, before it is grown.
+//! The depth of the term of a list of operations, before the term is built.
 
 ghost use Rattle.std.specs.Prelude.{◌≡◌, ◌+◌, ◌*◌, ◌<◌, ◌≤◌, ◌^◌, ℕ, List, [], ◌∷◌, Option, Some, IsSome, IfOk, OnOk, length, map, max, reverse, All};
 ghost use Rattle.ol_parse.specs.Grammar.{Named};
@@ -41,7 +41,7 @@ fn deepen(op: Op, done: u64, stack: &mut Vec<u64>) -> Result<(), AllocError>
     Ok(())
 }
 
-/// The depth of the term that the steps build.
+/// The depth of the term that the operations build.
 pub fn depth_of(alloc: Global, ops: &[Op]) -> Result<u64, AllocError>
     requires some { (t : Named) × (built ops.now ≡ Some (t ∷ [])) }
     requires few { length ops.now < 2 ^ 60 }

@@ -1,19 +1,19 @@
-//! Why a text gives no term.
+//! Why a text isn't a term.
 
 ghost use Rattle.std.specs.Prelude.{◌≡◌};
 ghost use Rattle.ol_parse.specs.declared.faults.ParseFault.TheVariants.{NoMemory};
 
 use std::alloc::{AllocError, AllocFailed};
 
-/// Why a text gives no term.
+/// Why a text isn't a term.
 #[derive(Clone, Copy, Debug, PartialEq, Eq)]
 pub enum ParseFault {
-    /// The text isn't in the grammar. `at` is the length of its longest prefix that begins some
-    /// text of the grammar.
+    /// The grammar doesn't accept the text. `at` is the length, in bytes, of its longest prefix
+    /// that can be extended to a valid text.
     Syntax { at: usize },
-    /// The text is in the grammar, and its term is deeper than 1,000. `depth` is how deep it is.
+    /// The text is valid, and its term is deeper than 1,000. `depth` is its depth.
     Depth { depth: u64 },
-    /// Memory ran out.
+    /// A memory allocation failed.
     NoMemory,
 }
 

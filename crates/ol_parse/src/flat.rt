@@ -1,44 +1,44 @@
-//! A term as a row of steps over a stack of terms.
+//! A term as a list of operations on a stack of terms.
 
-/// What is done to a stack of terms.
+/// An operation on a stack of terms.
 #[derive(Clone, Copy)]
 pub enum Op<'a> {
-    /// Puts a name on the stack.
+    /// Pushes a name.
     Push(&'a [u8]),
-    /// Takes an argument, and below it a function, and puts the application.
+    /// Pops an argument, then a function, and pushes the application.
     Apply,
-    /// Takes a body, and puts the abstraction of the name over it.
+    /// Pops a body, and pushes the abstraction of the name over it.
     Abstract(&'a [u8]),
-    /// Takes a function, and below it an argument, and puts the application.
+    /// Pops a function, then an argument, and pushes the application.
     ApplyBelow,
 }
 
-/// What is open round a place of the text.
+/// An open construct around a position of the text.
 #[derive(Clone, Copy)]
 pub enum Open<'a> {
-    /// A λ or a `let`, and whether a spine stands before it, which is applied to it.
+    /// A λ or a `let`, and whether a spine precedes it, which is applied to it.
     Applied(bool),
     /// An abstraction of the name.
     Abstracted(&'a [u8]),
-    /// A `let` of the name, behind its `in`.
+    /// A `let` of the name, after its `in`.
     Bound(&'a [u8]),
-    /// A bracket, and whether a spine stands before it.
+    /// A bracket, and whether a spine precedes it.
     Bracket(bool),
     /// A `let` of the name, before its `in`.
     Defining(&'a [u8]),
 }
 
-/// What may come next.
+/// What the parser expects next.
 #[derive(Clone, Copy)]
 pub enum Mode {
-    /// An atom or a body, and whether a spine stands before it.
+    /// An atom or a body, and whether a spine precedes it.
     Term(bool),
-    /// The first name behind a λ.
+    /// The first name after a λ.
     FirstName,
     /// A further name, or the dot.
     MoreNames,
-    /// The name behind `let`.
+    /// The name after `let`.
     LetName,
-    /// The `=` behind that name, which is open already.
+    /// The `=` after that name; the `let` is already open.
     LetEquals,
 }

@@ -1,14 +1,14 @@
-//! The reader of term files.
+//! The parser of term files.
 //!
 //! - `parsing`: the parser
-//! - `bytes`: the reader over bytes
-//! - `tokens`: the reader over tokens, with a flat row of what is open
-//! - `flat`: a term as a row of steps over a stack of terms
-//! - `depths`: how deep the tree of such a row is, before it is grown
-//! - `numbers`: from names to numbers
-//! - `steps`: how a list goes on that holds a row of steps, a law without code
-//! - `faults`: why a text gives no term
-//! - `laws`: the laws of the grammar
+//! - `bytes`: the scanner over bytes
+//! - `tokens`: the parser over tokens, with an explicit stack of open constructs
+//! - `flat`: a term as a list of operations on a stack of terms
+//! - `depths`: the depth of the term of such a list, before the term is built
+//! - `numbers`: from names to de Bruijn numbers
+//! - `steps`: the subterms that end at the operations of such a list
+//! - `faults`: why a text isn't a term
+//! - `laws`: the theorems on the grammar
 #![tactic(auto)]
 
 mod bytes;

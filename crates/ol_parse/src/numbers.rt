@@ -1,4 +1,4 @@
-//! From names to numbers.
+//! From names to de Bruijn numbers.
 
 ghost use Rattle.std.specs.Prelude.{◌≡◌, ◌+◌, ◌^◌, ◌<◌, ◌≤◌, ℕ, List, [], ◌∷◌, ◌++◌, Option, Some, true, IfOk, OnOk, length, map, reverse, MatchOption};
 ghost use Rattle.ol_parse.specs.Grammar.{Named};
@@ -76,8 +76,8 @@ fn boxed(alloc: Global, term: Term) -> Result<Box<Term>, NoMemory>
     Box::new(alloc, term).map_err(|_| NoMemory)
 }
 
-/// Numbers the names of the term that the steps build. The free names stand in order of first
-/// occurrence.
+/// The term that the operations build, in de Bruijn notation. The free names are numbered in the
+/// order of their first occurrence.
 pub fn number_term<'a>(alloc: Global, steps: &[Op<'a>]) -> Result<TermFile, NoMemory>
     requires some { (t : Named) × (built steps.now ≡ Some (t ∷ [])) }
     requires shallow { named_depth (whole steps.now) ≤ 1000 }

@@ -29,26 +29,30 @@ fn read_file(alloc: Global, text: &[u8]) -> Result<TermFile, ParseFault>
     Ok(number_term(alloc, &steps)?)
 }
 
-/// Reads one term.
+/// Parses a term.
 ///
 /// The tokens are words, the letter λ (two bytes, CE BB) and the signs `\`, `.`, `=`, `(` and `)`.
-/// A word is a letter a to z, A to Z or `_`, and then letters, `_`, digits and `'`. A gap is any
-/// number of spaces, tabs, line feeds, carriage returns and comments. A comment is `#`, then bytes
-/// up to a line feed or the end of the text. A text is a gap, a term and a gap. Between two tokens
-/// stands a gap, and between two words it isn't empty. `let` and `in` are keywords, every other
-/// word is a name.
+/// A word is a letter a to z, A to Z or `_`, followed by letters, `_`, digits and `'`. A gap is any
+/// number of spaces, tabs, line feeds, carriage returns and comments. A comment is `#`, followed by
+/// bytes up to a line feed or the end of the text. A text is a gap, a term and a gap. Two tokens
+/// are separated by a gap, which isn't empty between two words. `let` and `in` are keywords, every
+/// other word is a name.
 ///
-/// A term is a body, or a spine, or a spine and a body to which it is applied. A spine is one or
-/// more atoms, applied from the left. An atom is a name, or `(` term `)`. A body is `\` names `.`
-/// term, with λ for `\` if one likes, or `let` name `=` term `in` term, where `let x = t in u` is
-/// `(\x. u) t`. Each name is bound by the innermost abstraction of that name, else it is free. The
-/// free names are numbered in order of first occurrence, the function of an application before its
-/// argument.
+/// A term is a body, or a spine, or a spine and a body to which it is applied. A spine is a
+/// sequence of at least one atom, applied from the left. An atom is a name, or `(` term `)`. A body
+/// is `\` names `.` term, where λ may replace `\`, or `let` name `=` term `in` term, where
+/// `let x = t in u` is `(\x. u) t`. A name is bound by the innermost enclosing abstraction of that
+/// name, and is free if there is none. The free names are numbered in the order of their first
+/// occurrence, the function of an application before its argument.
 ///
-/// The text has at most 1,073,741,824 bytes. `Syntax` comes exactly where the text isn't in the
-/// grammar, with the length of its longest prefix that begins some text of the grammar, and `Depth`
-/// exactly where it is and its term is deeper than 1,000, with that depth. `NoMemory`: no memory
-/// was found. Each name of the file is a name of the grammar and occurs in its term.
+/// The text has at most 1,073,741,824 bytes.
+///
+/// - `Syntax`: exactly if the grammar doesn't accept the text; with the length of its longest
+///   prefix that can be extended to a valid text.
+/// - `Depth`: exactly if the text is valid and its term is deeper than 1,000; with that depth.
+/// - `NoMemory`: no memory was found.
+///
+/// Each name of the result is a name of the grammar and occurs in its term.
 pub fn parse(alloc: Global, text: &[u8]) -> Result<TermFile, ParseFault>
     requires { length text.now ≤ 1073741824 }
     ensures file { IfOk result (λ file. IsFileOf text.now (tree_of file.term) file.names) }

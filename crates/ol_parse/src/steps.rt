@@ -1,4 +1,4 @@
-//! The terms that end at the steps of a row.
+//! The subterms that end at the operations of a list.
 
 ghost use Rattle.std.specs.Prelude.{◌≡◌, ◌<◌, [], ◌∷◌, Some, IfOk, length};
 ghost use Rattle.ol_parse.specs.Grammar.{Named};
@@ -8,7 +8,7 @@ ghost use Rattle.ol_parse.specs.Steps.{term_at, shown, AreBelow, BeginsAt, HaveS
 use crate::flat::Op;
 use std::alloc::{AllocError, Global};
 
-/// The term that ends with a step, by the steps with which its parts end.
+/// The subterm that ends with an operation, by the operations with which its own subterms end.
 #[derive(Clone, Copy)]
 pub enum Part<'a> {
     /// An occurrence of the name.
@@ -33,7 +33,7 @@ fn start_of(steps: &[Op], starts: &[usize], at: usize) -> usize
     }
 }
 
-/// By step: the first step of the term that ends with it.
+/// For each operation, the first operation of the subterm that ends with it.
 pub fn starts_of(alloc: Global, steps: &[Op]) -> Result<Vec<usize>, AllocError>
     requires { (t : Named) × (built steps.now ≡ Some (t ∷ [])) }
     ensures { IfOk result (λ v. HaveStarts steps.now v.items) }
@@ -46,7 +46,7 @@ pub fn starts_of(alloc: Global, steps: &[Op]) -> Result<Vec<usize>, AllocError>
     Ok(starts)
 }
 
-/// What ends with this step, by the first steps of what ends with each.
+/// The subterm that ends with the operation `at`, where `starts` are the first operations.
 pub fn part_at<'a>(steps: &[Op<'a>], starts: &[usize], at: usize) -> Part<'a>
     requires starts { HaveStarts steps.now starts.now }
     requires at { at < length steps.now }

@@ -1,4 +1,4 @@
-//! The reader over tokens, with a flat row of what is open.
+//! The parser over tokens, with an explicit stack of open constructs.
 
 ghost use Rattle.std.specs.Prelude.{◌≡◌, false, IfOk, OnOk};
 ghost use Rattle.ol_parse.specs.Grammar.{name, let_key, in_key, lambda, dot, equals, open_bracket, close_bracket};
@@ -31,7 +31,8 @@ fn unwind<'a>(innermost: Open<'a>, out: &mut Vec<Op<'a>>) -> Result<bool, AllocE
     }
 }
 
-/// Ends the innermost term, and all that it ends. Answers what is open round that, taken off.
+/// Closes the innermost term, and all constructs that end with it. Returns the next open construct,
+/// which is removed from the stack.
 pub fn finish<'a>(
     opens: &mut Vec<Open<'a>>,
     out: &mut Vec<Op<'a>>,

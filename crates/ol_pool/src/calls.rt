@@ -1,4 +1,4 @@
-//! What a worker asks of a pool: to put a cell, and to take one.
+//! The calls of a worker: putting a cell and taking a cell.
 ghost use Rattle.std.specs.Prelude.{◌≡◌, ◌↔◌, ℕ, ◌<◌, ◌≤◌, ◌∷◌, [], ◌++◌, length, IfErr, IfSome, IfNone, IsNone, IsTrue, OnOk, OnErr};
 ghost use Rattle.ol_pool.specs.Looks.{CountsOne, EachMissed, GaveNone, OneGave};
 ghost use Rattle.ol_pool.specs.Pools.{IsHandOf, TookFirst, part_of};
@@ -9,10 +9,11 @@ use crate::pool::Pool;
 use crate::pool_look::PoolLook;
 
 impl Pool {
-    /// Adds a cell to the hand's own part, behind those that wait there. It waits for nobody.
+    /// Adds a cell at the back of the hand's own deque. Never waits for another thread.
     ///
-    /// `Err`: the part had to grow, and no memory was found; it comes only where this hand has put
-    /// at least 64 cells. It gives the cell back. The pool stays as it was, and the hand counts it.
+    /// `Err`: the deque had to grow, and no memory was found, which happens only if this hand has
+    /// put at least 64 cells. It returns the cell. The pool is unchanged, and `refused` of the hand
+    /// rises by 1.
     pub fn put(&self, hand: &mut Hand, cell: u32) -> Result<(), u32>
         requires below { cell < self.now.cells }
         requires hand { IsHandOf hand.old self.now }
@@ -46,14 +47,16 @@ impl Pool {
         take_from(&mut looks, own)
     }
 
-    /// Takes a cell: first from the hand's own part, then from each other part in the order of their
-    /// numbers after it, and on from 0. It waits for nobody, and takes no memory.
+    /// Takes a cell: first from the hand's own deque, then from the other deques in the order of
+    /// their numbers, beginning after the hand's number and continuing from 0. Never waits for
+    /// another thread, and takes no memory.
     ///
-    /// A cell came from a part only where each part before it in this order gave none: it answered
-    /// that it is empty, or twice that it be looked at again. The hand's counts of these answers
-    /// tell this, unless one stands at its last value. That a part was empty isn't said.
+    /// A cell comes from a deque only if each earlier deque in this order gave none: it answered
+    /// that it is empty, or answered twice that the call should try again. The hand's counts of
+    /// these answers show this, unless a count is at its greatest value. That a deque was empty
+    /// isn't promised.
     ///
-    /// None: each part gave none likewise, and the hand has `missed`.
+    /// `None`: each deque gave none in this sense, and `missed` of the hand is true.
     pub fn take(&self, hand: &mut Hand) -> Option<u32>
         requires hand { IsHandOf hand.old self.now }
         ensures below { IfSome result (λ cell. cell < self.now.cells) }

@@ -1,4 +1,5 @@
-//! The rule of one hand's deque: no cell is lost or given twice, and each is below one bound.
+//! The invariant of a hand's deque: no cell is lost or given twice, and each cell is below the same
+//! bound.
 use crossbeam_deque::protocol::{Outcome, Protocol, Split};
 use crossbeam_deque::{Pass, Stealer, Worker};
 use std::alloc::Global;

@@ -1,4 +1,4 @@
-//! Hands: what a worker holds of a pool.
+//! Hands: a worker's part of a pool.
 ghost use Rattle.std.specs.Prelude.{◌≡◌, ◌≢◌, ◌<◌, ◌≤◌, ◌+◌, [], ◌∷◌, ◌++◌, ℕ, length, Some, slice_get, OnOk, OnErr, IfErr, All};
 ghost use Rattle.crossbeam_deque.specs.Handles.{stealer_deque};
 ghost use Rattle.ol_pool.specs.Looks.{CountsOne, Tells, HasCounts, part_at};
@@ -13,10 +13,10 @@ use crate::pool::Pool;
 use crate::reach::Reach;
 use std::marker::Model;
 
-/// One worker's place at a pool: a deque of its own, from which the others steal, and access to
-/// each of theirs. Contracts see it as a `HandState`.
+/// A worker's part of a pool: a deque of its own, from which the other hands steal, and access to
+/// the deque of each other hand. Contracts view it as a `HandState`.
 ///
-/// The cells that it put and was given are seen by contracts alone; no memory holds them.
+/// The lists of cells that it put and was given exist in contracts only, and take no memory.
 #[derive(Drop)]
 pub struct Hand {
     number: u32,
@@ -54,7 +54,8 @@ impl Hand {
         }
     }
 
-    /// Its number, below the number of hands of its pool. It numbers its part of the pool.
+    /// The number of the hand, which is also the number of its deque: less than the number of
+    /// hands.
     pub fn number(&self) -> u32
         ensures is { result ≡ self.now.number }
         ensures below { result < self.now.pool.hands }
@@ -62,14 +63,14 @@ impl Hand {
         self.number
     }
 
-    /// Whether its last `take` answered None.
+    /// Whether its last `take` returned `None`.
     pub fn missed(&self) -> bool
         ensures { result ≡ self.now.missed }
     {
         self.missed
     }
 
-    /// The number of its puts that were refused, which stays at 2^64 - 1.
+    /// The number of refused puts, at most 2^64 - 1.
     pub fn refused(&self) -> u64
         ensures { result ≡ self.now.refused }
     {
@@ -83,21 +84,22 @@ impl Hand {
         self.missed = missed;
     }
 
-    /// Law: the counts of its parts are of 64 bits.
+    /// Theorem: the counts of a hand are numbers of 64 bits.
     pub fn counts(&self)
         ensures { (p : ℕ) → HasCounts (part_of self.now p) }
     {
         let _ = &self.missed;
     }
 
-    /// Law: each cell that it was given is below the bound of its pool.
+    /// Theorem: each cell that the hand was given is below the bound of its pool.
     pub fn given_below(&self)
         ensures { (p : ℕ) → All (λ cell. cell < self.now.pool.cells) (part_of self.now p).given }
     {
         self.home.gave_below();
     }
 
-    /// Law: its own deque is open: the bound of all cells was put into it and taken out again.
+    /// Theorem: the hand's own deque is open: the bound of all cells was put into it and taken out
+    /// again.
     pub fn is_open(&self)
         ensures { self.now.stage ≡ 2 }
     {

@@ -1,18 +1,23 @@
-//! The cells that wait for a worker: a first-in first-out deque for each hand, from which the other
-//! hands steal.
+//! Work-stealing pool: the tasks that wait for a worker, in a first-in first-out deque for each
+//! hand, from which the other hands steal. A task is the number of a cell (task slot) of the shared
+//! memory.
 //!
-//! - `deques`: the rule of one hand's deque
-//! - `tally`: what deques answered, counted by no other lines
+//! - `deques`: the invariant of a hand's deque
+//! - `tally`: the counts of a deque's answers
 //! - `own`: a hand's own deque
-//! - `home`: the same, with what it answered
-//! - `reach`: what a hand knows of another's deque
+//! - `home`: a hand's own deque, with the counts of its answers
+//! - `reach`: a hand's access to the deque of another hand
 //! - `pool`: the pool, shared by the workers
-//! - `hands`: what a worker holds of a pool
-//! - `opening`: a new pool: its deques, and its hands
-//! - `looks`: a search for a cell over parts of any sort
+//! - `hands`: a worker's part of a pool
+//! - `opening`: a new pool: its deques and its hands
+//! - `looks`: the search for a cell over parts of any type
 //! - `pool_look`: a hand's search over its pool
-//! - `calls`: what a worker asks of a pool: to put a cell, and to take one
-//! - `laws`: what holds of each deque between any two steps of any threads
+//! - `calls`: the calls of a worker: putting a cell and taking a cell
+//! - `laws`: the theorem that no cell is lost
+//!
+//! The contract of the toolchain's `crossbeam_deque` is trusted. No contract counts the cells of a
+//! whole pool, says that a deque which gave no cell was empty, or promises fairness; that another
+//! hand finds a cell that was put is only tested.
 #![tactic(auto)]
 
 mod calls;

@@ -1,22 +1,22 @@
-//! A search for a cell over all parts of a pool, whatever they are made of.
+//! The search for a cell over parts of any type.
 ghost use Rattle.std.specs.Prelude.{◌≡◌, ◌≢◌, ℕ, ◌<◌, IfSome, IfNone, MatchOption};
 ghost use Rattle.ol_pool.specs.Looks.{Part, HasCounts, Tells, Gave, GaveNone, Missed, EachMissed, OneGave, FirstGave};
 
-/// What one look at a part answers.
+/// The answer of a look at a part.
 #[derive(Debug, PartialEq, Clone, Copy)]
 pub enum Seen {
-    /// This cell, which left the part.
+    /// This cell, which is no longer in the part.
     Cell(u32),
-    /// The part held no cell.
+    /// The part was empty.
     Empty,
-    /// Another's step was in the way: a second look may help.
+    /// A step of another thread interfered: a second look may find a cell.
     Again,
 }
 
-/// Parts that cells are taken from, numbered from 0.
+/// Parts from which cells are taken, numbered from 0.
 ///
-/// Contracts see each part as a `Part`: the cells that it gave, and two counts of 64 bits, which
-/// never fall and so show that it was looked at. `kept` is what no look changes.
+/// Contracts view each part as a `Part`: the cells that it gave, and two counts of 64 bits that
+/// never decrease and count the looks without a cell. `kept` is what no look changes.
 pub trait Look {
     type Kept;
 
@@ -31,7 +31,7 @@ pub trait Look {
         ensures number { result ≡ number self.now }
         ensures counts { (p : ℕ) → HasCounts (part self.now p) };
 
-    /// Looks at one part, and at no other.
+    /// Looks at a single part, and leaves the other parts unchanged.
     fn look(&mut self, at: u32) -> Seen
         requires { at < number self.old }
         ensures number { number self.new ≡ number self.old }
@@ -60,14 +60,14 @@ fn look_again<L: Look>(looks: &mut L, at: u32) -> Option<u32>
     }
 }
 
-/// Takes a cell from the first part that gives one: first from `own`, then from each other part in
-/// the order of numbers after it, and on from 0. Where a part answers `Again` it is looked at once
-/// more. Takes no memory.
+/// Takes a cell from the first part that gives a cell: first `own`, then the other parts in the
+/// order of their numbers, beginning after `own` and continuing from 0. After `Again` the search
+/// looks at the same part a second time. Takes no memory.
 ///
-/// A cell came from a part only where each part before it in this order gave none: it answered that
-/// it is empty, or twice that it be looked at again.
+/// A cell comes from a part only if each earlier part in this order gave none: it answered `Empty`,
+/// or answered `Again` twice.
 ///
-/// None: so did each part.
+/// `None`: each part gave none in this sense.
 pub fn take_from<L: Look>(looks: &mut L, own: u32) -> Option<u32>
     requires { own < L.number looks.old }
     ensures number { L.number looks.new ≡ L.number looks.old }

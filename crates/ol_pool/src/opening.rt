@@ -1,4 +1,4 @@
-//! A new pool: its deques, and its hands.
+//! A new pool: its deques and its hands.
 ghost use Rattle.std.specs.Prelude.{◌≡◌, ℕ, ◌+◌, ◌-◌, ◌<◌, ◌≤◌, All, IfOk, OnOk, length, map, vec_len};
 ghost use Rattle.crossbeam_deque.specs.Handles.{stealer_deque};
 ghost use Rattle.ol_pool.specs.Deques.{opened, lends};
@@ -89,8 +89,8 @@ fn deal(
 }
 
 impl Pool {
-    /// A pool without a cell, for cells below `cells`, and its hands in the order of their numbers.
-    /// Each deque begins with room for 64 cells.
+    /// An empty pool for cells below `cells`, and its hands in the order of their numbers. Each
+    /// deque has an initial capacity of 64 cells.
     ///
     /// `NoMemory`: no memory was found.
     pub fn new(alloc: Global, hands: u32, cells: u32) -> Result<(Pool, Vec<Hand>), NoMemory>

@@ -8,10 +8,10 @@ use std::marker::Model;
 use std::sync::atomic::{AtomicU64, Ordering};
 
 /// Cells that wait for a worker: a first-in first-out deque for each hand, from which the other
-/// hands steal. No call of it waits.
+/// hands steal. No call waits for another thread.
 ///
-/// Contracts see a pool by its number of hands, the bound of its cells, and which deques it has, a
-/// `PoolState`. The cells that went through it are seen at the hands.
+/// Contracts view a pool as a `PoolState`: its number of hands, the bound of its cells, and its
+/// deques. The cells that passed through it are part of the hands' views.
 #[derive(Drop)]
 pub struct Pool {
     thieves: Vec<Thief>,
@@ -55,29 +55,29 @@ impl Pool {
         }
     }
 
-    /// The bound of its cells: each is below this number. Takes no memory.
+    /// The bound of the cells: each cell is less than this number. Takes no memory.
     pub fn cells(&self) -> u32
         ensures { result ≡ self.now.cells }
     {
         self.cells
     }
 
-    /// The number of its hands. Takes no memory.
+    /// The number of hands. Takes no memory.
     pub fn hands(&self) -> u32
         ensures { result ≡ self.now.hands }
     {
         self.hands
     }
 
-    /// Gives all hands a hint of a cell that is worth a look. The cell isn't put. It waits for
-    /// nobody, and takes no memory.
+    /// Publishes the number of a cell to all hands as a hint. The cell isn't put into a deque.
+    /// Never waits for another thread, and takes no memory.
     pub fn hint(&self, cell: u32) {
         self.hint.store(cell as u64 + 1, Ordering::SeqCst);
     }
 
-    /// The cell of a hint, if one was given. Nothing is promised of it but that it is a cell: it is
-    /// a try where else to look, and no cell is taken by it. It waits for nobody, and takes no
-    /// memory.
+    /// The cell of the last hint, or `None` before the first hint. The contract promises only that
+    /// it is a cell below the bound: the hint suggests where to look, and takes no cell out of a
+    /// deque. Never waits for another thread, and takes no memory.
     pub fn hinted(&self) -> Option<u32>
         ensures below { IfSome result (λ cell. cell < self.now.cells) }
     {

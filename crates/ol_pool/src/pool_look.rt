@@ -7,8 +7,8 @@ use crate::looks::{Look, Seen};
 use crate::pool::Pool;
 use std::collections::LinkedList;
 
-/// What no look of a hand at its pool changes: the pool, which hand it is, its number, the cells
-/// that it put, and how often a cell was refused. No value of it is made.
+/// What a look of a hand at its pool leaves unchanged: the pool, the hand and its number, the cells
+/// that it put, and its count of refused puts. No value of this type exists at run time.
 pub struct Fixed<'a> {
     pub(crate) pool: &'a Pool,
     pub(crate) number: u32,
@@ -17,7 +17,7 @@ pub struct Fixed<'a> {
     pub(crate) hand: &'a mut (),
 }
 
-/// The parts of a pool as one hand sees them.
+/// The parts of a pool, from the side of a hand.
 #[derive(Drop)]
 pub struct PoolLook<'a> {
     pool: &'a Pool,
@@ -26,7 +26,7 @@ pub struct PoolLook<'a> {
 }
 
 impl<'a> PoolLook<'a> {
-    /// The parts of the pool, which the hand is of. Takes no memory.
+    /// The parts of the pool to which the hand belongs. Takes no memory.
     pub fn of(pool: &'a Pool, hand: &'a mut Hand) -> PoolLook<'a>
         requires { IsHandOf hand.old pool.now }
         ensures same_reference { result.hand.ghost_name ≡ hand.entry.ghost_name }

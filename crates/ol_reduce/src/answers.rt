@@ -1,10 +1,10 @@
-//! What the work of a seat came to.
+//! How the work of a seat ended.
 ghost use Rattle.ol_reduce.specs.Turned.{TurnsTell};
 
-/// What a sweep came to.
+/// How a sweep ended.
 ///
-/// - `Clean`: no cell holds an active pair.
-/// - `Spent`: its last turn answered `Spent`. An active pair is left, and the fuel is used up.
+/// - `Clean`: no cell contains an active pair.
+/// - `Spent`: its last turn returned `Spent`. An active pair is left, and the fuel is used up.
 #[derive(Clone, Copy, Debug, PartialEq, Eq)]
 pub enum Sweep {
     Clean,
@@ -13,16 +13,15 @@ pub enum Sweep {
 
 /// Why a worker ended.
 ///
-/// - `Spent`: its last turn answered `Spent`. An active pair is left, and the fuel is used up.
-/// - `Quiet`: no active pair is left, and none can come. No cell waited for it in the pool.
+/// - `Spent`: its last turn returned `Spent`. An active pair is left, and the fuel is used up.
+/// - `Quiet`: no active pair is left. Its last search of the pool found no cell.
 #[derive(Clone, Copy, Debug, PartialEq, Eq)]
 pub enum End {
     Spent,
     Quiet,
 }
 
-/// Law: turns on some cells, one after the other, add just these cells to those that the seat has
-/// claimed.
+/// Theorem: a sequence of turns adds exactly its cells to the cells that the seat has claimed.
 pub fn turns_tell()
     ensures { TurnsTell }
 {}

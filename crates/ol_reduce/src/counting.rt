@@ -1,4 +1,4 @@
-//! A net rewritten by any number of workers, for a caller who doesn't read the journal.
+//! A net reduced by any number of workers, without the trace.
 ghost use Rattle.std.specs.Prelude.{◌≡◌, ◌<◌, ◌≤◌, length, is_some, count_by, IfOk, ◌↔◌};
 ghost use Rattle.ol_limits.specs.Limits.{most_fuel};
 ghost use Rattle.ol_wire.specs.Sizes.{IsSmallNet};
@@ -17,11 +17,12 @@ use std::alloc::Global;
 use std::sync::Wait;
 use std::thread::Threads;
 
-/// A net that workers have rewritten, without the journal.
+/// The result of a parallel reduction, without the trace.
 ///
-/// - `Done`: no active pair is left. `net` is the last net, its nodes numbered by ascending name,
-///   and `counts` are those of the journal of the words, which leads to it.
-/// - `Spent`: as many pairs were rewritten as the fuel allows, and an active one is left.
+/// - `Done`: a normal form. `net` is the final net, whose nodes are numbered in the ascending order
+///   of their names, and `counts` are the counts of the trace of the words, which leads to this
+///   net.
+/// - `Spent`: the fuel is used up, and an active pair is left.
 ///
 /// `words` are the closed words of the table.
 #[derive(Drop)]
@@ -36,12 +37,11 @@ pub enum Counted {
     },
 }
 
-/// Rewrites a net as `reduce` does, within the same bounds, for a caller who doesn't read the
-/// journal: no journal is built, and `Done` has its counts in its place. Where the fuel is used up,
-/// no block of the words is read.
+/// Reduces a net as `reduce` does, within the same limits, without building the trace: `Done` has
+/// the counts of the trace instead. If the fuel is used up, no block of the words is read.
 ///
-/// `NoMemory`: there was no memory for the words, the pool or the workers, or, where no active pair
-/// is left, for what the tickets did or the last net.
+/// `NoMemory`: no memory was found for the words, the pool or the workers, or, if no active pair is
+/// left, for the pairs of the tickets or the final net.
 pub fn reduce_counted<R: Threads + Wait + Sync, G: Gate + Sync>(
     rt: &R,
     alloc: Global,

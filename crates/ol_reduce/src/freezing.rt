@@ -1,4 +1,4 @@
-//! The net that the words of a closed table stand for.
+//! The net of the words of a closed table.
 ghost use Rattle.std.specs.Prelude.{◌≡◌, ◌≢◌, ℕ, Bool, List, ◌+◌, ◌-◌, ◌*◌, ◌<◌, ◌≤◌, ◌⊎◌, length, slice_index, slice_set, IfOk, OnOk};
 ghost use Rattle.ol_net.specs.Nets.{NamedNet};
 ghost use Rattle.ol_net.specs.Linking.{linked};
@@ -23,10 +23,10 @@ use ol_rules::{Counts, Journal};
 use ol_wire::{BLOCK, Blocks, Parts, Words, index_in, kind_in, place_in, port_word};
 use std::alloc::Global;
 
-/// The net that the words stand for, its nodes numbered from 0 by ascending name: first those of
-/// the start, and then those that a ticket made, by ticket, which is the order of their places in
-/// the words. `NoMemory`: no memory was found for it. It looks only at the words of the start and
-/// of tickets that were drawn, however great the fuel was.
+/// The net that the words of a closed table represent. Its nodes are numbered from 0 in the
+/// ascending order of their names: nodes of the initial net first, followed by the nodes that each
+/// ticket created. The call reads only the words of the initial net and of drawn tickets, however
+/// great the fuel was. `NoMemory`: no memory was found for the net.
 pub fn freeze(alloc: Global, words: &Words) -> Result<Net, NoMemory>
     ensures frozen { IfOk result (λ g. EachAfter words.now (λ net. IsFrozen net g)) }
 {

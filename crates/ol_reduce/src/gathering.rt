@@ -1,4 +1,4 @@
-//! From seats to workers and back, and the work of all of them.
+//! From seats to workers and back, and the work of all workers.
 ghost use Rattle.std.specs.Prelude.{◌≡◌, ◌||◌, ◌<◌, ◌≤◌, All, IfOk, vec_len, length, is_some, count_by, true, false};
 ghost use Rattle.ol_limits.specs.Limits.{most_fuel};
 ghost use Rattle.ol_pool.specs.Pools.{AreDealt};

@@ -1,19 +1,24 @@
-//! Reduction by many threads: workers that take cells and make turns on them until no active pair
-//! is left, a pass over all cells, and the net that the words of a closed table stand for.
+//! Parallel reduction: worker threads that take cells (task slots) and rewrite their pairs until no
+//! active pair is left, a final sweep over all cells, and the net of the closed shared memory.
 //!
-//! - `reducing`: a net rewritten by any number of workers
-//! - `counting`: the same for a caller who doesn't read the journal
-//! - `gathering`: from seats to workers and back, and the work of all of them
-//! - `workers`: a worker: a seat at the table, and a hand in the pool
-//! - `working`: what a worker does
-//! - `sweeping`: a pass over all cells, once every seat stands in one
-//! - `answers`: what the work of a seat came to
-//! - `reduced`: what the work of all workers comes to
-//! - `freezing`: the net that the words of a closed table stand for
-//! - `live`: the nodes that are left
+//! - `reducing`: a net reduced by any number of workers
+//! - `counting`: the same without the trace
+//! - `gathering`: from seats to workers and back, and the work of all workers
+//! - `workers`: a worker: a seat of the table and a hand of the pool
+//! - `working`: the loop of a worker
+//! - `sweeping`: the sweep over all cells, after all seats are joined
+//! - `answers`: how the work of a seat ended
+//! - `reduced`: the result of all workers
+//! - `freezing`: the net of the words of a closed table
+//! - `live`: the remaining nodes
 //! - `chains`: chains of wires
-//! - `draft`: a net while its links are found
-//! - `reading`: words that are there
+//! - `draft`: a net whose links are being found
+//! - `reading`: words by their numbers
+//!
+//! The contracts of the toolchain's `atomic_table`, `crossbeam_deque`, `crossbeam_utils` and `core`
+//! are trusted. A call may wait for other threads: if it returns, its contract holds, but progress
+//! and fairness aren't promised. That more than one thread made the turns isn't promised either,
+//! nor what the gate is called with.
 #![tactic(auto)]
 
 mod answers;

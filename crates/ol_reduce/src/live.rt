@@ -1,4 +1,4 @@
-//! The nodes that are left: those that were made and that no ticket rewrote.
+//! The remaining nodes: the nodes that were created, or initial, and that no ticket rewrote.
 ghost use Rattle.std.specs.Prelude.{◌≡◌, ℕ, Bool, true, false, Some, ◌⊎◌, ◌+◌, ◌-◌, ◌*◌, ◌<◌, ◌≤◌, ◌++◌, [], ◌∷◌, length, slice_index, slice_get, if◌then◌else◌, IfOk, OnOk, MatchOption, ◌↔◌, vec_len, replicate};
 ghost use Rattle.ol_limits.specs.Limits.{most_fuel};
 ghost use Rattle.ol_rules.specs.declared.journal.NodeName.{NodeName};

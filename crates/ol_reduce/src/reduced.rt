@@ -1,15 +1,15 @@
-//! What the work of all workers comes to.
+//! The result of all workers.
 use ol_net::Net;
 use ol_rules::Journal;
 use ol_wire::Words;
 
-/// A net that workers have rewritten.
+/// The result of a parallel reduction.
 ///
-/// - `Done`: no active pair is left. `net` is the last net, its nodes numbered by ascending name,
-///   and `journal` leads to it.
-/// - `Spent`: as many pairs were rewritten as the fuel allows, and an active one is left.
+/// - `Done`: a normal form. `net` is the final net, whose nodes are numbered in the ascending order
+///   of their names, and `journal` is the trace that leads to it.
+/// - `Spent`: the fuel is used up, and an active pair is left.
 ///
-/// `words` are the closed words of the table, and `journal` is theirs.
+/// `words` are the closed words of the table, and `journal` is their trace.
 #[derive(Drop)]
 pub enum Reduced {
     Done {

@@ -1,4 +1,4 @@
-//! A net rewritten by any number of workers.
+//! A net reduced by any number of workers.
 ghost use Rattle.std.specs.Prelude.{◌≡◌, ◌<◌, ◌≤◌, length, is_some, count_by, IfOk, ◌↔◌};
 ghost use Rattle.ol_limits.specs.Limits.{most_fuel};
 ghost use Rattle.ol_wire.specs.Closed.{journal_drawn};
@@ -19,20 +19,20 @@ use std::alloc::Global;
 use std::sync::Wait;
 use std::thread::Threads;
 
-/// Rewrites a net by so many workers, in whatever order they take its pairs, with at most `fuel`
-/// rewrites.
+/// Reduces a net with `workers` worker threads, which rewrite its active pairs in any order, by at
+/// most `fuel` interactions.
 ///
-/// - `net`: no number of it is that of a node that went; at most 1,000,000 nodes, at most 1,000,000
-///   free ports, no index above 1,000,000.
-/// - `workers`: 1 to 64. Where fewer threads can be had, the workers work in turn.
+/// - `net`: a net none of whose numbers belongs to a removed node: at most 1,000,000 nodes, at most
+///   1,000,000 free ports, no index above 1,000,000.
+/// - `workers`: 1 to 64. If fewer threads can be started, a thread runs several workers in turn.
 /// - `fuel`: at most 8,000,000.
 ///
-/// `Done` comes exactly where the one-thread run has at most `fuel` steps, with a journal of as
-/// many entries and the net that it leads to. `Spent` comes exactly where that run has more: the
-/// journal has `fuel` entries then, and an active pair is left. In both, `words` are the closed
-/// words of a table that was made from this net, with this fuel and `workers` seats, and `journal`
-/// is theirs. `NoMemory`: there was no memory for the words, the pool, the workers, the journal or
-/// the last net.
+/// `Done` is returned exactly if the reduction by one thread has at most `fuel` interactions; the
+/// trace has as many entries as that reduction and leads to `net`. `Spent` is returned exactly if
+/// the reduction by one thread has more interactions; the trace then has `fuel` entries, and an
+/// active pair is left. In both cases `words` are the closed words of a table that was made from
+/// this net, with this fuel and `workers` seats, and `journal` is their trace. `NoMemory`: no
+/// memory was found for the words, the pool, the workers, the trace or the final net.
 pub fn reduce<R: Threads + Wait + Sync, G: Gate + Sync>(
     rt: &R,
     alloc: Global,

@@ -1,4 +1,4 @@
-//! A pass over all cells, once every seat stands in one.
+//! The sweep over all cells, after all seats are joined.
 ghost use Rattle.std.specs.Prelude.{◌≡◌, ◌≢◌, ℕ, ◌<◌, IsTrue, IsFalse};
 ghost use Rattle.ol_wire.specs.Layout.{cells_of};
 ghost use Rattle.ol_wire.specs.Stand.{IsSeatOf};
@@ -8,12 +8,12 @@ ghost use Rattle.ol_reduce.specs.TurnEnds.{IsSpentTurn, IsOtherTurn};
 use crate::answers::Sweep;
 use ol_wire::{Seat, Shared, Turn};
 
-/// Makes a turn on each cell in ascending order, up to the first that answers `Spent`. Takes no
-/// memory.
+/// Makes a turn on each cell in ascending order, up to the first turn that returns `Spent`. Takes
+/// no memory.
 ///
-/// A turn publishes only in cells of a greater number than its own, so one pass is enough. `Clean`
-/// leaves no active pair: no turn answered `Spent`, and the seat has swept all cells. `Spent` comes
-/// only where the last turn of this call answered it.
+/// A turn publishes pairs only in cells with greater numbers than its own, so that a single pass is
+/// enough. `Clean`: no active pair is left, because no turn returned `Spent` and the seat has swept
+/// all cells. `Spent` is returned only if the last turn of this call returned it.
 pub fn sweep(shared: &Shared, seat: &mut Seat) -> Sweep
     requires seat { IsSeatOf shared.now seat.old }
     requires all { seat.old.view.holds ≡ shared.now.plan.seats }

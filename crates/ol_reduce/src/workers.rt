@@ -1,10 +1,10 @@
-//! A worker: a seat at the table, and a hand in the pool.
+//! A worker: a seat of the table and a hand of the pool.
 ghost use Rattle.std.specs.Prelude.{◌≡◌};
 
 use ol_pool::Hand;
 use ol_wire::Seat;
 
-/// What one worker works with, and its number.
+/// A worker: its number, its seat and its hand.
 #[derive(Drop)]
 pub struct Worker {
     pub(crate) number: u32,
@@ -15,7 +15,7 @@ pub struct Worker {
 }
 
 impl Worker {
-    /// A worker of that number. Takes no memory.
+    /// A worker with this number. Takes no memory.
     pub fn new(number: u32, seat: Seat, hand: Hand) -> Worker
         ensures number { result.number ≡ number }
         ensures seat { result.seat ≡ seat }
@@ -29,7 +29,7 @@ impl Worker {
         }
     }
 
-    /// Gives its seat back. Takes no memory.
+    /// Returns the worker's seat. Takes no memory.
     pub fn into_seat(self) -> Seat
         ensures { result ≡ self.seat }
     {

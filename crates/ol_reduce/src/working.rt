@@ -1,5 +1,6 @@
-//! What a worker does: it takes cells from the pool and makes turns on them, and where no cell
-//! waits, it asks whether all is done, and from time to time goes round over all cells.
+//! The loop of a worker: it takes cells from the pool and makes a turn on each; if no cell waits,
+//! it checks whether the reduction is finished, and now and then makes turns on cells of its own
+//! round over all cells.
 ghost use Rattle.std.specs.Prelude.{◌≡◌, ◌==◌, ℕ, List, [], ◌∷◌, ◌+◌, ◌/◌, ◌%◌, ◌^◌, ◌<◌, ◌≤◌, true, false, None, Some, IsTrue, IsFalse};
 ghost use Rattle.ol_pool.specs.Pools.{IsHandOf as IsOfPool};
 ghost use Rattle.ol_wire.specs.Layout.{cells_of};
@@ -20,28 +21,28 @@ use ol_pool::{Hand, Pool};
 use ol_wire::{Shared, Turn};
 use std::sync::Wait;
 
-/// Takes cells from the pool and makes a turn on each, up to the first that answers `Spent`. Where
-/// no cell waits, it asks `quiet`, ends where that is true, and else pauses and tries again. Each
-/// 64th time it makes turns on the next 64 cells of its own round over all cells before it asks, so
-/// that a pair whose cell the pool refused is found too. A cell in which a turn published a pair is
-/// put into the pool. Where a turn answers `Spent` its pair stays, and the pool gets a hint of its
-/// cell: there the rounds of the other workers go on, and each time, so that each soon finds that
-/// the fuel is used up.
+/// Takes cells from the pool and makes a turn on each, up to the first turn that returns `Spent`.
+/// If no cell waits, it calls `quiet`, and ends if that is true; otherwise it pauses and tries
+/// again. Every 64th time it makes turns on the next 64 cells of its own round over all cells
+/// before it calls `quiet`, in order to find a pair whose cell the pool refused. A cell in which a
+/// turn published a pair is put into the pool. After a turn that returned `Spent` the pair is still
+/// in its cell, and the pool gets a hint of this cell. While there is a hint, the rounds of all
+/// other workers continue at its cell, and part of the round is made every time, so that every
+/// worker soon finds that the fuel is used up.
 ///
-/// - `Spent` comes only where its last turn answered `Spent`.
-/// - `Quiet` comes only where `quiet` answered true for its seat at the end of the call, which
-///   `settled` shows, and its last `take` answered None, which the hand's `missed` shows.
+/// - `Spent` is returned only if the last turn returned `Spent`.
+/// - `Quiet` is returned only if `quiet` was true for the worker's seat at the end of the call,
+///   which `settled` shows, and its last `take` returned `None`, which `missed` of the hand shows.
 ///
-/// Between the seat's view before the call and the one after it lie the call's turns and looks at
-/// the live word: no turn but such a last one answered `Spent`, and no look but such a last one
-/// read 0. Each cell that its hand was given in the call was claimed by its seat in the call, as
-/// often as it was given. Each cell that its seat published in the call was put by its hand in the
-/// call, but for as many as the hand's `refused` rose by; this is said where that count doesn't end
-/// at its last value.
+/// The difference between the seat's view before and after the call is the turns and the loads of
+/// the live word of this call: at most the last turn returned `Spent`, and at most the last load
+/// read 0. The seat claimed each cell that its hand was given during the call, as often as it was
+/// given. The hand put each cell in which the seat published a pair during the call, except as many
+/// as `refused` of the hand rose by; this is promised unless that count reaches its greatest value.
 ///
-/// The gate is passed at the start with 0, and after each turn with the number of turns made, up to
-/// 2^64 - 1, at which it stays. A cell for which the pool finds no memory isn't put: its pair stays
-/// where it is.
+/// The gate is passed at the start with 0, and after each turn with the number of turns made, at
+/// most 2^64 - 1. A cell for which the pool finds no memory isn't put, and its pair stays in the
+/// cell.
 pub fn worker<R: Wait, G: Gate>(
     rt: &R,
     shared: &Shared,

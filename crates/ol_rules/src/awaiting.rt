@@ -1,4 +1,4 @@
-//! Node numbers that wait for their turn: among them are those of all nodes in active pairs.
+//! Node numbers that wait for their turn; they include the numbers of all nodes in active pairs.
 
 ghost use Rattle.std.specs.Prelude.{OnOk};
 ghost use Rattle.ol_rules.specs.Waiting.{AreAdded, IsActiveIn, IsBeside};
@@ -27,7 +27,7 @@ pub fn await_active(
     Ok(())
 }
 
-/// Adds to `waiting` every node whose principal port is joined to an auxiliary port of this one.
+/// Adds to `waiting` every node whose principal port is linked to an auxiliary port of this node.
 pub fn await_beside(waiting: &mut BTreeSet<u32>, net: &Net, at: NodeId) -> Result<(), NoMemory>
     ensures { OnOk result (AreAdded (IsBeside net.now at.0) waiting.old waiting.new) }
 {

@@ -1,4 +1,4 @@
-//! How often each rule stands in a journal.
+//! The number of interactions of each rule in a trace.
 
 ghost use Rattle.std.specs.Prelude.{◌≡◌, []};
 ghost use Rattle.ol_rules.specs.Counting.{counts_of};
@@ -7,7 +7,7 @@ ghost use Rattle.ol_rules.specs.Counted.{counted, HaveRoom};
 use crate::journal::{Counts, Journal};
 use ol_net::Rule;
 
-/// Counts the entries of each rule, in one pass. Takes no memory.
+/// The number of interactions of each rule in a trace, found in a single pass. Takes no memory.
 pub fn counts(j: &Journal) -> Counts
     ensures { result ≡ counts_of j.now }
 {
@@ -19,7 +19,7 @@ pub fn counts(j: &Journal) -> Counts
     told
 }
 
-/// The counts of a journal without an entry.
+/// The counts of an empty trace.
 pub fn no_counts() -> Counts
     ensures { result ≡ counts_of [] }
 {
@@ -35,7 +35,7 @@ pub fn no_counts() -> Counts
     }
 }
 
-/// The counts with one entry more, of this rule.
+/// The counts after a further interaction, which is by this rule.
 pub fn counted(told: Counts, rule: Rule) -> Counts
     requires { HaveRoom told }
     ensures { result ≡ counted told rule }

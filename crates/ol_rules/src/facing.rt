@@ -1,4 +1,4 @@
-//! Principal ports that are joined: what a node faces.
+//! Principal ports that are linked to each other.
 
 ghost use Rattle.std.specs.Prelude.{◌≡◌, ◌↔◌, true};
 ghost use Rattle.ol_net.specs.Nets.{slot, Linked};
@@ -7,7 +7,7 @@ ghost use Rattle.ol_rules.specs.Waiting.{FindsNode};
 
 use ol_net::{Net, NodeId, Port};
 
-/// The node whose principal port is joined to a port. `None`: there is none.
+/// The node whose principal port is linked to a port. `None`: there is no such node.
 pub fn node_at(net: &Net, port: Port) -> Option<NodeId>
     ensures { FindsNode net.now port result }
 {
@@ -19,7 +19,7 @@ pub fn node_at(net: &Net, port: Port) -> Option<NodeId>
     }
 }
 
-/// Whether the principal ports of the two nodes are joined.
+/// Whether the principal ports of the two nodes are linked to each other.
 pub fn are_facing(net: &Net, x: NodeId, y: NodeId) -> bool
     ensures { (result ≡ true) ↔ Linked (net_of net.now) (slot x.0 0) (slot y.0 0) }
 {

@@ -1,4 +1,4 @@
-//! Journals: what was rewritten, in order, under names that don't depend on the order.
+//! Traces: the active pairs of a reduction, in order, with names that don't depend on the order.
 
 ghost use Rattle.std.specs.Prelude.{◌≡◌, ℕ, ◌+◌, ◌-◌, ◌<◌, ◌^◌, ◌++◌, [], ◌∷◌, length, IfOk, OnOk, OnErr, slice_get, get_or, vec_len};
 
@@ -7,16 +7,16 @@ use ol_net::Rule;
 use std::alloc::Global;
 use std::marker::Model;
 
-/// The name of a node in a run: the node that had number `k` in the net at the start, or the node
-/// that the rewrite with this ticket (its place in the journal, from 0) made at this place (0 to
-/// 3).
+/// The name of a node in a reduction: the node that had number `k` in the initial net, or the node
+/// that the interaction with number `ticket` (its place in the trace, from 0) created at place
+/// `place` (0 to 3).
 #[derive(Clone, Copy, Debug, PartialEq, Eq)]
 pub enum NodeName {
     Init(u32),
     Born { ticket: u32, place: u8 },
 }
 
-/// One rewrite: its rule and the names of its two nodes, the smaller name first.
+/// An interaction of a trace: its rule and the names of its two nodes, the smaller name first.
 #[derive(Clone, Copy, Debug, PartialEq, Eq)]
 pub struct Entry {
     pub rule: Rule,
@@ -24,7 +24,8 @@ pub struct Entry {
     pub second: NodeName,
 }
 
-/// The entries of a run, in order. The number of an entry, from 0, is its ticket.
+/// A trace: the interactions of a reduction, in order. The ticket (sequence number) of an
+/// interaction is its number, from 0.
 #[derive(Drop)]
 pub struct Journal {
     entries: Vec<Entry>,
@@ -42,7 +43,7 @@ impl Model for Journal {
 }
 
 impl Journal {
-    /// The empty journal. Takes no memory.
+    /// The empty trace. Takes no memory.
     pub fn new(alloc: Global) -> Journal
         ensures empty { result ≡ [] }
     {
@@ -51,7 +52,8 @@ impl Journal {
         }
     }
 
-    /// The empty journal, with room for so many entries. `NoMemory`: no memory was found for it.
+    /// The empty trace, with a capacity of `entries` entries. `NoMemory`: no memory was found for
+    /// it.
     pub fn with_room(alloc: Global, entries: u32) -> Result<Journal, NoMemory>
         ensures empty { IfOk result (λ journal. journal ≡ []) }
     {
@@ -59,7 +61,7 @@ impl Journal {
         Ok(Journal { entries })
     }
 
-    /// Appends an entry. With `NoMemory` the journal is unchanged.
+    /// Appends an entry. After `NoMemory` the trace is unchanged.
     pub fn push(&mut self, entry: Entry) -> Result<(), NoMemory>
         requires few { length self.old < 4294967295 }
         ensures ok { OnOk result (self.new ≡ self.old ++ entry ∷ []) }
@@ -76,7 +78,7 @@ impl Journal {
         self.entries.len() as u32
     }
 
-    /// The entry with ticket `k`, if there are more than `k` entries.
+    /// The entry with ticket `k`. `None`: the trace has at most `k` entries.
     pub fn get(&self, k: u32) -> Option<Entry>
         ensures { result ≡ slice_get self.now k }
     {
@@ -92,7 +94,7 @@ impl Journal {
     }
 }
 
-/// How often each rule stands in a journal.
+/// The number of interactions of each rule in a trace.
 #[derive(Clone, Copy, Debug, PartialEq, Eq)]
 pub struct Counts {
     pub beta: u32,

@@ -1,15 +1,20 @@
-//! The rules in motion: one step, one-thread runs, journals and their counts.
+//! Interactions of sharing graphs (Lamping, POPL 1990): a single interaction, reductions by one
+//! thread, and traces.
 //!
-//! - `steps`: one step: the two nodes of an active pair go, and others come in their place
-//! - `meetings`: which rules join the slots of the two nodes
-//! - `journal`: what was rewritten, in order, under names that don't depend on the order
-//! - `names`: which node number has which name, and back
-//! - `under_way`: a run on its way, and one rewrite that it writes down
-//! - `facing`: principal ports that are joined
+//! - `steps`: an interaction: the two nodes of an active pair are replaced by other nodes
+//! - `meetings`: which rules are annihilations
+//! - `journal`: traces: the active pairs of a reduction, in order, with names that don't depend on
+//!   the order
+//! - `names`: from node numbers to names, and back
+//! - `under_way`: a reduction in progress, and an interaction that is appended to its trace
+//! - `facing`: principal ports that are linked to each other
 //! - `awaiting`: node numbers that wait for their turn
-//! - `one_thread`: one-thread runs
-//! - `counting`: how often each rule stands in a journal
-//! - `laws`: the laws of a step, and of the one-thread run
+//! - `one_thread`: reductions by one thread
+//! - `counting`: the number of interactions of each rule
+//! - `laws`: the theorems on interactions and on the reduction by one thread
+//!
+//! The order of the pairs is specified for the reduction by one thread only. That all reductions to
+//! normal form lead to the same net, up to node names, is proved in `ol_diamond`.
 #![tactic(auto)]
 
 mod awaiting;

@@ -1,11 +1,12 @@
-//! Which rules join the slots of the two nodes.
+//! Which rules are annihilations.
 ghost use Rattle.std.specs.Prelude.{◌≡◌};
 ghost use Rattle.ol_rules.specs.Rewriting.{is_meeting};
 
 use ol_net::Rule;
 
-/// Whether by this rule both nodes go, and their slots of one number are joined. By each other rule
-/// each node is copied at the slots of the other.
+/// Whether the rule is β or an annihilation, which removes both nodes and joins their slots of
+/// equal number. Every other rule is a commutation, which copies each node at the slots of the
+/// other.
 pub fn is_meeting(rule: Rule) -> bool
     ensures { result ≡ is_meeting rule }
 {

@@ -1,4 +1,4 @@
-//! Which node number has which name, in a run from a net.
+//! From node numbers to names, and back, in a reduction of a net.
 
 ghost use Rattle.std.specs.Prelude.{◌≡◌, ℕ, ◌+◌, ◌<◌, ◌≤◌, ◌++◌, [], ◌∷◌, length, option_map, IfOk, OnOk, OnErr};
 ghost use Rattle.ol_rules.specs.Runs.{names_born};
@@ -9,18 +9,18 @@ use ol_limits::NoMemory;
 use ol_net::{Net, NodeId};
 use std::alloc::Global;
 
-/// The names of a run's node numbers. The net at its start had given out `start` of them, and
-/// those given out since have `born`.
+/// The names of a reduction's node numbers. The initial net had given `start` numbers; the nodes
+/// created since then have the names `born`.
 #[derive(Drop)]
 pub struct Names {
-    /// How many numbers the net at the start had given out.
+    /// The number of node numbers that the initial net had given.
     pub start: u32,
-    /// The names of the numbers given out since, in order.
+    /// The names of the numbers given since then, in order.
     pub born: Vec<NodeName>,
 }
 
 impl Names {
-    /// Before the first rewrite. Takes no memory.
+    /// The names before the first interaction. Takes no memory.
     pub fn new(alloc: Global, net: &Net) -> Names
         ensures start { result.start ≡ length net.now.nodes }
         ensures born { result.born.items ≡ [] }
@@ -31,7 +31,7 @@ impl Names {
         }
     }
 
-    /// The name of a number. One that wasn't given out is told as if the start had given it.
+    /// The name of a number. For a number that wasn't given, the result is `Init` of this number.
     pub fn name_of(&self, at: NodeId) -> NodeName
         ensures { result ≡ name_in self.now.start self.now.born.items at.0 }
     {
@@ -44,8 +44,8 @@ impl Names {
         }
     }
 
-    /// Names the nodes that a ticket made, at most four. `NoMemory`: no memory was found, and some
-    /// of them have their names.
+    /// Names the `count` nodes that the interaction `ticket` created, at most four. `NoMemory`: no
+    /// memory was found, and some of these nodes may have their names.
     pub fn push(&mut self, ticket: u32, count: u32) -> Result<(), NoMemory>
         requires { count ≤ 4 }
         ensures start { self.new.start ≡ self.old.start }
@@ -61,17 +61,18 @@ impl Names {
     }
 }
 
-/// The numbers of a run's names: for each ticket so far, how many numbers were given out before it,
-/// and at the end how many are given out by now. So the node that ticket t made at place p has the
-/// number `bases[t] + p`, and that is below `bases[t + 1]`.
+/// The node numbers of a reduction's names. The entry for each ticket is how many numbers were
+/// given before its interaction, and the last entry is how many were given so far. The node that
+/// the interaction `t` created at place `p` has the number `bases[t] + p`, which is less than
+/// `bases[t + 1]`.
 #[derive(Drop)]
 pub struct Numbers {
-    /// How many numbers were given out before each ticket, and by now.
+    /// How many numbers were given before each interaction, and so far.
     pub bases: Vec<u32>,
 }
 
 impl Numbers {
-    /// Before the first rewrite. `NoMemory`: no memory was found.
+    /// The numbers before the first interaction. `NoMemory`: no memory was found.
     pub fn new(alloc: Global, net: &Net) -> Result<Numbers, NoMemory>
         ensures bases { IfOk result (λ numbers. numbers.bases.items ≡ length net.now.nodes ∷ []) }
     {
@@ -80,7 +81,7 @@ impl Numbers {
         Ok(Numbers { bases })
     }
 
-    /// The node of a name, by its number, if the name was given out.
+    /// The node with this name. `None`: no node has had this name.
     pub fn node_of(&self, name: NodeName) -> Option<NodeId>
         ensures { option_map (λ node. node.0) result ≡ node_number self.now.bases.items name }
     {
@@ -105,7 +106,8 @@ impl Numbers {
         }
     }
 
-    /// After one more ticket, which left this net. `NoMemory`: no memory was found.
+    /// Appends the numbers after a further interaction, which led to this net. `NoMemory`: no
+    /// memory was found.
     pub fn push(&mut self, net: &Net) -> Result<(), NoMemory>
         ensures bases { OnOk result
             (self.new.bases.items ≡ self.old.bases.items ++ length net.now.nodes ∷ []) }

@@ -1,4 +1,4 @@
-//! One-thread runs: the lead is rewritten, again and again.
+//! Reductions by one thread: each interaction is the lead.
 
 ghost use Rattle.std.specs.Prelude.{◌≡◌, ◌+◌, ◌*◌, ◌<◌, ◌≤◌, ◌↔◌, [], length, OnOk, OnErr, IfOk};
 ghost use Rattle.ol_net.specs.Nets.{IsNet};
@@ -17,16 +17,16 @@ use ol_net::{Facing, Net, NodeId, Port};
 use std::alloc::Global;
 use std::collections::BTreeSet;
 
-/// How a run ended.
+/// How a reduction ended.
 #[derive(Clone, Copy, Debug, PartialEq, Eq)]
 pub enum Ended {
-    /// No active pair is left.
+    /// In a normal form: no active pair is left.
     Done,
-    /// All fuel was used up, and an active pair is left.
+    /// The fuel is used up, and an active pair is left.
     Spent,
 }
 
-/// What a run made: its steps, in order.
+/// A reduction: its trace, and how it ended.
 #[derive(Drop)]
 pub struct Ran {
     pub ended: Ended,
@@ -40,9 +40,10 @@ struct Running {
     waiting: BTreeSet<u32>,
 }
 
-/// Makes at most `fuel` steps, each on the lead: the active pair whose smaller node number is
-/// least. The nodes that they make take the next numbers, in the order in which they come. With
-/// `NoMemory` the net is what some number of leads, at most `fuel`, leave.
+/// Reduces a net by at most `fuel` interactions, each of the lead, which is the active pair whose
+/// smaller node number is least. Created nodes get the next numbers, in the order of their
+/// creation. After `NoMemory` the net is the result of some number of these interactions, at most
+/// `fuel`.
 pub fn run(alloc: Global, net: &mut Net, fuel: u32) -> Result<Ran, NoMemory>
     requires { length net.old.nodes + 4 * fuel ≤ 2000000000 }
     ensures runs { IfOk result (λ ran. RunsTo net.old fuel ran.journal net.new) }

@@ -1,4 +1,4 @@
-//! One step: the two nodes of an active pair go, and others come in their place (Lamping, An
+//! A single interaction: the two nodes of an active pair are replaced by other nodes (Lamping, An
 //! Algorithm for Optimal Lambda Calculus Reduction, POPL 1990).
 
 ghost use Rattle.std.specs.Prelude.{◌≡◌, ℕ, ◌≤◌, ◌-◌, ◌+◌, ◌↔◌, length, Some, OnOk, OnErr, IfOk, Err};
@@ -17,12 +17,12 @@ ghost use Rattle.ol_rules.specs.declared.steps.StepFault.TheVariants.{NotActive}
 use ol_limits::NoMemory;
 use ol_net::{JoinEnd, Kind, Net, NodeId, Port, Rule, rule_of};
 
-/// Why a step was not made. The net is then as it was.
+/// Why there was no interaction. The net is unchanged.
 #[derive(Clone, Copy, Debug, PartialEq, Eq)]
 pub enum StepFault {
-    /// The node is in no active pair.
+    /// The node isn't in an active pair.
     NotActive,
-    /// There was no memory for the nodes that come.
+    /// No memory was found for the created nodes.
     NoMemory,
 }
 
@@ -216,11 +216,11 @@ fn rewrite(net: &mut Net, pair: Pair) -> Result<(), NoMemory>
     }
 }
 
-/// Rewrites the active pair of a node, which may be either of the two, and answers its rule. By
-/// `Beta`, `Fan`, `Croissant` and `Bracket` both nodes go, and their slots of one number are
-/// joined. By the other rules a copy of the node that acts comes at each auxiliary port of the
-/// other one, and a copy of the other one at each of its own; they have the next numbers in this
-/// order. After a refusal the net is as it was. `NotActive`: the node is in no active pair.
+/// Rewrites the active pair that contains a node, and returns its rule. The rules `Beta`, `Fan`,
+/// `Croissant` and `Bracket` remove both nodes and join their slots of equal number. Every other
+/// rule creates a copy of the acting node at each auxiliary port of the other node, and then a copy
+/// of the other node at each auxiliary port of the acting node; the copies get the next numbers in
+/// this order. After an error the net is unchanged. `NotActive`: the node isn't in an active pair.
 pub fn step(net: &mut Net, at: NodeId) -> Result<Rule, StepFault>
     requires few { length net.old.nodes ≤ 2000000000 }
     ensures steps { IfOk result (λ rule. StepsAt net.old net.new at.0 rule) }

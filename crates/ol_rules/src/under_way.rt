@@ -1,4 +1,4 @@
-//! A run on its way: the names of its numbers, its journal, and one rewrite.
+//! A reduction in progress: the names of its node numbers, its trace, and a single interaction.
 
 ghost use Rattle.std.specs.Prelude.{◌≡◌, ◌+◌, ◌<◌, ◌≤◌, [], length, IfOk, OnOk, OnErr};
 ghost use Rattle.ol_net.specs.declared.parts.Rule.{Rule};
@@ -14,7 +14,8 @@ use ol_limits::NoMemory;
 use ol_net::{Net, NodeId, Rule};
 use std::alloc::Global;
 
-/// A run on its way, without its net: the names of the net's numbers, and the journal so far.
+/// A reduction in progress, without its net: the names of the net's node numbers, and the trace so
+/// far.
 #[derive(Drop)]
 pub struct UnderWay {
     pub names: Names,
@@ -37,7 +38,7 @@ fn rewrite(net: &mut Net, at: NodeId) -> Result<Rule, NoMemory>
 }
 
 impl UnderWay {
-    /// Before the first rewrite. Takes no memory.
+    /// The reduction before its first interaction. Takes no memory.
     pub fn new(alloc: Global, net: &Net) -> UnderWay
         ensures start { result.names.start ≡ length net.now.nodes }
         ensures born { result.names.born.items ≡ [] }
@@ -49,8 +50,9 @@ impl UnderWay {
         }
     }
 
-    /// Rewrites the active pair of these two nodes, and writes it down, `x` before `y`. `NoMemory`:
-    /// no memory was found; the net is as it was, or one step on, and the journal is as it was.
+    /// Rewrites the active pair of these two nodes, and appends it to the trace, `x` before `y`.
+    /// `NoMemory`: no memory was found; the net is unchanged or is the result of the interaction,
+    /// and the trace is unchanged.
     pub fn rewrite_pair(&mut self, net: &mut Net, x: NodeId, y: NodeId) -> Result<(), NoMemory>
         requires few { length net.old.nodes ≤ 2000000000 }
         requires pair { (r : Rule) × IsPair (net_of net.old) x.0 y.0 r }

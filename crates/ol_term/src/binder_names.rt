@@ -1,4 +1,4 @@
-//! Names of binders: a to z, then a1 to z1, a2 to z2 and so on, without the free names.
+//! Names of binders: a to z, then a1 to z1, a2 to z2 and so on, except the free names.
 
 ghost use Rattle.std.specs.Prelude.{◌≡◌, ℕ, ◌+◌, ◌<◌, ◌++◌, List, length, slice_index_or, IfOk, OnOk};
 ghost use Rattle.std.specs.Fmt.{decimal};
@@ -112,11 +112,10 @@ fn number_of(
     Ok(numbers[t])
 }
 
-/// The names that binders are printed with, over a list of free names, which none of them is.
+/// The names with which binders are printed, for a list of free names.
 ///
-/// The sequence is a to z, then a1 to z1, a2 to z2 and so on, without the free names. A binder with
-/// t binders round it, on its own branch, has name number t from 0. Contracts see the list of free
-/// names.
+/// The sequence is a to z, then a1 to z1, a2 to z2 and so on, except the free names. A binder with
+/// t enclosing binders has name number t, from 0. Contracts view it as the list of free names.
 #[derive(Drop)]
 pub struct BinderNames<'a> {
     alloc: Global,
@@ -133,7 +132,7 @@ impl<'a> Model for BinderNames<'a> {
 }
 
 impl<'a> BinderNames<'a> {
-    /// The names of binders over these free names.
+    /// The names of binders for these free names.
     pub fn new(alloc: Global, names: &'a Names) -> BinderNames<'a>
         ensures { result ≡ names.now }
     {
@@ -144,8 +143,8 @@ impl<'a> BinderNames<'a> {
         }
     }
 
-    /// Adds the name of a binder with `t` binders round it to the text. `NoMemory`: no memory was
-    /// found; the text may then end in a part of the name.
+    /// Appends the name of a binder with `t` enclosing binders to the text. `NoMemory`: no memory
+    /// was found; the text may then end with a part of the name.
     pub fn put(&mut self, text: &mut Vec<u8>, t: usize) -> Result<(), NoMemory>
         ensures text { OnOk result (text.new.items ≡ text.old.items ++ binder_name self.old t) }
         ensures names { self.new ≡ self.old }

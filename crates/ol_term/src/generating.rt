@@ -6,12 +6,12 @@ ghost use Rattle.ol_term.specs.declared.generating.Made.TheVariants.{TooLarge};
 
 use std::alloc::Global;
 
-/// Why a text was not made.
+/// Why no text was made.
 #[derive(Clone, Copy, Debug, PartialEq, Eq)]
 pub enum Made {
-    /// The term would be doubled more than ten times.
+    /// The request is for more than ten doublings.
     TooLarge,
-    /// No memory was found.
+    /// A memory allocation failed.
     NoMemory,
 }
 
@@ -52,9 +52,9 @@ fn double(alloc: Global, k: u32) -> Result<Vec<u8>, Made>
     Ok(text)
 }
 
-/// A text of the grammar whose term is large and reduces to an identity: `((\x. x x) (\y. y))`, and
-/// k times over that the term so far applied to itself, as `(T T)`; and a line feed. It has 22 *
-/// 2^k - 2 bytes. `TooLarge`: k is above 10. `NoMemory`: no memory was found.
+/// The text of a large term that reduces to an identity: `((\x. x x) (\y. y))`, doubled k times to
+/// an application of the term to itself, `(T T)`, with a line feed at the end. It has 22 * 2^k - 2
+/// bytes. `TooLarge`: k exceeds 10. `NoMemory`: no memory was found.
 pub fn make(alloc: Global, k: u32) -> Result<Vec<u8>, Made>
     ensures made { IfOk result (λ text. text.items ≡ doubled_text k) }
     ensures size { IfOk result (λ text. length text.items + 2 ≡ 22 * 2 ^ k) }

@@ -1,16 +1,17 @@
-//! Terms of the lambda calculus: trees with numbers for variables, the names of their free
-//! variables and of their binders, their sizes and their printed texts; and the names of the two
-//! translations.
+//! Terms of the lambda calculus in de Bruijn notation, the names of their free variables and
+//! binders, their sizes and their printed texts; and the two translations.
 //!
 //! - `terms`: terms without names
-//! - `measures`: their sizes and their equality
+//! - `measures`: size, depth and α-equality
 //! - `name_list`: lists of names, each found by an index
-//! - `term_file`: a term and the names that are free in it
-//! - `binder_names`: names of binders, without the free names
-//! - `binder_laws`: the law that they are new
+//! - `term_file`: a term and its free names
+//! - `binder_names`: names for binders, different from the free names
+//! - `binder_laws`: the theorem that these names are new
 //! - `printing`: the printed text of a term
 //! - `generating`: large terms, made by doubling
-//! - `translations`: the names of the two translations
+//! - `translations`: the two translations
+//!
+//! `BinderNames::put` also returns `NoMemory` if the number in a name exceeds 64 bits.
 #![tactic(auto)]
 
 mod binder_laws;

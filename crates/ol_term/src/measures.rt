@@ -1,13 +1,14 @@
-//! Sizes of terms and their equality.
+//! Size, depth and α-equality of terms.
 //!
-//! These calls take no memory, so they recurse on the term: a call as deep as the term is.
+//! These calls take no memory. They recurse on the term, so that the call depth is the depth of the
+//! term.
 
 ghost use Rattle.std.specs.Prelude.{◌≡◌, ◌<◌, ◌^◌, ◌↔◌, true};
 ghost use Rattle.ol_term.specs.Trees.{tree_of, term_size, depth};
 
 use crate::terms::Term;
 
-/// How many constructors a term has: itself and those inside it. The term has fewer than 2^64.
+/// The number of constructors of a term, which is less than 2^64.
 pub fn size(term: &Term) -> u64
     requires few { term_size (tree_of term.now) < 2 ^ 64 }
     ensures { result ≡ term_size (tree_of term.now) }
@@ -20,9 +21,9 @@ pub fn size(term: &Term) -> u64
     }
 }
 
-/// How many constructors of a term stand one within another: 1 for a variable, one more than the
-/// body for an abstraction, one more than the deeper part for an application. The term has fewer
-/// than 2^64 constructors.
+/// The depth of a term: 1 for a variable, the depth of the body plus 1 for an abstraction, and the
+/// depth of the deeper subterm plus 1 for an application. The term has fewer than 2^64
+/// constructors.
 pub fn depth(term: &Term) -> u64
     requires few { term_size (tree_of term.now) < 2 ^ 64 }
     ensures { result ≡ depth (tree_of term.now) }
@@ -39,8 +40,8 @@ pub fn depth(term: &Term) -> u64
     }
 }
 
-/// Whether two terms are one tree: the same but for the names of their binders. Free names are
-/// equal where their numbers are.
+/// Whether two terms are α-equal, that is, equal in de Bruijn notation. Free names are equal if
+/// their numbers are equal.
 pub fn alpha_eq(a: &Term, b: &Term) -> bool
     ensures { (result ≡ true) ↔ (tree_of a.now ≡ tree_of b.now) }
 {

@@ -12,7 +12,7 @@ use std::alloc::Global;
 use std::collections::BTreeMap;
 use std::marker::Model;
 
-/// A list of names, each a list of bytes, numbered from 0. No name stands in it twice.
+/// A list of different names, each a list of bytes, numbered from 0.
 #[derive(Drop)]
 pub struct Names {
     alloc: Global,
@@ -40,14 +40,14 @@ impl Names {
         }
     }
 
-    /// How many names there are.
+    /// The number of names.
     pub fn len(&self) -> u32
         ensures { result ≡ length self.now }
     {
         self.rows.len() as u32
     }
 
-    /// Law: no name stands twice, and there are fewer than 2 ^ 32.
+    /// Theorem: the names are different, and there are fewer than 2^32.
     pub fn are_different(&self)
         ensures different { NoNameTwice self.now }
         ensures few { length self.now < 2 ^ 32 }
@@ -55,7 +55,7 @@ impl Names {
         let _ = &self.rows;
     }
 
-    /// The name of this number. None comes exactly where the number isn't below `len`.
+    /// The name with number `k`. `None`: `k` isn't less than `len`.
     pub fn get(&self, k: u32) -> Option<&[u8]>
         ensures name { option_map (λ name. name.now) result ≡ slice_get self.now k }
         ensures none { IsNone result ↔ (length self.now ≤ k) }
@@ -64,7 +64,7 @@ impl Names {
         Some(row.as_slice())
     }
 
-    /// The number of this name. None comes exactly where it isn't there.
+    /// The number of this name. `None`: the list doesn't contain it.
     pub fn find(&self, name: &[u8]) -> Option<u32>
         ensures place { IfSome result (λ k. IsFirstPlace self.now name.now k) }
         ensures none { IsNone result ↔ ((j : ℕ) → slice_get self.now j ≢ Some name.now) }
@@ -72,8 +72,9 @@ impl Names {
         found_in(&self.index, name)
     }
 
-    /// The number of this name, which goes last where it isn't there yet. There are fewer than
-    /// 4,294,967,295 names before. `NoMemory`: no memory was found, and the list is unchanged.
+    /// The number of this name, which is appended if the list doesn't contain it. The list has
+    /// fewer than 4,294,967,295 names before. `NoMemory`: no memory was found, and the list is
+    /// unchanged.
     pub fn add(&mut self, name: &[u8]) -> Result<u32, NoMemory>
         requires { length self.old < 4294967295 }
         ensures number { IfOk result (λ k. IsFirstPlace self.new name.now k) }

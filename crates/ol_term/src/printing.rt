@@ -12,9 +12,9 @@ use crate::terms::Term;
 use ol_limits::NoMemory;
 use std::alloc::Global;
 
-/// What is still to be printed: a term with so many binders round it, which is the body of the
-/// innermost one where the flag is true; an argument with so many binders round it, and the space
-/// before it; or the right bracket of a term.
+/// What remains to be printed: a term with its number of enclosing binders, which is the body of
+/// the innermost of these if the flag is true; an argument with its number of enclosing binders,
+/// and the space before it; or the closing bracket of a term.
 #[derive(Clone, Copy, Drop)]
 pub enum Todo<'a> {
     Term(&'a Term, u32, bool),
@@ -158,16 +158,16 @@ fn print_next<'a>(
     }
 }
 
-/// The printed text of a term, as bytes. It is exact for every depth that the number of a binder
-/// can count: what is still to be printed is kept in a list.
+/// The printed text of a term, as bytes. A list of what remains to be printed replaces recursion,
+/// so that the depth of the term is limited by the number of a binder only.
 ///
-/// Binders are named by `BinderNames`: a binder with t binders round it, on its own branch, has
-/// name number t. Directly nested abstractions are gathered after one `\`, with one space between
-/// two binders, then `.` and a space. An application prints its function, a space and its argument.
-/// A function that is an abstraction stands in brackets, and an argument that is no variable does.
+/// Binders are named by `BinderNames`: a binder with t enclosing binders has name number t.
+/// Directly nested abstractions share a single `\`, with a space between two binders, then `.` and
+/// a space. An application is printed as its function, a space and its argument. Brackets enclose a
+/// function that is an abstraction, and an argument that isn't a variable.
 ///
 /// Every `Var` of the term is bound, every `Free` is the number of a name, and the depth is at most
-/// 4294967295. `NoMemory`: no memory was found.
+/// 4,294,967,295. `NoMemory`: no memory was found.
 pub fn print_term(alloc: Global, term: &Term, names: &Names) -> Result<Vec<u8>, NoMemory>
     requires bound { is_below 0 (tree_of term.now) ≡ true }
     requires named { is_named_below (length names.now) (tree_of term.now) ≡ true }

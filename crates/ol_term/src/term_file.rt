@@ -6,8 +6,8 @@ ghost use Rattle.ol_term.specs.Trees.{tree_of, is_below, is_named_below};
 use crate::name_list::Names;
 use crate::terms::Term;
 
-/// A term and its free names. Every `Var` in it is bound, and every `Free(k)` is the name of number
-/// k.
+/// A term and its free names. Every `Var` of the term is bound, and every `Free(k)` is the name
+/// with number k.
 #[derive(Drop)]
 pub struct TermFile {
     pub term: Term,

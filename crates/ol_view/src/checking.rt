@@ -1,4 +1,4 @@
-//! Trace texts, read and replayed.
+//! Whole traces, checked by a replay.
 
 ghost use Rattle.std.specs.Prelude.{◌≤◌, length, IfOk};
 ghost use Rattle.ol_net.specs.Nets.{IsNet};
@@ -11,21 +11,22 @@ use ol_limits::NoMemory;
 use ol_net::Net;
 use std::alloc::Global;
 
-/// Reads a trace text of either form and replays it from a net, whose nodes are named by their
-/// numbers. The lines are tried in order, and the first bad one decides.
+/// Checks the text of a trace, in either format, by a replay on a net whose nodes are named by
+/// their numbers. The lines are checked in order; the first bad line decides.
 ///
-/// - `BadText`: this line isn't in the grammar. The first line is `ol trace 1` or `ol trace 2`. Of
-///   the first form each other line is two names with one space between, the smaller one first. Of
-///   the second form the rule's name, one space, the wave and one space stand before them. Numbers
-///   are at most 4294967295, without leading zeros; a place is one digit, 0 to 3; every line ends
-///   with a line feed; there are at most 8,000,000 entries. A text with no byte is bad at line 1.
-/// - `NotARun`: this line is in the grammar, and its pair isn't active after the lines before it
-///   or, in the second form, its rule or its wave isn't the entry's own.
+/// - `BadText`: the grammar doesn't allow this line. The first line is `ol trace 1` or
+///   `ol trace 2`. In format 1 each further line is two names, separated by a space, the smaller
+///   name first. In format 2 the name of the rule, a space, the wave and a space precede them.
+///   Numbers are at most 4,294,967,295, without leading zeros; a place is a digit from 0 to 3;
+///   every line ends with a line feed; there are at most 8,000,000 entries. An empty text is bad at
+///   line 1.
+/// - `NotARun`: the grammar allows this line, but its pair isn't active after the preceding lines
+///   or, in format 2, its rule or its wave is wrong.
 /// - `Complete`: all lines are good, and no active pair is left.
-/// - `Run`: all lines are good, and one is left.
+/// - `Run`: all lines are good, and an active pair is left.
 ///
-/// The net has given out at most 1,000,000 node numbers. It stays as it is. `NoMemory`: no memory
-/// was found.
+/// The net has given at most 1,000,000 node numbers. It is unchanged. `NoMemory`: no memory was
+/// found.
 pub fn check(alloc: Global, net: &Net, text: &[u8]) -> Result<Check, NoMemory>
     requires { length net.now.nodes ≤ 1000000 }
     ensures exact { IfOk result (OnlyIsFound (start_net_of_graph net.now) text.now) }

@@ -1,4 +1,4 @@
-//! Trace texts, read and replayed piece by piece.
+//! Traces checked piece by piece.
 
 ghost use Rattle.std.specs.Prelude.{◌≡◌, ◌≢◌, ℕ, ◌++◌, ◌≤◌, List, [], ◌∷◌, length, drop, true, false, None, Some, IfOk, IfSome, IfNone, IsSomeAnd};
 ghost use Rattle.ol_net.specs.Graph.{Graph};
@@ -24,8 +24,8 @@ use std::alloc::Global;
 // The most bytes of a line, its line feed aside.
 const MOST_OF_LINE: usize = 52;
 
-/// The form of a trace text, by its first line. `None`: its first line is that of neither form, or
-/// it has no line feed.
+/// The format of a trace's text, by its first line. `None`: the first line isn't `ol trace 1` or
+/// `ol trace 2`, or has no line feed.
 pub fn form_of(text: &[u8]) -> Option<Form>
     ensures form { IfSome result (λ form.
         text.now ≡ header_of form ++ drop (length (header_of One)) text.now) }
@@ -41,7 +41,7 @@ pub fn form_of(text: &[u8]) -> Option<Form>
     None
 }
 
-/// Whether the line tells of what was rewritten: of a pair that was active and, in the second form,
+/// Whether the line describes the interaction: the pair was active and, in format 2, the line has
 /// its rule and its wave.
 pub fn is_so(line: Line, made: Option<Rewritten>) -> bool
     ensures so { result ≡ true → IsSomeAnd made (λ of. TellsOf line.told of.rule of.wave) }
@@ -56,8 +56,8 @@ pub fn is_so(line: Line, made: Option<Rewritten>) -> bool
     }
 }
 
-/// A trace text that comes in pieces is checked by it. Of the text it keeps only the line that isn't
-/// ended: at most 53 bytes.
+/// The check of a trace whose text is fed in pieces. Of the text it keeps only the unfinished last
+/// line, at most 53 bytes.
 #[derive(Drop)]
 pub struct Checker {
     // The form, once the first line has come.
@@ -71,8 +71,8 @@ pub struct Checker {
 }
 
 impl Checker {
-    /// Before the first piece. The net has given out at most 1,000,000 node numbers. It stays as it
-    /// is. `NoMemory`: no memory was found.
+    /// A checker before the first piece. The net has given at most 1,000,000 node numbers. It is
+    /// unchanged. `NoMemory`: no memory was found.
     pub fn new(alloc: Global, net: &Net) -> Result<Checker, NoMemory>
         requires few { length net.now.nodes ≤ 1000000 }
         ensures fed { IfOk result (IsFed net.now []) }
@@ -158,10 +158,11 @@ impl Checker {
         }
     }
 
-    /// Feeds the next piece of the text. What is answered is found of each text that begins with
-    /// what was fed, and the checker takes nothing more. It is answered as soon as the line feed of
-    /// the first bad line has come, or 53 bytes of it without one. `None`: all lines that have come
-    /// whole are good. `NoMemory`: no memory was found, and the checker takes nothing more.
+    /// Feeds the next piece of the text. An answer holds for each text that begins with the bytes
+    /// fed so far, and the checker accepts no further piece. The answer is returned as soon as the
+    /// line feed of the first bad line was fed, or 53 bytes of it without a line feed. `None`: all
+    /// finished lines are good. `NoMemory`: no memory was found, and the checker accepts no further
+    /// piece.
     pub fn feed(&mut self, piece: &[u8]) -> Result<Option<Check>, NoMemory>
         requires fed { (net : Graph) × (text : List ℕ) × IsFed net text self.old }
         ensures answered { (net : Graph) (text : List ℕ) → IsFed net text self.old
@@ -175,7 +176,7 @@ impl Checker {
         Ok(None)
     }
 
-    /// What is found of the text that was fed, where nothing follows.
+    /// The verdict on the text that was fed, if it ends here.
     pub fn finish(&self) -> Check
         requires fed { (net : Graph) × (text : List ℕ) × IsFed net text self.now }
         ensures found { (net : Graph) (text : List ℕ) → IsFed net text self.now

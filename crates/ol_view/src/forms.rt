@@ -1,10 +1,11 @@
-//! The two forms of a trace text.
+//! The two formats of a trace's text.
 
-/// What the lines of a trace text tell.
+/// The format of a trace's text.
 #[derive(Clone, Copy, Debug, PartialEq, Eq)]
 pub enum Form {
-    /// The two nodes of each entry. The first line is `ol trace 1`.
+    /// A line has the two nodes of an entry. The first line of the text is `ol trace 1`.
     One,
-    /// The rule and the wave of each entry, and its two nodes. The first line is `ol trace 2`.
+    /// A line has the rule, the wave and the two nodes of an entry. The first line of the text is
+    /// `ol trace 2`.
     Two,
 }

@@ -1,18 +1,21 @@
-//! What users see of nets and runs: the text of a net, a net after some leads, the text of a
-//! journal, and what such a text is found to be when it is replayed.
+//! The texts of nets and traces, and the check of a trace's text by a replay.
 //!
 //! - `showing`: the text of a net
-//! - `leading`: a net after some leads
-//! - `tracing`: the text of a journal
-//! - `wave_tracing`: the text of a journal with its rules and waves
-//! - `forms`: the two forms of a trace text
-//! - `line_reading`: one line of a trace text, as it is read
-//! - `standing`: what stands at a place of a trace text
-//! - `feeding`: trace texts, read and replayed piece by piece
-//! - `checking`: trace texts, read and replayed
-//! - `answers`: what the calls of this crate answer
-//! - `pieces`: bytes at the end of a text
-//! - `laws`: the laws of shown nets, and of texts that are fed piece by piece
+//! - `leading`: a net after a number of interactions by one thread
+//! - `tracing`: the text of a trace
+//! - `wave_tracing`: the text of a trace with rules and waves
+//! - `forms`: the two formats of a trace's text
+//! - `line_reading`: parsing a line of a trace's text
+//! - `standing`: parsing the parts of a line
+//! - `feeding`: traces checked piece by piece
+//! - `checking`: whole traces checked
+//! - `answers`: the answers of this crate's calls
+//! - `pieces`: appending bytes to a text
+//! - `laws`: the theorems on printed nets, and on texts that are fed piece by piece
+//!
+//! `Complete` says that a trace is a reduction to normal form, and nothing about the net that the
+//! runtime which wrote it has in memory. While `feed` returns no answer, the unfinished last line
+//! may already be invalid.
 #![tactic(auto)]
 
 mod answers;

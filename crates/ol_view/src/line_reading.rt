@@ -1,4 +1,4 @@
-//! One line of a trace text, as it is read from its front.
+//! Parsing a line of a trace's text, from its first byte.
 
 ghost use Rattle.std.specs.Prelude.{◌≡◌, ◌<◌, ◌≤◌, length, drop, option_map, IfSome};
 ghost use Rattle.ol_rules.specs.declared.journal.NodeName.{NodeName};
@@ -10,19 +10,19 @@ use crate::wave_tracing::rule_word;
 use ol_net::Rule;
 use ol_rules::NodeName;
 
-/// A line of a trace text.
+/// A line of a trace's text.
 #[derive(Clone, Copy)]
 pub struct Line {
-    /// The rule and the wave, where the form tells them.
+    /// The rule and the wave, in format 2.
     pub told: Option<(Rule, u32)>,
-    /// The smaller name, and the other.
+    /// The smaller name, and the other name.
     pub first: NodeName,
     pub second: NodeName,
-    /// The place behind the line.
+    /// The position after the line.
     pub next: usize,
 }
 
-/// All rules, in the order in which they are declared.
+/// All rules, in the order of their declaration.
 pub const RULES: [Rule; 8] = [
     Rule::Beta,
     Rule::Fan,

@@ -73,11 +73,11 @@ fn put_nodes(text: &mut String, net: &Net) -> Result<(), NoMemory>
     Ok(())
 }
 
-/// The text of a net: the line `nodes L` with the number of live nodes, a line `fk P` for each free
-/// port k with its partner, and a line `N kind index P0 P1 P2` for each live node in ascending
-/// order, with as many partners as it has slots. A port is written `fk` where it is free port k,
-/// and `N.S` where it is slot S of node N. The index of an eraser is written `-`. Each line ends
-/// with a line feed. `NoMemory`: no memory was found.
+/// The text of a net: the line `nodes L`, where L is the number of live nodes; a line `fk P` for
+/// each free port k, where P is its partner; and a line `N kind index P0 P1 P2` for each live node
+/// N in ascending order, with a partner for each of its slots. A partner is printed as `fk` for
+/// free port k, and as `N.S` for slot S of node N. The index of an eraser is printed as `-`. Each
+/// line ends with a line feed. `NoMemory`: no memory was found.
 pub fn show(alloc: Global, net: &Net) -> Result<Vec<u8>, NoMemory>
     ensures { IfOk result (λ text. text.items ≡ show_text net.now) }
 {

@@ -1,4 +1,4 @@
-//! What of the grammar of a trace text stands at a place of it.
+//! Parsing the parts of a trace's line.
 
 ghost use Rattle.std.specs.Prelude.{◌≡◌, ◌≢◌, ℕ, ◌<◌, ◌≤◌, ◌∷◌, List, length, drop, IfSome, IfNone};
 ghost use Rattle.ol_net.specs.declared.parts.Rule.{Rule};
@@ -12,8 +12,8 @@ use crate::line_reading::Line;
 use ol_net::Rule;
 use ol_rules::NodeName;
 
-/// The number at a place of the text, and the place behind it. Numbers are at most 4294967295,
-/// without leading zeros. `None`: none stands there.
+/// The number at a position of the text, and the position after it. A number is at most
+/// 4,294,967,295, without leading zeros. `None`: there is no number at this position.
 pub fn number_at(text: &[u8], at: usize) -> Option<(u32, usize)>
     requires { at ≤ length text.now }
     ensures found { IfSome result (λ r.
@@ -25,7 +25,8 @@ pub fn number_at(text: &[u8], at: usize) -> Option<(u32, usize)>
     line_reading::number_at(text, at)
 }
 
-/// The name at a place of the text, and the place behind it. `None`: none stands there.
+/// The node name at a position of the text, and the position after it. `None`: there is no node
+/// name at this position.
 pub fn name_at(text: &[u8], at: usize) -> Option<(NodeName, usize)>
     requires { at ≤ length text.now }
     ensures found { IfSome result (λ r.
@@ -37,7 +38,8 @@ pub fn name_at(text: &[u8], at: usize) -> Option<(NodeName, usize)>
     line_reading::name_at(text, at)
 }
 
-/// The place behind this byte. `None`: another byte stands there, or none.
+/// The position after the byte `byte`. `None`: the byte at this position is another byte, or the
+/// text ends there.
 pub fn behind(text: &[u8], at: usize, byte: u8) -> Option<usize>
     requires { at ≤ length text.now }
     ensures found { IfSome result (λ to. drop at text.now ≡ byte ∷ drop to text.now) }
@@ -47,7 +49,8 @@ pub fn behind(text: &[u8], at: usize, byte: u8) -> Option<usize>
     line_reading::behind(text, at, byte)
 }
 
-/// The rule of this name, and the place behind the name. `None`: the name of no rule stands there.
+/// The rule whose name is at a position of the text, and the position after it. `None`: there is no
+/// rule's name at this position.
 pub fn rule_at(text: &[u8], at: usize) -> Option<(Rule, usize)>
     requires { at ≤ length text.now }
     ensures found { IfSome result (λ r.
@@ -59,7 +62,8 @@ pub fn rule_at(text: &[u8], at: usize) -> Option<(Rule, usize)>
     line_reading::rule_at(text, at)
 }
 
-/// The line of this form at a place of the text. `None`: there is no line of the grammar.
+/// The line at a position of a text in this format. `None`: there is no line of the grammar at this
+/// position.
 pub fn line_at(form: Form, text: &[u8], at: usize) -> Option<Line>
     requires { at ≤ length text.now }
     ensures found { IfSome result (λ line.

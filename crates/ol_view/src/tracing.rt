@@ -1,4 +1,4 @@
-//! The text of a journal.
+//! The text of a trace.
 
 ghost use Rattle.std.specs.Prelude.{◌≡◌, ◌++◌, [], OnOk, IfOk, string_bytes};
 ghost use Rattle.ol_view.specs.declared.forms.Form.TheVariants.{One};
@@ -13,7 +13,7 @@ use std::alloc::Global;
 // The first line of a trace text.
 pub(crate) const HEADER: &str = "ol trace 1\n";
 
-/// Appends a name. `NoMemory`: no memory was found.
+/// Appends a node name. `NoMemory`: no memory was found.
 pub fn put_name(text: &mut String, name: NodeName) -> Result<(), NoMemory>
     ensures { OnOk result (string_bytes text.new ≡ string_bytes text.old ++ name_text name) }
 {
@@ -37,10 +37,10 @@ pub(crate) fn put_line(text: &mut String, entry: Entry) -> Result<(), NoMemory>
     put(text, "\n")
 }
 
-/// The text of a journal: the line `ol trace 1`, and then a line for each entry, in the order of
-/// tickets, of its two names with one space between. A start node is written by its number, and one
-/// that was born as `ticket.place`. Each line ends with a line feed. `NoMemory`: no memory was
-/// found.
+/// The text of a trace: the line `ol trace 1`, and then a line for each entry, in the order of
+/// tickets, with its two names, separated by a space. A node of the initial net is written as its
+/// number, and a created node as `ticket.place`. Each line ends with a line feed. `NoMemory`: no
+/// memory was found.
 pub fn trace_text(alloc: Global, journal: &Journal) -> Result<Vec<u8>, NoMemory>
     ensures { IfOk result (λ text. text.items ≡ text_of One journal.now []) }
 {

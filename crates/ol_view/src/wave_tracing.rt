@@ -1,4 +1,4 @@
-//! The text of a journal with its rules and waves.
+//! The text of a trace with rules and waves.
 
 ghost use Rattle.std.specs.Prelude.{◌≡◌, ℕ, ◌+◌, ◌*◌, ◌≤◌, ◌++◌, List, length, OnOk, IfOk, string_bytes};
 ghost use Rattle.ol_net.specs.Nets.{NamedNet};
@@ -21,7 +21,7 @@ use std::alloc::Global;
 // The first line of a trace text with waves.
 pub(crate) const WAVE_HEADER: &str = "ol trace 2\n";
 
-/// The name of a rule, as in the lines of counts.
+/// The name of a rule, as printed in the lines of counts.
 pub fn rule_word(rule: Rule) -> &'static str
     ensures { result.now ≡ rule_text rule }
 {
@@ -67,13 +67,13 @@ fn written(alloc: Global, journal: &Journal, waves: &WaveList) -> Result<Vec<u8>
     Ok(text.into_bytes())
 }
 
-/// The text of a journal with its waves: the line `ol trace 2`, and then a line for each entry, in
-/// the order of tickets, of the rule's name, the wave and the two names, with one space between.
-/// The wave is that of `waves`. Names are written as in `trace_text`, and each line ends with a
-/// line feed.
+/// The text of a trace with waves: the line `ol trace 2`, and then a line for each entry, in the
+/// order of tickets, with the name of its rule, its wave and its two names, separated by spaces.
+/// The wave is as `waves` of `ol_diamond` defines it. Names are written as in `trace_text`, and
+/// each line ends with a line feed.
 ///
-/// The journal is that of a run from the net, whose nodes are named by their numbers. `NoMemory`:
-/// no memory was found.
+/// The trace is of a reduction of `net`, whose nodes are named by their numbers. `NoMemory`: no
+/// memory was found.
 pub fn trace_text_2(alloc: Global, net: &Net, journal: &Journal) -> Result<Vec<u8>, NoMemory>
     requires few { length net.now.nodes + 4 * length journal.now ≤ 2000000000 }
     requires run { (M : NamedNet NodeName) × IsRun (start_net_of_graph net.now) 0 journal.now M }

@@ -1,4 +1,5 @@
-//! The words of a table that no thread shares any more, and what they say.
+//! The words of a table that no thread shares any more, and the trace and the net that they
+//! contain.
 ghost use Rattle.std.specs.Prelude.{◌≡◌, ℕ, ◌+◌, ◌<◌, ◌≤◌, ◌++◌, [], length, MatchOption, IfOk, OnOk, slice_get, slice_index};
 ghost use Rattle.core.specs.Mem.Slots.{slots_items, slots_len, IsFull};
 ghost use Rattle.ol_wire.specs.Closed.{ClosedTable, events_in, event_at, journal_in, journal_drawn, pair_at, pairs_drawn, filled_row, filled_below, filled_before, cells_filled, entry_at, HasWord, closed_of};
@@ -17,7 +18,7 @@ use std::alloc::Global;
 use std::marker::Model;
 use std::snapshot::Snapshot;
 
-/// The words of a table that no thread shares any more. They tell a journal, and the net after it.
+/// The words of a table that no thread shares any more. They contain a trace, and the net after it.
 pub struct Words {
     pub(crate) closed: atomic_table::Closed<(), Global>,
     pub(crate) parts: Parts,
@@ -34,25 +35,25 @@ impl Model for Words {
     ghost invariant = { λ w. IsClosedOf w.closed w.was.value.key w.parts w.last.value.me.0 };
 }
 
-/// What the blocks of the drawn tickets hold.
+/// The contents of the blocks of the tickets.
 #[derive(Drop)]
 pub struct Blocks {
-    /// By ticket: the references of the two nodes that it was drawn for, that of the smaller place
-    /// first.
+    /// For each ticket, the references of the two nodes of its interaction, in the order of their
+    /// places.
     pub pairs: Vec<(u64, u64)>,
-    /// The numbers of the cells that aren't empty, rising.
+    /// The numbers of the cells that aren't empty, in ascending order.
     pub cells: Vec<u32>,
 }
 
 impl Words {
-    /// How the words are laid out.
+    /// The layout of the words.
     pub fn parts(&self) -> Parts
         ensures { result ≡ self.now.plan.parts }
     {
         self.parts
     }
 
-    /// The word of that number. `None`: there are only as many words as that, or fewer.
+    /// The word with number `at`. `None`: there are at most `at` words.
     pub fn word(&self, at: u32) -> Option<u64>
         ensures { MatchOption result (length self.now.words ≤ at) (HasWord self.now.words at) }
     {
@@ -71,7 +72,7 @@ impl Words {
         self.closed.word(at as usize)
     }
 
-    /// The number of entries of the journal.
+    /// The number of entries of the trace.
     pub fn events(&self) -> u32
         ensures { result ≡ events_in self.now.plan.parts self.now.words }
     {
@@ -83,8 +84,7 @@ impl Words {
         }
     }
 
-    /// The entry of that number, counted from 0. `None`: there are only as many entries as that, or
-    /// fewer.
+    /// The entry with number `k`, from 0. `None`: the trace has at most `k` entries.
     pub fn journal(&self, k: u32) -> Option<Entry>
         ensures { result ≡ slice_get (journal_in self.now.plan.parts self.now.words) k }
     {
@@ -145,11 +145,11 @@ impl Words {
         Ok(())
     }
 
-    /// What the blocks of the tickets hold: their pairs, and which cells aren't empty. `NoMemory`: no
-    /// memory was found for it.
+    /// The contents of the blocks of all tickets: their pairs, and the cells that aren't empty.
+    /// `NoMemory`: no memory was found for them.
     ///
-    /// Each block is looked at once and but for a moment, so that the memory of many is on its way
-    /// at one time.
+    /// The call reads each block once, in order, so that the processor can load several blocks at
+    /// once.
     pub fn blocks(&self, alloc: Global) -> Result<Blocks, NoMemory>
         ensures pairs { IfOk result (λ blocks. blocks.pairs.items ≡ pairs_drawn self.now) }
         ensures cells { IfOk result (λ blocks. blocks.cells.items ≡ cells_filled self.now) }
@@ -165,7 +165,7 @@ impl Words {
         Ok(Blocks { pairs, cells })
     }
 
-    /// The entry of a ticket, by the pair that it was drawn for.
+    /// The entry of a ticket, from the pair of its interaction.
     #[inline(always)]
     pub fn entry(&self, k: u32, pair: (u64, u64)) -> Entry
         requires drawn { k < events_in self.now.plan.parts self.now.words }
@@ -175,7 +175,7 @@ impl Words {
         self.parts.entry(pair.0, pair.1)
     }
 
-    /// The whole journal. `NoMemory`: no memory was found for it.
+    /// The whole trace. `NoMemory`: no memory was found for it.
     pub fn whole_journal(&self, alloc: Global) -> Result<Journal, NoMemory>
         ensures { IfOk result (λ journal. journal ≡ journal_drawn self.now) }
     {
@@ -184,7 +184,7 @@ impl Words {
         Ok(journal)
     }
 
-    /// The whole journal, by the pairs of the tickets, so that no block is looked at again.
+    /// The whole trace, from the pairs of the tickets, without reading the blocks again.
     /// `NoMemory`: no memory was found for it.
     pub fn journal_by(&self, alloc: Global, pairs: &Vec<(u64, u64)>) -> Result<Journal, NoMemory>
         requires pairs { pairs.now.items ≡ pairs_drawn self.now }

@@ -1,4 +1,4 @@
-//! The names of nodes by their places, and the entry of a pair that was rewritten.
+//! The names of nodes by their places, and the trace entry of a pair that was rewritten.
 ghost use Rattle.std.specs.Prelude.{◌≡◌, ◌<◌, ◌⊎◌, Some};
 ghost use Rattle.ol_wire.specs.References.{place_in};
 ghost use Rattle.ol_wire.specs.Events.{name_at, rule_between, event_of, entry_of};
@@ -12,7 +12,8 @@ use ol_net::Rule;
 use ol_rules::{Entry, NodeName};
 
 impl Parts {
-    /// The node whose first field has that place; for a word that is no field it has no meaning.
+    /// The node whose first field has this place. If the word at this place isn't a field, the
+    /// result has no meaning.
     #[inline(always)]
     pub fn name_at(self, place: u32) -> NodeName
         requires { IsSmall self }

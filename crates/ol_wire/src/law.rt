@@ -1,4 +1,4 @@
-//! The rule of the table.
+//! The invariant of the table.
 ghost use Rattle.ol_wire.specs.Credit.{IsRuled};
 ghost use Rattle.ol_wire.specs.Openings.{opener};
 
@@ -6,7 +6,7 @@ use crate::plan::Plan;
 use crate::view::View;
 use atomic_table::TableRule;
 
-/// What holds of the words and of all views between any two steps.
+/// The invariant of the words and of the views of all seats, at every moment between two steps.
 pub struct Law;
 
 impl TableRule<(), View, Plan> for Law {

@@ -1,4 +1,4 @@
-//! How the words of a table are laid out.
+//! The layout of a table's words.
 ghost use Rattle.std.specs.Prelude.{◌≡◌, ℕ, ◌+◌, ◌*◌, ◌<◌, ◌≤◌};
 ghost use Rattle.ol_limits.specs.Limits.{most_fuel};
 ghost use Rattle.ol_wire.specs.References.{place_in};
@@ -8,26 +8,29 @@ ghost use Rattle.ol_wire.specs.StepPlays.{IsNodeOf};
 
 use crate::reference::place_in;
 
-/// The numbers of the parts of a table.
+/// The numbers of parts of a table.
 #[derive(Clone, Copy, Debug, PartialEq, Eq)]
 pub struct Parts {
-    /// The number of free ports. Each has a word.
+    /// The number of free ports. Each free port has a word.
     pub free: u32,
-    /// The number of nodes at the start. Each has two words, the fields of its slots 1 and 2.
+    /// The number of nodes of the initial net. Each node has two words, the fields of its auxiliary
+    /// ports, slots 1 and 2.
     pub nodes: u32,
-    /// The number of links of two auxiliary slots at the start. Each has a word.
+    /// The number of links between two auxiliary ports of the initial net. Each of these links has
+    /// a word.
     pub wires: u32,
-    /// The number of facing pairs at the start. Each has a cell, which is two words.
+    /// The number of links between two principal ports of the initial net. Each of these pairs has
+    /// a cell, which is two words.
     pub cells: u32,
-    /// The greatest number of tickets. Each has a block of 22 words.
+    /// The greatest number of tickets. Each ticket has a block of 22 words.
     pub fuel: u32,
 }
 
-/// The words of a block: the two nodes of the entry, two fields for each of four nodes, four wires,
-/// two words for each of four cells.
+/// The number of words of a block: two nodes of the trace entry, two fields for each of four nodes,
+/// four wires, and two words for each of four cells.
 pub const BLOCK: u32 = 22;
 
-/// The word of the free port of that number, in each table.
+/// The number of the word of a free port, in every table.
 pub fn port_word(port: u32) -> u32
     requires { port < 4294967294 }
     ensures { result ≡ port_word port }
@@ -36,7 +39,7 @@ pub fn port_word(port: u32) -> u32
 }
 
 impl Parts {
-    /// The place of the start node of that number.
+    /// The place of a node of the initial net.
     pub fn start_node(self, node: u32) -> u32
         requires { IsSmall self × (node ≤ 1000000) }
         ensures { result ≡ start_node self node }
@@ -44,7 +47,7 @@ impl Parts {
         2 + self.free + 2 * node
     }
 
-    /// The word of the start wire of that number.
+    /// The number of the word of a wire of the initial net.
     pub fn start_wire(self, wire: u32) -> u32
         requires { IsSmall self × (wire ≤ 2000000) }
         ensures { result ≡ start_wire self wire }
@@ -52,7 +55,7 @@ impl Parts {
         2 + self.free + 2 * self.nodes + wire
     }
 
-    /// The left word of the start cell of that number.
+    /// The number of the left word of a cell of the initial net.
     pub fn start_cell(self, cell: u32) -> u32
         requires { IsSmall self × (cell ≤ 2000000) }
         ensures { result ≡ start_cell self cell }
@@ -60,7 +63,7 @@ impl Parts {
         2 + self.free + 2 * self.nodes + self.wires + 2 * cell
     }
 
-    /// The first word of the block of a ticket.
+    /// The number of the first word of a ticket's block.
     pub fn block(self, ticket: u32) -> u32
         requires { IsSmall self × (ticket ≤ most_fuel) }
         ensures { result ≡ block self ticket }
@@ -76,7 +79,7 @@ impl Parts {
         self.block(self.fuel)
     }
 
-    /// The number of cells: those of the start, and four for each ticket.
+    /// The number of cells: the cells of the initial net, and four for each ticket.
     pub fn all_cells(self) -> u32
         requires { IsSmall self }
         ensures { result ≡ cells_of self }
@@ -84,7 +87,7 @@ impl Parts {
         self.cells + 4 * self.fuel
     }
 
-    /// The left word of a cell.
+    /// The number of the left word of a cell.
     pub fn left_word(self, cell: u32) -> u32
         requires { IsSmall self × (cell < cells_of self) }
         ensures { result ≡ left_word self cell }

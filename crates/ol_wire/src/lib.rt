@@ -1,30 +1,42 @@
-//! The shared words: a net laid out in words that up to 64 threads rewrite by single atomic steps.
+//! Shared memory of the parallel machine: a net as 64-bit words that up to 64 threads rewrite by
+//! single atomic steps.
 //!
-//! What the words are:
-//! - `layout`: which word is which, by number.
-//! - `reference`: what a word holds that isn't empty.
-//! - `net_words`: the words of a net, before any step.
+//! The house words: a *cell* is a task slot, two words in which an active or stuck pair waits; a
+//! *ticket* is the sequence number of an interaction, whose *block* of words it owns; a *seat* is a
+//! thread's handle of the shared memory; a *turn* claims the pair of a cell and rewrites it.
 //!
-//! What a ticket is drawn for:
-//! - `rewrite`: the pair, its rule, and how many nodes and links come of it.
+//! The words:
+//! - `layout`: the number of each word.
+//! - `reference`: the content of a word that isn't empty.
+//! - `net_words`: the words of a net, before the first step.
+//!
+//! The interaction of a ticket:
+//! - `rewrite`: the pair, its rule, and the number of created nodes and of links.
 //! - `blocks`: the wires between the copies of a node.
-//! - `begun`: a rewrite that has its ticket, the references of its copies, and the ends of its links.
-//! - `entries`: its entry in the journal.
-//! - `turn`: what a turn came to.
+//! - `begun`: an interaction that has its ticket, the references of its copies, and the ends of its
+//!   links.
+//! - `entries`: its entry in the trace.
+//! - `turn`: the result of a turn.
 //!
-//! The rule, which no step breaks:
-//! - `plan`: what a table is told when it is made.
+//! The invariant of the shared memory:
+//! - `plan`: the constants of a table.
 //! - `view`: what a seat knows and holds.
-//! - `law`: the rule.
-//! - `plays`: what each kind of step tells the seat that makes it.
-//! - `rule_laws`: what the rule says, under which alone the words can be stepped on.
+//! - `law`: the invariant.
+//! - `plays`: how each kind of step changes the view of its seat.
+//! - `rule_laws`: what the invariant implies.
 //!
 //! The calls:
-//! - `shared`: the table that threads share. Its parts are `seats`, `turns`, `steps`, `links`,
+//! - `shared`: the table that the threads share. Its parts are `seats`, `turns`, `steps`, `links`,
 //!   `moments` and `close`.
-//! - `seat`: what a thread steps with.
-//! - `closed`: the words once no thread shares them, and their journal.
-//! - `closed_laws`: what these words say.
+//! - `seat`: the handle by which a thread makes steps.
+//! - `closed`: the words after no thread shares them any more, and their trace.
+//! - `closed_laws`: what these words imply.
+//!
+//! The toolchain's `atomic_table` and `core` are trusted: a table changes by steps that keep its
+//! invariant, and atomic steps are sequentially consistent. No contract promises progress or
+//! fairness, and not every contract says that a step was made during its own call: if another seat
+//! could have claimed the pair, the contract of a turn permits `Gone` without a look at the cell.
+//! The memory for all fuel is allocated at the start.
 #![tactic(auto)]
 
 mod begun;

@@ -1,15 +1,15 @@
-//! What a table is told when it is made, and never changes.
+//! The constants of a table.
 use crate::layout::Parts;
 use ol_net::Net;
 use std::snapshot::Snapshot;
 
-/// What the rule of the table reads beside the words.
+/// The constants of a table, which its invariant mentions in addition to the words.
 #[derive(Drop)]
 pub struct Plan {
-    /// How the words are laid out.
+    /// The layout of the words.
     pub parts: Parts,
-    /// The number of seats that were made.
+    /// The number of seats.
     pub seats: u32,
-    /// The net that the words stood for at the start. It takes no memory.
+    /// The initial net, which the words represented before the first step. It takes no memory.
     pub start: Snapshot<Net>,
 }

@@ -1,4 +1,4 @@
-//! What each kind of step tells the seat that makes it.
+//! How each kind of step changes the view of the seat that makes it.
 ghost use Rattle.ol_wire.specs.Plays.{joined};
 ghost use Rattle.ol_wire.specs.StepPlays.{claims, reads_right, draws, owes, repays, writes, fewer, one_seat};
 ghost use Rattle.ol_wire.specs.TurnPlays.{reads_field, returns};
@@ -15,28 +15,28 @@ impl Play<(), View> for Claims {
     ghost then = { claims };
 }
 
-/// A look at the right word of the cell that was claimed last.
+/// A load of the right word of the cell that was claimed last.
 pub struct ReadsRight;
 
 impl Play<(), View> for ReadsRight {
     ghost then = { reads_right };
 }
 
-/// A look at a field of one of the two nodes that were claimed.
+/// A load of a field of one of the two claimed nodes.
 pub struct ReadsField;
 
 impl Play<(), View> for ReadsField {
     ghost then = { reads_field };
 }
 
-/// The addition of one to the ticket word.
+/// The addition of 1 to the ticket word.
 pub struct Draws;
 
 impl Play<(), View> for Draws {
     ghost then = { draws };
 }
 
-/// An addition to the live word, for the links that a rewrite will make.
+/// An addition to the live word, for the links that an interaction will make.
 pub struct Owes;
 
 impl Play<(), View> for Owes {
@@ -50,14 +50,14 @@ impl Play<(), View> for Repays {
     ghost then = { repays };
 }
 
-/// A word that is written into the seat's own block.
+/// A store of a word into the seat's own block.
 pub struct Writes;
 
 impl Play<(), View> for Writes {
     ghost then = { writes };
 }
 
-/// A claimed pair that is put back into its cell.
+/// A store of a claimed pair back into its cell.
 pub struct Returns;
 
 impl Play<(), View> for Returns {
@@ -71,42 +71,42 @@ impl Play<(), View> for Links {
     ghost then = { links };
 }
 
-/// The right word of a cell that is published.
+/// A store of the right word of a cell that is being published.
 pub struct Places;
 
 impl Play<(), View> for Places {
     ghost then = { places };
 }
 
-/// The left word of a cell that is published.
+/// A store of the left word of a cell, which publishes its pair.
 pub struct Publishes;
 
 impl Play<(), View> for Publishes {
     ghost then = { publishes };
 }
 
-/// A look at the ticket word, for the number of seats.
+/// A load of the ticket word, for the number of seats.
 pub struct ReadsTicketsJoined;
 
 impl Play<(), View> for ReadsTicketsJoined {
     ghost then = { reads_tickets_joined };
 }
 
-/// A look at the ticket word, for what holds of the whole table then.
+/// A load of the ticket word, for the state of the whole table at that moment.
 pub struct ReadsTickets;
 
 impl Play<(), View> for ReadsTickets {
     ghost then = { reads_tickets };
 }
 
-/// A look at the live word.
+/// A load of the live word.
 pub struct ReadsLive;
 
 impl Play<(), View> for ReadsLive {
     ghost then = { reads_live };
 }
 
-/// What one seat has done goes to another.
+/// The work of a seat is moved to another seat.
 pub struct Joins;
 
 impl Join<View> for Joins {
@@ -115,7 +115,7 @@ impl Join<View> for Joins {
     ghost spent = { spent_view };
 }
 
-/// One seat is cut off from a seat that has done nothing.
+/// A seat is split off a seat that has done nothing.
 pub struct Cut;
 
 impl Split<View> for Cut {

@@ -1,4 +1,4 @@
-//! References: what a word holds that isn't empty.
+//! References: the content of a word that isn't empty.
 ghost use Rattle.std.specs.Prelude.{◌≡◌, ◌<◌, ◌≤◌, ◌+◌, ◌*◌, ◌%◌, ◌^◌, true, ◌↔◌};
 ghost use Rattle.ol_wire.specs.References.{kind_number, node_ref, wire_ref, kind_in, index_in, place_in, IsNodeRef};
 ghost use Rattle.ol_wire.specs.References.{indexes, place_step};
@@ -64,7 +64,7 @@ pub(crate) fn further(node: u64, words: u32) -> u64
     node + PLACE * words as u64
 }
 
-/// Whether the reference is that of a node.
+/// Whether the reference is to a node.
 pub fn is_node(reference: u64) -> bool
     ensures { (result ≡ true) ↔ IsNodeRef reference }
 {

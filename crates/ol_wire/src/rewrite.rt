@@ -1,4 +1,4 @@
-//! What a ticket is drawn for.
+//! The interaction of a ticket.
 ghost use Rattle.std.specs.Prelude.{◌≡◌, ◌+◌, ◌*◌, ◌<◌, ◌≤◌, None, Some, MatchOption, IsTrue, IsFalse, slice_index};
 ghost use Rattle.ol_net.specs.Rules.{rule_of};
 ghost use Rattle.ol_rules.specs.Rewriting.{is_meeting, index_after};

@@ -1,4 +1,4 @@
-//! The seat with which a thread steps on a table.
+//! The seat: the handle by which a thread makes steps on a table.
 ghost use Rattle.std.specs.Prelude.{◌≡◌, ◌≤◌, []};
 ghost use Rattle.ol_wire.specs.Layout.{cells_of};
 ghost use Rattle.ol_wire.specs.Stand.{SeatState};
@@ -10,7 +10,7 @@ use std::marker::Model;
 
 pub(crate) type Token = atomic_table::Seat<(), View>;
 
-/// What a thread steps with on a table. It tells what its turns did. Between two calls it holds no
+/// A thread's handle of a table. Its view records what its turns did. Between two calls it has no
 /// claimed pair, no word to write and no link to make.
 #[derive(Drop)]
 pub struct Seat {
@@ -30,29 +30,29 @@ impl Model for Seat {
 }
 
 impl Seat {
-    /// How many of the seats that were made stand in it.
+    /// The number of seats that are joined in this seat, including itself.
     pub fn holds(&self) -> u32
         ensures { result ≡ self.now.view.holds }
     {
         self.holds
     }
 
-    /// Law: it has swept at most all cells of its table.
+    /// Theorem: the seat has swept at most all cells of its table.
     pub fn swept_within(&self)
         ensures within { self.now.view.swept ≤ cells_of self.now.view.parts }
     {
         let _ = &self.holds;
     }
 
-    /// Law: between two calls it owes nothing.
+    /// Theorem: between two calls the seat owes nothing.
     pub fn owes_nothing(&self)
         ensures nothing { self.now.view.owed ≡ 0 }
     {
         let _ = &self.holds;
     }
 
-    /// Law: between two calls it holds no claimed pair, no word of a block that it has not written,
-    /// and no link that it has to make.
+    /// Theorem: between two calls the seat has no claimed pair, no unwritten word of a block, and
+    /// no pending link.
     pub fn holds_nothing(&self)
         ensures taken { self.now.view.taken ≡ [] }
         ensures due { self.now.view.due ≡ [] }

@@ -1,10 +1,10 @@
-//! The table that threads share.
+//! The table that the threads share.
 //!
-//! - `seats`: how its seats are dealt out, cut off and joined.
-//! - `turns`: a turn: a claim, and what becomes of the pair that it finds.
-//! - `steps`: the single steps of a turn, but those of its links.
-//! - `links`: the links that a rewrite leaves.
-//! - `moments`: looks at the whole table.
+//! - `seats`: how its seats are handed out, split and joined.
+//! - `turns`: a turn: a claim, and what happens to the claimed pair.
+//! - `steps`: the single steps of a turn, except the steps of its links.
+//! - `links`: the links that an interaction makes.
+//! - `moments`: loads that observe the whole table.
 //! - `close`: the end of the table.
 ghost use Rattle.std.specs.Prelude.{◌≡◌, ◌+◌, ◌<◌, ◌≤◌, [], All, IfOk, vec_len, length, is_some, count_by};
 ghost use Rattle.ol_limits.specs.Limits.{most_fuel};
@@ -35,7 +35,7 @@ use std::alloc::Global;
 use std::marker::Model;
 use std::snapshot::Snapshot;
 
-/// The words of a net, which up to 64 threads rewrite.
+/// The words of a net that up to 64 threads rewrite.
 #[derive(Drop)]
 pub struct Shared {
     pub(crate) table: Table<(), View, Plan, Law, Global>,
@@ -52,15 +52,15 @@ impl Model for Shared {
 }
 
 impl Shared {
-    /// A table with the words of a net, which hands out at most `fuel` tickets, and its seats.
+    /// A table with the words of a net, for at most `fuel` tickets, and its seats.
     ///
-    /// - `net`: a net no number of which is that of a node that went: at most 1,000,000 nodes, at
+    /// - `net`: a net none of whose numbers belongs to a removed node: at most 1,000,000 nodes, at
     ///   most 1,000,000 free ports, no index above 1,000,000.
     /// - `fuel`: at most 8,000,000 tickets, each of 22 words. `seats`: 1 to 64.
     ///
-    /// Each facing pair of the net stands in a cell of its own: cell c has the c-th of them by the
-    /// smaller node number. All words that the run can need are taken here. `NoMemory`: there was
-    /// no memory for them.
+    /// Each pair of the net whose principal ports are linked has a cell: cell c has the c-th pair,
+    /// in the order of the smaller node numbers. The memory for all words of the reduction is
+    /// allocated here. `NoMemory`: no memory was found for them.
     pub fn make(
         alloc: Global,
         net: &Net,
@@ -97,14 +97,14 @@ impl Shared {
         Ok((shared, dealt))
     }
 
-    /// The number of cells: those of the net at the start, and four for each ticket.
+    /// The number of cells: the cells of the initial net, and four for each ticket.
     pub fn cells(&self) -> u32
         ensures { result ≡ cells_of self.now.plan.parts }
     {
         self.parts.all_cells()
     }
 
-    /// The number of seats that were made.
+    /// The number of seats.
     pub fn seats(&self) -> u32
         ensures { result ≡ self.now.plan.seats }
     {

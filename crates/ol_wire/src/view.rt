@@ -1,5 +1,4 @@
-//! What a seat knows, and what a table is told when it is made. No thread keeps a view: it is seen
-//! by contracts alone, and takes no memory.
+//! Views: what a seat knows and holds. Views exist in contracts only, and take no memory.
 ghost use Rattle.std.specs.Prelude.{ℕ, List, Bool};
 ghost use Rattle.std.specs.Borrow.{ftrue};
 ghost use Rattle.ol_net.specs.Graph.{Graph};
@@ -9,52 +8,52 @@ ghost use Rattle.ol_wire.specs.declared.view.Link.{Link};
 
 use std::marker::Model;
 
-/// A link that a rewrite left to be made: its two ends, as references, and the left word of the
-/// cell where the two are published once both are nodes.
+/// A pending link of an interaction: its two ends, as references, and the number of the left word
+/// of the cell in which the ends are published if both are nodes.
 pub struct Link {
     pub cell: u64,
     pub one: u64,
     pub two: u64,
 }
 
-/// What a seat has done and what it holds. No value of it is made.
+/// What a seat has done and what it holds. No value of this type exists at run time.
 pub struct View {
-    /// The cells of its claiming steps, in order.
+    /// The cells of its claims, in order.
     pub ghost claimed: { List ℕ },
-    /// The cells of its publishing steps, in order.
+    /// The cells in which it published pairs, in order.
     pub ghost published: { List ℕ },
-    /// Its tickets below the fuel, each with its entry.
+    /// Its tickets below the fuel, each with its trace entry.
     pub ghost made: { List (ℕ × Entry) },
-    /// The left word that its last claiming step read, and the right word, once it was looked at.
+    /// The left word that its last claim read, and the right word, after it was loaded.
     pub ghost last: { ℕ × ℕ },
-    /// The cell of its last claiming step.
+    /// The cell of its last claim.
     pub ghost cell: { ℕ },
-    /// It read a ticket at or above the fuel.
+    /// Whether it has read a ticket at or above the fuel.
     pub ghost over: { Bool },
-    /// How many of the seats that were made stand in it.
+    /// The number of seats that are joined in it, including itself.
     pub ghost holds: { ℕ },
-    /// The pair that it has claimed: the number of the cell's left word, and what stood there.
+    /// The pair that it has claimed: the number of the cell's left word, and the word's content.
     pub ghost taken: { List (ℕ × ℕ) },
-    /// Words that it has read and that never change, by number.
+    /// Words that it has read and that never change: number and content.
     pub ghost known: { List (ℕ × ℕ) },
-    /// The words of a block that it has not written, by number.
+    /// The words of a block that it has still to write: number and content.
     pub ghost due: { List (ℕ × ℕ) },
-    /// The links that it has to make.
+    /// The links that it has still to make.
     pub ghost pending: { List Link },
-    /// The wires that its exchanges made dead, by the numbers of their words.
+    /// The wires that its exchanges removed, by the numbers of their words.
     pub ghost dead: { List ℕ },
-    /// How many cells, from the first on, hold no active pair as far as it knows, once it is the
-    /// one seat that is left.
+    /// The number of cells, from the first cell, that contain no active pair as far as it knows,
+    /// after all other seats were joined in it.
     pub ghost swept: { ℕ },
-    /// What it has in the live word for active pairs that may still come: one for each link that it
-    /// has to make, and one for the pair that it is rewriting.
+    /// Its part of the live word, for active pairs that its work may still publish: 1 for each link
+    /// that it has to make, and 1 for the pair that it is rewriting.
     pub ghost owed: { ℕ },
-    /// A load of the live word by it, or by a seat that was joined to it, read 0.
+    /// Whether a load of the live word, by it or by a seat that was joined in it, read 0.
     pub ghost settled: { Bool },
-    /// What its loads of the live word read, in order.
+    /// The values that its loads of the live word read, in order.
     pub ghost looked: { List ℕ },
-    /// The parts and the seats of its table, and the net that the table was made from, which a step
-    /// cannot read elsewhere.
+    /// The layout and the number of seats of its table, and the table's initial net, which the
+    /// contract of a step can't take from elsewhere.
     pub ghost parts: { Parts },
     pub ghost seats: { ℕ },
     pub ghost start: { Graph },

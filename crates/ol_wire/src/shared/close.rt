@@ -1,4 +1,4 @@
-//! The end of a table: its words are kept, once all seats stand in one.
+//! The end of a table: its words remain, after all seats are joined in a single seat.
 ghost use Rattle.std.specs.Prelude.{◌≡◌};
 
 use crate::closed::Words;
@@ -7,9 +7,10 @@ use crate::shared::Shared;
 use std::snapshot::Snapshot;
 
 impl Shared {
-    /// Keeps the words, once every seat that was made stands in this one.
+    /// Ends the sharing of the table, and keeps its words. All seats of the table are joined in
+    /// `seat`.
     ///
-    /// It takes no memory and doesn't wait.
+    /// Takes no memory, and never waits for another thread.
     pub fn close(self, seat: Seat) -> Words
         requires table { seat.table ≡ self.table }
         requires holds { seat.view.holds ≡ self.plan.seats }

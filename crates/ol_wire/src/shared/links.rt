@@ -1,5 +1,5 @@
-//! The links that a rewrite leaves. Each is made by exchanges with the words of wires and of free
-//! ports, until an empty word has taken one of its ends or both ends are nodes.
+//! The links that an interaction makes. Each link is made by exchanges with the words of wires and
+//! of free ports, until an empty word has taken one of its ends or both ends are nodes.
 ghost use Rattle.std.specs.Prelude.{◌≡◌, ◌≢◌, ℕ, suc, ◌+◌, ◌*◌, ◌^◌, ◌<◌, ◌≤◌, ◌⊎◌, [], Some, MatchOption, IfSome, slice_index};
 ghost use Rattle.ol_wire.specs.References.{place_in, IsNodeRef, IsWireRef};
 ghost use Rattle.ol_wire.specs.Layout.{table_size};

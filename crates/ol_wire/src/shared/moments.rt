@@ -1,4 +1,4 @@
-//! A look at the whole table, by a seat.
+//! Loads of a seat that observe the whole table.
 ghost use Rattle.std.specs.Prelude.{◌≡◌, ℕ, length};
 ghost use Rattle.ol_wire.specs.Moments.{Moment, IsMomentAsked};
 ghost use Rattle.ol_wire.specs.Looking.{MomentLive, MomentWith};
@@ -12,11 +12,11 @@ use crate::seat::{Seat, Token};
 use crate::shared::Shared;
 
 impl Shared {
-    /// The number of entries that the journal has at a moment of this call. At that moment the
-    /// words and the views of all seats met the rule, for the net that the table was made from, and
-    /// this seat's view was among them; it stays as it is.
+    /// The number of entries of the trace at a moment during this call. At that moment the words
+    /// and the views of all seats satisfied the invariant for the table's initial net, and the view
+    /// of this seat, which doesn't change, was among these views.
     ///
-    /// It is one load. It takes no memory and doesn't wait.
+    /// The call is a single load. It takes no memory, and never waits for another thread.
     pub fn events(&self, seat: &mut Seat) -> u32
         requires seat { IsSeatOf self.now seat.old }
         ensures seat { seat.new ≡ seat.old }
@@ -30,14 +30,14 @@ impl Shared {
         }
     }
 
-    /// Whether no active pair is left, so that the journal is complete. It is one load of the live
-    /// word, which the seat's view keeps in `looked`.
+    /// Whether no active pair is left, so that the trace is of a reduction to normal form. The call
+    /// is a single load of the live word, which the view of the seat records in `looked`.
     ///
-    /// True: the word was 0 then. At that moment the net of the journal had no active pair, and so
-    /// it stays. False: another number stood there, so that a pair was active, or a seat was still
-    /// at the links of its ticket (`nothing_is_owed`).
+    /// True: the word was 0. At that moment the net after the trace had no active pair, and the net
+    /// doesn't change any more. False: the word wasn't 0, because a pair was active or a seat had
+    /// still to make the links of its ticket (theorem `nothing_is_owed`).
     ///
-    /// It takes no memory and doesn't wait.
+    /// Takes no memory, and never waits for another thread.
     pub fn quiet(&self, seat: &mut Seat) -> bool
         requires seat { IsSeatOf self.now seat.old }
         ensures seat { IsSeatOf self.now seat.new }

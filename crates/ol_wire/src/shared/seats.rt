@@ -1,4 +1,4 @@
-//! How the seats of a table are dealt out, cut off and joined.
+//! How the seats of a table are handed out, split and joined.
 ghost use Rattle.std.specs.Prelude.{◌≡◌, ℕ, ◌+◌, ◌<◌, ◌≤◌, [], false, All, IfOk, vec_len};
 ghost use Rattle.ol_wire.specs.LinkPlays.{times_drawn};
 ghost use Rattle.ol_wire.specs.Plays.{joined};
@@ -50,8 +50,8 @@ impl Shared {
         }
     }
 
-    /// Moves what one seat has done, and the seats that it stands for, to another. No ticket then
-    /// stands twice among those of the one.
+    /// Moves the work of the seat `from`, and the seats that are joined in it, to the seat `into`.
+    /// No ticket then occurs twice among the tickets of `into`.
     pub fn join(&self, into: &mut Seat, from: Seat)
         requires seats { IsSeatOf self.now into.old × IsSeatOf self.now from }
         ensures seat { IsSeatOf self.now into.new }

@@ -1,4 +1,4 @@
-//! The single steps of a seat: each changes one word at most, and tells what it found.
+//! The single steps of a seat: each step changes at most one word, and returns what it read.
 ghost use Rattle.std.specs.Prelude.{◌≡◌, ◌≢◌, ℕ, suc, ◌+◌, ◌<◌, ◌≤◌, [], ◌∷◌, MatchOption, IfSome};
 ghost use Rattle.ol_law_edges.specs.Edges.{IsIn};
 ghost use Rattle.ol_net.specs.Parts.{arity};

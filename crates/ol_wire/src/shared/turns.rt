@@ -1,4 +1,4 @@
-//! A turn: a claim, and what becomes of the pair that it finds.
+//! A turn: a claim, and what happens to the claimed pair.
 ghost use Rattle.std.specs.Prelude.{◌≡◌, ◌≢◌, ℕ, ◌+◌, ◌*◌, ◌<◌, ◌≤◌, [], ◌∷◌, ◌++◌, true, false, None, Some, MatchOption, IfSome, IfNone, IfOk, IfErr, ◌↔◌};
 ghost use Rattle.ol_law_edges.specs.Edges.{IsIn};
 ghost use Rattle.ol_net.specs.Parts.{arity};
@@ -28,7 +28,7 @@ use crate::shared::Shared;
 use crate::turn::Turn;
 
 impl Shared {
-    /// Claims a cell and rewrites the pair that stands there, if it has a rule and there is fuel.
+    /// Claims the pair of a cell and rewrites it, if it has a rule and the fuel isn't used up.
     pub fn turn(&self, seat: &mut Seat, cell: u32) -> Turn
         requires seat { IsSeatOf self.now seat.old }
         requires cell { cell < cells_of self.now.plan.parts }
