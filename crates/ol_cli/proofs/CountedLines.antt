@@ -2,11 +2,11 @@
 use Rattle.std.proofs.Common.{◌≡◌, ℕ, List, Option, String, Global, ◌⊎◌, inl, inr, sym, ap, ◌∙◌, subst}
 use Rattle.std.specs.Prelude.{[], ◌∷◌, length, true}
 use Rattle.ol_beta.specs.Leftmost.{IsNormal}
-use Rattle.ol_law_optimality.proofs.Labelling.{leftmost_is_labelled}
+use Rattle.ol_law_optimality.proofs.Labelling.{labelled, leftmost_is_labelled}
 use Rattle.ol_io.specs.Outside.{Appended}
 use Rattle.ol_law_optimality.specs.FirstHeads.{HasFirstHeads, HaveHeads}
-use Rattle.ol_law_optimality.proofs.AskedPrinted.{filled_has_heads, heads_found, labelled, no_shorter_reduction}
-use Rattle.ol_law_optimality.proofs.AskedReached.{no_longer_to, as_short_to}
+use Rattle.ol_law_optimality.proofs.FirstHeadsPrinted.{filled_has_heads, heads_found, no_shorter_reduction}
+use Rattle.ol_law_optimality.proofs.FirstHeadsReached.{no_longer_to, as_short_to}
 use Rattle.ol_law_optimality.proofs.Demanding.{is_no_longer, is_as_short}
 use Rattle.ol_law_optimality.proofs.Steps.{leftmost_families_are_families}
 use Rattle.ol_law_confluence.proofs.Lines.{holes_are_no_text}
@@ -37,7 +37,7 @@ use Rattle.ol_cli.proofs.DemandRuns.{is_start}
 use Rattle.ol_cli.proofs.NormalLines.{run_printed, demand_printed, file_of}
 use Rattle.ol_cli.proofs.OneAnswer.{file_names}
 use Rattle.ol_cli.specs.Demand.{Demands}
-use Rattle.ol_cli.specs.NormalForms.{PrintsCounts, CountsSay, NoneIsStuck, AreFewest, BetasAreFewest, AreFewestTo, BetasAreFewestTo}
+use Rattle.ol_cli.specs.NormalForms.{PrintsCounts, CountsSay, NoneIsStuck, AreFewest, BetasAreFewest, AreFewestForHeads, BetasAreFewestForHeads}
 use Rattle.ol_cli.specs.Run.{Prints}
 use Rattle.ol_cli.specs.Sources.{PrintsTree, DemandsTree, TellsTree, WritesTree}
 use Rattle.ol_cli.specs.Texts.{answer_text}
@@ -155,11 +155,11 @@ writes_fewest words bytes old new w translation fuel heads name j source is =
 -- ---- and for so many heads
 
 -- of a demand run of the source's own net, of which this line is printed
-fewest_to : (translation : Translation) (source : Named) (fuel heads : ℕ) (text : List ℕ) →
+fewest_for_heads : (translation : Translation) (source : Named) (fuel heads : ℕ) (text : List ℕ) →
     HasNames (number source) (length (names_of source)) →
     (d : DemandsTree translation (number source) (names_of source) fuel heads text) →
-    AreFewestTo heads source d.demands.term (times_applied rule.Beta d.demands.ends.journal)
-fewest_to translation source fuel heads text h d =
+    AreFewestForHeads heads source d.demands.term (times_applied rule.Beta d.demands.ends.journal)
+fewest_for_heads translation source fuel heads text h d =
     let names = names_of source in
     let N = translation_of translation (number source) (length names) in
     let is_net = translation_net translation (number source) (length names) h in
@@ -186,10 +186,10 @@ fewest_to translation source fuel heads text h d =
           (x.1, x.0, leftmost_families_are_families T x.1 x.0 x.2, x.3, x.4);
     }
 
-pub writes_fewest_to : (words : List (String Global)) (bytes : List ℕ) (old new : Option (List ℕ)) →
-    WritesTree words bytes old new → BetasAreFewestTo words bytes old new
+pub writes_fewest_for_heads : (words : List (String Global)) (bytes : List ℕ) (old new : Option (List ℕ)) →
+    WritesTree words bytes old new → BetasAreFewestForHeads words bytes old new
 unfolding demand_printed
-writes_fewest_to words bytes old new w translation fuel heads name j source is =
+writes_fewest_for_heads words bytes old new w translation fuel heads name j source is =
     let r = w (jobs.Demand translation fuel heads name) (number source) (names_of source) j (file_of is) in
-    demand_counts is old new r.2 r.1 (AreFewestTo heads source)
-    (fewest_to translation source fuel heads r.0 (has_names is) r.1)
+    demand_counts is old new r.2 r.1 (AreFewestForHeads heads source)
+    (fewest_for_heads translation source fuel heads r.0 (has_names is) r.1)

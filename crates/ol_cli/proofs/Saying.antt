@@ -20,7 +20,7 @@ use Rattle.ol_cli.proofs.SourceTrees.{writes_of_sources}
 use Rattle.ol_cli.proofs.NormalLines.{writes_normal_form, writes_no_normal_form}
 use Rattle.ol_cli.proofs.DemandedLines.{writes_demanded}
 use Rattle.ol_cli.proofs.ComparedLines.{writes_of_two}
-use Rattle.ol_cli.proofs.CountedLines.{writes_fewest, writes_fewest_to, writes_no_stuck}
+use Rattle.ol_cli.proofs.CountedLines.{writes_fewest, writes_fewest_for_heads, writes_no_stuck}
 use Rattle.ol_cli.proofs.PlainLines.{plain_demand, plain_equal, plain_fewest, plain_writes}
 
 module _ (words : List (String Global)) (f f' given : ℕ) (ended : Bool) (g g' : ℕ) (old new : Option (List ℕ))
@@ -61,7 +61,7 @@ module _ (words : List (String Global)) (f f' given : ℕ) (ended : Bool) (g g' 
     no_normal_form = λ bytes tells. writes_no_normal_form words bytes old new (tree is bytes tells);
     demanded = λ bytes tells. writes_demanded words bytes old new (tree is bytes tells);
     fewest = λ bytes tells. writes_fewest words bytes old new (tree is bytes tells);
-    fewest_heads = λ bytes tells. writes_fewest_to words bytes old new (tree is bytes tells);
+    fewest_heads = λ bytes tells. writes_fewest_for_heads words bytes old new (tree is bytes tells);
     no_stuck = λ bytes tells. writes_no_stuck words bytes old new (tree is bytes tells);
     two_terms = λ tells. writes_of_two words files old new (sources is tells);
     tree = tree is;

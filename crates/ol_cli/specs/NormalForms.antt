@@ -14,8 +14,8 @@ use Rattle.ol_law_meaning.specs.Shows.{BetaReduces}
 use Rattle.ol_law_optimality.specs.Labels.{Labelled, erased}
 use Rattle.ol_law_optimality.specs.Families.{HaveOwnLetters}
 use Rattle.ol_law_optimality.specs.Steps.{steps_of}
-use Rattle.ol_law_optimality.specs.FirstHeads.{HasFirstHeads, HaveHeads, CanShow, NoneHasFewerTo, OneHasAsManyTo}
-use Rattle.ol_law_optimality.specs.Reductions.{NoneHasFewer, OneHasAsMany}
+use Rattle.ol_law_optimality.specs.FirstHeads.{HasFirstHeads, HaveHeads, ReducesToHeads}
+use Rattle.ol_law_optimality.specs.Reductions.{NoFamilyReductionIsShorter, FamilyReductionOfLength}
 use Rattle.ol_readback.specs.Texts.{IsTextOf}
 use Rattle.ol_readback.specs.declared.answers.ReadNode.{ReadNode}
 use Rattle.ol_rules.specs.declared.journal.Counts.{Counts}
@@ -118,8 +118,8 @@ NoneIsStuck words bytes old new = (job : Job) → AskFor words job → PrintsCou
 -- of them than there are beta steps (Lévy). And if the line is a text of a term, one has just as many.
 abbrev pub AreFewest : Named → List ℕ → ℕ → Type 0
 AreFewest source line beta = (T : Labelled) → erased T ≡ by_names_of source source →
-    HaveOwnLetters T → NoneHasFewer T beta
-    × ((result : Named) → IsText line result → OneHasAsMany T beta)
+    HaveOwnLetters T → NoFamilyReductionIsShorter IsNormal T beta
+    × ((result : Named) → IsText line result → FamilyReductionOfLength IsNormal T beta)
 
 -- so it is with the beta steps of `demand`, whatever its options are
 abbrev pub BetasAreFewest : List (String Global) → List ℕ → Option (List ℕ) → Option (List ℕ) →
@@ -133,19 +133,20 @@ BetasAreFewest words bytes old new = (translation : Translation) (fuel heads : �
 -- whatever redexes in whatever order. The line is a text of these places. If the source reduces to a term that shows so
 -- many heads, each of the first so many places has one; and if each has one, a reduction by family steps has just as many
 -- steps as there are beta steps.
-pub record AreFewestTo (heads : ℕ) (source : Named) (line : List ℕ) (beta : ℕ) : Type 0 where
-  pub fewer : (T : Labelled) → erased T ≡ by_names_of source source → HaveOwnLetters T → NoneHasFewerTo heads T beta
+pub record AreFewestForHeads (heads : ℕ) (source : Named) (line : List ℕ) (beta : ℕ) : Type 0 where
+  pub fewer : (T : Labelled) → erased T ≡ by_names_of source source → HaveOwnLetters T →
+      NoFamilyReductionIsShorter (HasFirstHeads heads) T beta
   pub plain : (v : Tree) (r : BetaReduces (by_names_of source source) v) → HasFirstHeads heads v → beta ≤ steps_of r
   pub places : List ReadNode
   pub shown : IsTextOf (names_of source) places line
-  pub found : CanShow heads (by_names_of source source) → HaveHeads heads places
+  pub found : ReducesToHeads heads (by_names_of source source) → HaveHeads heads places
   pub as_many : HaveHeads heads places → (T : Labelled) → erased T ≡ by_names_of source source →
-      HaveOwnLetters T → OneHasAsManyTo heads T beta
+      HaveOwnLetters T → FamilyReductionOfLength (HasFirstHeads heads) T beta
 
-abbrev pub BetasAreFewestTo : List (String Global) → List ℕ → Option (List ℕ) → Option (List ℕ) → Type 0
-BetasAreFewestTo words bytes old new = (translation : Translation) (fuel heads : ℕ) (name : Text) →
+abbrev pub BetasAreFewestForHeads : List (String Global) → List ℕ → Option (List ℕ) → Option (List ℕ) → Type 0
+BetasAreFewestForHeads words bytes old new = (translation : Translation) (fuel heads : ℕ) (name : Text) →
     AskFor words (jobs.Demand translation fuel heads name) →
-    (source : Named) → IsText bytes source → CountsSay (AreFewestTo heads source) old new
+    (source : Named) → IsText bytes source → CountsSay (AreFewestForHeads heads source) old new
 
 -- ---- words without options
 

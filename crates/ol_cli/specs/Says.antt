@@ -8,7 +8,7 @@ use Rattle.ol_cli.specs.declared.status.Status.TheVariants as status
 use Rattle.ol_cli.specs.Jobs.{Files, TellsTerm, TellsFiles}
 use Rattle.ol_cli.specs.Answers.{IsAnswer}
 use Rattle.ol_cli.specs.NormalForms.{PlainLineSays, PlainDemandSays, PlainEqualSays, FirstLine, CountsSay}
-use Rattle.ol_cli.specs.NormalForms.{IsFoundWithin, AreFewest, BetasAreFewest, BetasAreFewestTo, NoneIsStuck}
+use Rattle.ol_cli.specs.NormalForms.{IsFoundWithin, AreFewest, BetasAreFewest, BetasAreFewestForHeads, NoneIsStuck}
 use Rattle.ol_cli.specs.NormalForms.{LineSays, IsItsNormalForm, TellsOfNone, IsFoundOnDemand, LineSaysOfTwo}
 use Rattle.ol_cli.specs.Sources.{EveryRunTells, WritesTree}
 use Rattle.ol_cli.specs.SourceLaws.{WritesOfSources}
@@ -47,7 +47,7 @@ pub record SaysWhenDone (words : List (String Global)) (files : Files) (old new 
   -- has fewer steps than the number behind `beta`, nor has one of the plain term. If the term reduces to
   -- such a one, each place that was asked is printed with a head; and if each is, one reduction by family
   -- steps has just as many.
-  pub fewest_heads : (bytes : List ℕ) → TellsTerm (files 0) words bytes → BetasAreFewestTo words bytes old new
+  pub fewest_heads : (bytes : List ℕ) → TellsTerm (files 0) words bytes → BetasAreFewestForHeads words bytes old new
   -- The tenth and last line that `run`, `demand` or `gen --run` writes is `stuck 0`. (No pair is ever
   -- stuck in a run from the net of a term: law `no_pair_is_stuck` of ol_law_levels.)
   pub no_stuck : (bytes : List ℕ) → TellsTerm (files 0) words bytes → NoneIsStuck words bytes old new

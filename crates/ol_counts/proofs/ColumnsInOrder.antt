@@ -44,7 +44,7 @@ use Rattle.ol_term.specs.declared.translations.Translation.{Translation}
 use Rattle.ol_translate.proofs.Whole.{translation_net}
 use Rattle.ol_translate.specs.Names.{HasNames}
 use Rattle.ol_translate.specs.Translation.{translation_of}
-use Rattle.ol_counts.specs.Columns.{Has, TableIsInOrder}
+use Rattle.ol_counts.specs.Columns.{HasSteps, TableIsInOrder}
 
 file_names : (bytes : List ℕ) (t : Tree) (names : List (List ℕ)) → IsFileOf bytes t names →
     HasNames t (length names)
@@ -189,17 +189,17 @@ table_is_in_order τ bytes t names g is of bounds columns them a = record {
         by_in (λ (c : Column). IsTally g (Some t) bounds c.way c.tally) them c i
         (recursion_from_All (λ (c : Column). IsTally g (Some t) bounds c.way c.tally) them a.tallies)
 
-    needed : (n : ℕ) → Has them Need n → need_count t bounds.moves ≡ Some n
+    needed : (n : ℕ) → HasSteps them Need n → need_count t bounds.moves ≡ Some n
     needed n x =
         need_is t bounds.moves n (need_count t bounds.moves)
         (sym x.3 ∙ subst (λ w. IsTally g (Some t) bounds w x.0.tally) x.2 (at x.0 x.1))
 
-    counted : (n : ℕ) → Has them Families n → Counted τ t names g h of bounds.moves n
+    counted : (n : ℕ) → HasSteps them Families n → Counted τ t names g h of bounds.moves n
     counted n x =
         counted_in τ t names g h of bounds.moves bounds.steps n x.0.tally
         (subst (λ w. IsTally g (Some t) bounds w x.0.tally) x.2 (at x.0 x.1)) x.3
 
-    second : (n m : ℕ) → Has them Need n → Has them Leftmost m → n ≤ m
+    second : (n m : ℕ) → HasSteps them Need n → HasSteps them Leftmost m → n ≤ m
     second n m u w =
         let x = subst (λ v. IsTally g (Some t) bounds v w.0.tally) w.2 (at w.0 w.1) in
         let o = need_is t bounds.steps m x.0 (sym w.3 ∙ x.2) in

@@ -10,7 +10,7 @@ use Rattle.ol_law_confluence.specs.Reductions.{Convertible, same, joined}
 use Rattle.ol_law_confluence.proofs.Substitutions.{ren, up, inst, point, inst_inst}
 use Rattle.ol_counts.specs.NeedRules.{Head, free, level, WeakForm, function, name, HeapCell, waits, taken, has, Evaluates, of_free}
 use Rattle.ol_counts.specs.NeedRules.{of_lam, first_use, later_use, beta, argument, head_at, Task, closure, spine}
-use Rattle.ol_counts.specs.NeedRules.{Normalizes, into_body, into_arguments, no_argument, one_argument, ComesTo}
+use Rattle.ol_counts.specs.NeedRules.{NormalisesByNeed, into_body, into_arguments, no_argument, one_argument, ReducesByNeed}
 use Rattle.ol_counts.proofs.Conversions.{convertible_lam, convertible_app, convertible_fun, convertible_is}
 use Rattle.ol_counts.proofs.Conversions.{convertible_beta, inst_like, inst_ren, ren_inst, inst_var, below_same}
 use Rattle.ol_counts.proofs.Conversions.{Neutral, Normal}
@@ -457,7 +457,7 @@ under_env U V sc d n c η h f g e (suc y) =
     sym (env_deeper U sc d n d η h (omega arith) f y)
     ∙ sym (env_same (U (suc d)) (V (suc d)) sc d n η h (λ c l. g c (suc d) l) y)
 
-pub normalizes_sound : {d k : ℕ} {Γ Δ : List HeapCell} {x : Task} {v : Tree} → Normalizes d Γ x Δ v k →
+pub normalizes_sound : {d k : ℕ} {Γ Δ : List HeapCell} {x : Task} {v : Tree} → NormalisesByNeed d Γ x Δ v k →
     (n : ℕ) (sc : ℕ → ℕ) (U : ℕ → ℕ → Tree) → Models n Γ sc U → ScopedTask sc d n x →
     Normalized d n sc U x Δ v
 normalizes_sound (into_body {d = d} {Δ = Δ} {η = η} {u = u} r q) n sc U m h =
@@ -558,7 +558,7 @@ no_cells = record {
   means = λ c x e. absurd (cc);
 }
 
-pub comes_to_form : (t v : Tree) (n : ℕ) → is_below 0 t ≡ true → ComesTo t v n →
+pub comes_to_form : (t v : Tree) (n : ℕ) → is_below 0 t ≡ true → ReducesByNeed t v n →
     Convertible t v × Normal v
 comes_to_form t v n b r =
     let x = normalizes_sound r.1 0 (λ c. 0) (λ d c. trees.free 0) no_cells tt in (

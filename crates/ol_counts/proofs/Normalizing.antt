@@ -8,8 +8,8 @@ use Rattle.ol_counts.proofs.Moves.{ended_stays}
 use Rattle.ol_term.specs.Trees.{Tree, is_below}
 use Rattle.ol_term.specs.Trees as trees
 use Rattle.ol_counts.specs.NeedRules.{Head, level, WeakForm, function, name, HeapCell, has, Evaluates}
-use Rattle.ol_counts.specs.NeedRules.{head_at, Task, closure, spine, Normalizes, into_body, into_arguments}
-use Rattle.ol_counts.specs.NeedRules.{no_argument, one_argument, ComesTo}
+use Rattle.ol_counts.specs.NeedRules.{head_at, Task, closure, spine, NormalisesByNeed, into_body, into_arguments}
+use Rattle.ol_counts.specs.NeedRules.{no_argument, one_argument, ReducesByNeed}
 use Rattle.ol_law_optimality.proofs.Labelling.{each_term_has_letters}
 use Rattle.ol_law_optimality.specs.Labels.{Labelled}
 use Rattle.ol_counts.proofs.Ending.{begins}
@@ -70,7 +70,7 @@ module _ (T : Labelled) (s : ℕ) where
     pub heap : List HeapCell
     pub term : Tree
     pub count : ℕ
-    pub rule : Normalizes d Γ x heap term count
+    pub rule : NormalisesByNeed d Γ x heap term count
     pub size : ℕ
     pub grows : n ≤ size
     pub cells : List machine.Cell
@@ -270,7 +270,7 @@ after_ended (suc n) m e = ap next (after_ended n m e) ∙ ended_stays m e
 
 -- so a count of the machine is one by the rules
 pub by_rules : (t : Tree) → is_below 0 t ≡ true → (moves n : ℕ) → need_count t moves ≡ Some n →
-    (v : Tree) × ComesTo t v n
+    (v : Tree) × ReducesByNeed t v n
 by_rules t b moves n e =
     let l = each_term_has_letters t in
     let begun_is = subst (λ t. State l.0 (begun t)) l.1 (begins l.0 (ap (is_below 0) l.1 ∙ b)) in
@@ -279,4 +279,4 @@ by_rules t b moves n e =
     let f = subst (λ m. steps_if_ended m ≡ Some n) (after_ended x.rest m refl) x.ends.0 in
     let k : 0 + x.count ≡ n = (ended_if m n f).1 in
     let i : x.count ≡ n = omega (arith, k) in
-    (x.term, (x.heap, subst (λ n. Normalizes 0 [] (closure t []) x.heap x.term n) i x.rule))
+    (x.term, (x.heap, subst (λ n. NormalisesByNeed 0 [] (closure t []) x.heap x.term n) i x.rule))

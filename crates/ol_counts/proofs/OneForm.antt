@@ -4,8 +4,8 @@ use Rattle.std.proofs.lemmas.Option.{same_Some}
 use Rattle.ol_term.specs.Trees.{Tree}
 use Rattle.ol_term.specs.Trees as trees
 use Rattle.ol_counts.specs.NeedRules.{Head, level, WeakForm, function, name, HeapCell, waits, taken, has, Evaluates, of_free}
-use Rattle.ol_counts.specs.NeedRules.{of_lam, first_use, later_use, beta, argument, Task, closure, spine, Normalizes}
-use Rattle.ol_counts.specs.NeedRules.{into_body, into_arguments, no_argument, one_argument, ComesTo}
+use Rattle.ol_counts.specs.NeedRules.{of_lam, first_use, later_use, beta, argument, Task, closure, spine, NormalisesByNeed}
+use Rattle.ol_counts.specs.NeedRules.{into_body, into_arguments, no_argument, one_argument, ReducesByNeed}
 
 pub record SameEnd (Δ Θ : List HeapCell) (v w : WeakForm) (m n : ℕ) : Type 0 where
   pub heap : Δ ≡ Θ
@@ -73,7 +73,7 @@ pub record SameForm (Δ Θ : List HeapCell) (v w : Tree) (m n : ℕ) : Type 0 wh
   pub count : m ≡ n
 
 pub one_form : {d : ℕ} {Γ Δ Θ : List HeapCell} {x : Task} {v w : Tree} {m n : ℕ} →
-    Normalizes d Γ x Δ v m → Normalizes d Γ x Θ w n → SameForm Δ Θ v w m n
+    NormalisesByNeed d Γ x Δ v m → NormalisesByNeed d Γ x Θ w n → SameForm Δ Θ v w m n
 one_form {d} (into_body {Δ = Δ} {η = η} {u = u} r q) (into_body {n = n} {Δ = Δ'} {Θ = Θ} {η = η'} {u = u'} {v = w} s p) =
     let x = one_evaluation r s in
     let g = x.value in
@@ -81,9 +81,9 @@ one_form {d} (into_body {Δ = Δ} {η = η} {u = u} r q) (into_body {n = n} {Δ 
     let b : η' ≡ η = cc in
     let y =
     one_form q
-    (subst (λ Δ. Normalizes (suc d) (Δ ++ has (name (level d) []) ∷ []) (closure u (length Δ ∷ η)) Θ w n) (sym x.heap)
-    (subst (λ u. Normalizes (suc d) (Δ' ++ has (name (level d) []) ∷ []) (closure u (length Δ' ∷ η)) Θ w n) a
-    (subst (λ η. Normalizes (suc d) (Δ' ++ has (name (level d) []) ∷ []) (closure u' (length Δ' ∷ η)) Θ w n) b p))) in
+    (subst (λ Δ. NormalisesByNeed (suc d) (Δ ++ has (name (level d) []) ∷ []) (closure u (length Δ ∷ η)) Θ w n) (sym x.heap)
+    (subst (λ u. NormalisesByNeed (suc d) (Δ' ++ has (name (level d) []) ∷ []) (closure u (length Δ' ∷ η)) Θ w n) a
+    (subst (λ η. NormalisesByNeed (suc d) (Δ' ++ has (name (level d) []) ∷ []) (closure u' (length Δ' ∷ η)) Θ w n) b p))) in
     record { heap = y.heap; form = ap trees.lam y.form; count = λ i. x.count i + y.count i }
 one_form (into_body r q) (into_arguments s p) = absurd (two_values (one_evaluation r s).value)
 one_form (into_arguments r q) (into_body s p) = absurd (two_values (sym (one_evaluation r s).value))
@@ -94,21 +94,21 @@ one_form {d} (into_arguments {Δ = Δ} {cs = cs} {h = h} r q) (into_arguments {n
     let b : cs' ≡ cs = cc in
     let y =
     one_form q
-    (subst (λ Δ. Normalizes d Δ (spine h cs) Θ w n) (sym x.heap)
-    (subst (λ h. Normalizes d Δ' (spine h cs) Θ w n) a
-    (subst (λ cs. Normalizes d Δ' (spine h' cs) Θ w n) b p))) in
+    (subst (λ Δ. NormalisesByNeed d Δ (spine h cs) Θ w n) (sym x.heap)
+    (subst (λ h. NormalisesByNeed d Δ' (spine h cs) Θ w n) a
+    (subst (λ cs. NormalisesByNeed d Δ' (spine h' cs) Θ w n) b p))) in
     record { heap = y.heap; form = y.form; count = λ i. x.count i + y.count i }
 one_form no_argument no_argument = record { heap = refl; form = refl; count = refl }
 one_form {d} (one_argument {c = c} q r) (one_argument {n = n} {Θ = Θ} {w = w} p s) =
     let x = one_form q p in
     let y =
     one_form r
-    (subst (λ Δ. Normalizes d Δ (closure (trees.var 0) (c ∷ [])) Θ w n) (sym x.heap) s) in
+    (subst (λ Δ. NormalisesByNeed d Δ (closure (trees.var 0) (c ∷ [])) Θ w n) (sym x.heap) s) in
     record {
       heap = y.heap;
       form = λ i. trees.app (x.form i) (y.form i);
       count = λ i. x.count i + y.count i;
     }
 
-pub comes_to_one : (t v w : Tree) (m n : ℕ) → ComesTo t v m → ComesTo t w n → (v ≡ w) × (m ≡ n)
+pub comes_to_one : (t v w : Tree) (m n : ℕ) → ReducesByNeed t v m → ReducesByNeed t w n → (v ≡ w) × (m ≡ n)
 comes_to_one t v w m n r s = let x = one_form r.1 s.1 in (x.form, x.count)

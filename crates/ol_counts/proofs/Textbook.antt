@@ -8,7 +8,7 @@ use Rattle.ol_law_confluence.proofs.Meetings.{convertible_leads, normal_one}
 use Rattle.ol_law_meaning.specs.Shows.{BetaReduces, ready}
 use Rattle.ol_counts.specs.NeedLaws.{MachineIsByRules, RulesAreFollowed, RulesGiveTheNormalForm, RulesFindTheNormalForm}
 use Rattle.ol_counts.specs.NeedLaws.{RulesAreNoMoreThanLeftmost, DemandIsNoMoreThanRules}
-use Rattle.ol_counts.specs.NeedRules.{ComesTo}
+use Rattle.ol_counts.specs.NeedRules.{ReducesByNeed}
 use Rattle.ol_counts.proofs.Conversions.{is_normal}
 use Rattle.ol_counts.proofs.Ending.{demand_is_no_more_than_need}
 use Rattle.ol_counts.proofs.Found.{need_finds_the_normal_form, need_is_no_more_than_leftmost}
@@ -16,7 +16,7 @@ use Rattle.ol_counts.proofs.Meanings.{comes_to_form}
 use Rattle.ol_counts.proofs.Normalizing.{by_rules}
 use Rattle.ol_counts.proofs.OneForm.{comes_to_one}
 
-form_of : (t v : Tree) (n : ℕ) → is_below 0 t ≡ true → ComesTo t v n → BetaReduces t v × IsNormal v
+form_of : (t v : Tree) (n : ℕ) → is_below 0 t ≡ true → ReducesByNeed t v n → BetaReduces t v × IsNormal v
 form_of t v n b r =
     let x = comes_to_form t v n b r in
     let k = is_normal v x.1 in
@@ -41,14 +41,14 @@ rules_find_the_normal_form t v b r k =
     let m = need_finds_the_normal_form t v b r k in
     let y = by_rules t b m.0 m.1 m.2 in
     let x = form_of t y.0 m.1 b y.1 in
-    (m.1, subst (λ v. ComesTo t v m.1) (normal_one x.0 r x.1 k) y.1)
+    (m.1, subst (λ v. ReducesByNeed t v m.1) (normal_one x.0 r x.1 k) y.1)
 
 pub rules_are_no_more_than_leftmost : RulesAreNoMoreThanLeftmost
 rules_are_no_more_than_leftmost t v w n b c r k =
     let m = rules_are_followed t w n b c in
     need_is_no_more_than_leftmost t v b r k m.0 n m.1
 
-pub demand_is_no_more_than_rules : DemandIsNoMoreThanRules
-demand_is_no_more_than_rules τ t names h v n c g k same heads turns journal places M a r =
+pub call_by_need_by_rules : DemandIsNoMoreThanRules
+call_by_need_by_rules τ t names h v n c g k same heads turns journal places M a r =
     let m = rules_are_followed t v n h.bound c in
     demand_is_no_more_than_need τ t names h m.0 n m.1 g k same heads turns journal places M a r

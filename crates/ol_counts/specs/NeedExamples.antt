@@ -3,7 +3,7 @@ use Rattle.std.specs.Prelude.{◌≡◌, Some}
 use Rattle.ol_counts.specs.Machines.{need_count}
 use Rattle.ol_term.specs.Trees.{Tree, var, free, lam, app}
 use Rattle.ol_law_meaning.specs.Examples.{identity}
-use Rattle.ol_counts.specs.NeedRules.{ComesTo}
+use Rattle.ol_counts.specs.NeedRules.{ReducesByNeed}
 
 -- (\x. x x) ((\y. y) (\y. y)): leftmost reduction reduces the argument twice, in 4 steps
 abbrev pub shared : Tree
@@ -19,4 +19,4 @@ abbrev pub SmallCounts : Type 0
 SmallCounts = (need_count shared 100 ≡ Some 3) × (need_count inner_twice 100 ≡ Some 7)
 
 abbrev pub SmallForms : Type 0
-SmallForms = ComesTo shared identity 3 × ComesTo inner_twice (app (free 0) (free 1)) 7
+SmallForms = ReducesByNeed shared identity 3 × ReducesByNeed inner_twice (app (free 0) (free 1)) 7

@@ -21,7 +21,7 @@ use Rattle.ol_term.specs.declared.translations.Translation.{Translation}
 use Rattle.ol_translate.specs.Names.{HasNames}
 use Rattle.ol_translate.specs.Translation.{translation_of}
 use Rattle.ol_law_optimality.specs.Reductions.{FamilyReduces}
-use Rattle.ol_counts.specs.NeedRules.{ComesTo}
+use Rattle.ol_counts.specs.NeedRules.{ReducesByNeed}
 
 -- Whatever the labels of a term are, each beta step of the machine is a family step: where it ends
 -- after n of them, n family steps lead to a normal form.
@@ -100,32 +100,32 @@ NeedFindsAHead = (t v : Tree) → is_below 0 t ≡ true → BetaReduces t v → 
 -- What the machine counts is by the rules,
 abbrev pub MachineIsByRules : Type 0
 MachineIsByRules = (t : Tree) → is_below 0 t ≡ true →
-    (moves n : ℕ) → need_count t moves ≡ Some n → (v : Tree) × ComesTo t v n
+    (moves n : ℕ) → need_count t moves ≡ Some n → (v : Tree) × ReducesByNeed t v n
 
 -- and what is by the rules the machine counts.
 abbrev pub RulesAreFollowed : Type 0
-RulesAreFollowed = (t v : Tree) (n : ℕ) → is_below 0 t ≡ true → ComesTo t v n →
+RulesAreFollowed = (t v : Tree) (n : ℕ) → is_below 0 t ≡ true → ReducesByNeed t v n →
     (moves : ℕ) × (need_count t moves ≡ Some n)
 
 -- By the rules a term comes to its normal form,
 abbrev pub RulesGiveTheNormalForm : Type 0
-RulesGiveTheNormalForm = (t v : Tree) (n : ℕ) → is_below 0 t ≡ true → ComesTo t v n →
+RulesGiveTheNormalForm = (t v : Tree) (n : ℕ) → is_below 0 t ≡ true → ReducesByNeed t v n →
     BetaReduces t v × IsNormal v × ((u : Tree) → BetaReduces t u → IsNormal u → u ≡ v)
 
 -- where it has one,
 abbrev pub RulesFindTheNormalForm : Type 0
 RulesFindTheNormalForm = (t v : Tree) → is_below 0 t ≡ true → BetaReduces t v → IsNormal v →
-    (n : ℕ) × ComesTo t v n
+    (n : ℕ) × ReducesByNeed t v n
 
 -- by no more beta steps than leftmost reduction,
 abbrev pub RulesAreNoMoreThanLeftmost : Type 0
-RulesAreNoMoreThanLeftmost = (t v w : Tree) (n : ℕ) → is_below 0 t ≡ true → ComesTo t w n →
+RulesAreNoMoreThanLeftmost = (t v w : Tree) (n : ℕ) → is_below 0 t ≡ true → ReducesByNeed t w n →
     (r : LeftmostReduces t v) → IsNormal v → n ≤ steps_of r
 
 -- and by no fewer than a demand run of the term's net makes.
 abbrev pub DemandIsNoMoreThanRules : Type 0
 DemandIsNoMoreThanRules = (τ : Translation) (t : Tree) (names : ℕ) → HasNames t names →
-    (v : Tree) (n : ℕ) → ComesTo t v n →
+    (v : Tree) (n : ℕ) → ReducesByNeed t v n →
     (g : Graph) → IsNet (net_of g) → SameNet (net_of g) (translation_of τ t names) →
     (heads turns : ℕ) (journal : List Entry) (places : List ReadNode) (M : NamedNet NodeName)
     (a : Asking) → Turns (start_of g) heads turns journal places M a →

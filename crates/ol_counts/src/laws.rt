@@ -57,7 +57,7 @@ pub fn machine_follows_the_rules()
 /// By the rules of call-by-need a term comes to its normal form, and where it has one. That takes no
 /// more beta steps than leftmost reduction, and no fewer than any demand run of the term's net makes,
 /// by either translation, for whatever number of heads, and also where it is stopped on the way.
-pub fn demand_is_no_more_than_rules()
+pub fn call_by_need_by_rules()
     ensures form { RulesGiveTheNormalForm }
     ensures found { RulesFindTheNormalForm }
     ensures leftmost { RulesAreNoMoreThanLeftmost }

@@ -32,9 +32,8 @@ mod ways;
 
 pub use counting::counted;
 pub use laws::{
-    count_is_one, demand_is_no_more_than_need, demand_is_no_more_than_rules,
-    machine_follows_the_rules, need_finds_the_normal_form, small_terms, table_is_in_order,
-    tables_agree,
+    call_by_need_by_rules, count_is_one, demand_is_no_more_than_need, machine_follows_the_rules,
+    need_finds_the_normal_form, small_terms, table_is_in_order, tables_agree,
 };
 pub use need::steps_by_need;
 pub use ordered::steps_to_end;

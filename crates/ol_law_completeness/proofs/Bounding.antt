@@ -18,14 +18,14 @@ use Rattle.ol_term.specs.declared.translations.Translation.{Translation}
 use Rattle.ol_translate.proofs.Whole.{translation_net}
 use Rattle.ol_translate.specs.Names.{HasNames}
 use Rattle.ol_translate.specs.Translation.{subnet_of, wire_of, nodes_of, translation_of}
-use Rattle.ol_law_completeness.specs.StrongTerms.{StrongIsBounded}
+use Rattle.ol_law_completeness.specs.StrongNormalisation.{StronglyNormalisingIsBounded}
 use Rattle.ol_law_completeness.proofs.Crossings.{Till, and_then, moved, sooner, at_free, fewer}
 use Rattle.ol_law_completeness.proofs.Falling.{Stand, room}
 use Rattle.ol_law_completeness.proofs.Jumps.{Jump, Ends, ends, Bounded, more, reached_occurs}
 use Rattle.ol_law_completeness.proofs.Nodes.{From, stands, last, begins, holds_at}
 use Rattle.ol_law_completeness.proofs.Onward.{Next, jumps, leaves, out, Result, onward}
 use Rattle.ol_law_completeness.proofs.Rules.{walks_bounded}
-use Rattle.ol_law_completeness.proofs.Strong.{strong_by_rules}
+use Rattle.ol_law_completeness.proofs.Strong.{strongly_normalising_by_rules}
 
 -- crossings for so many jumps, by those for one
 bound_of : ℕ → ℕ → ℕ
@@ -93,7 +93,7 @@ module _ (τ : Translation) (t : Tree) (names : ℕ) (h : HasNames t names) wher
         Way N (nets.slot x 0) c m q d → m ≤ room t + suc (bound_of (room t) w.number)
     walks x k i m c d q hn way = fewer (from_node x k i c hn) way
 
-pub strong_is_bounded : StrongIsBounded
+pub strong_is_bounded : StronglyNormalisingIsBounded
 strong_is_bounded τ t names h s =
-    let w = walks_bounded τ t ((strong_by_rules t).0 s) in
+    let w = walks_bounded τ t ((strongly_normalising_by_rules t).0 s) in
     (room t + suc (bound_of (room t) w.number), walks τ t names h w)

@@ -1,6 +1,6 @@
 -- If a run of a term's net ends, the term is strongly normalising: its redexes, those that come later too,
 -- are virtual redexes of its net, so their degrees are bounded.
--- For `only_strong_ends`.
+-- For `only_strongly_normalising_ends`.
 use Rattle.std.proofs.Common.{◌≡◌, ℕ, suc, ◌+◌, ◌*◌, ◌≤◌, List, [], ◌∷◌, length, Bool, false}
 use Rattle.std.proofs.Common.{Option, Some, ◌⊎◌, inl, inr, refl, sym, ap, subst, arith}
 use Rattle.ol_context.proofs.Contexts.{eta}
@@ -10,19 +10,19 @@ use Rattle.ol_law_confluence.specs.Reductions.{WeakStep, weak_beta, weak_before}
 use Rattle.ol_law_edges.proofs.Lists.{in_map}
 use Rattle.ol_law_edges.specs.Edges.{IsIn}
 use Rattle.ol_diamond.proofs.OneThreadLeads.{one_thread_run}
-use Rattle.ol_law_completeness.proofs.Strong.{strong_by_rules}
+use Rattle.ol_law_completeness.proofs.Strong.{strongly_normalising_by_rules}
 use Rattle.ol_law_completeness.proofs.Bounding.{strong_is_bounded}
 use Rattle.ol_law_completeness.proofs.Renaming.{weighs_same, weighs_under}
 use Rattle.ol_law_completeness.proofs.Running.{bounded_is_light, short_of}
 use Rattle.ol_law_completeness.specs.Weights.{weight}
-use Rattle.ol_law_completeness.specs.StrongTerms.{argument, Normalises, IsStronglyNormalising}
+use Rattle.ol_law_completeness.specs.StrongNormalisation.{argument, Normalises, IsStronglyNormalising}
 use Rattle.ol_law_levels.proofs.Runs.{same_levelled, start_levelled}
 use Rattle.ol_law_levels.proofs.Terms.{term_is_levelled}
 use Rattle.ol_law_levels.specs.Levels.{IsLevelled}
 use Rattle.ol_net.specs.Numbered.{numbered_port}
 use Rattle.ol_rules.proofs.LeadRuns.{as_run}
 use Rattle.ol_rules.proofs.Relation.{same_sym}
-use Rattle.ol_law_completeness.specs.StrongTerms as rules
+use Rattle.ol_law_completeness.specs.StrongNormalisation as rules
 use Rattle.ol_law_optimality.specs.Reductions.{reduct}
 use Rattle.ol_law_optimality.proofs.Erasing.{labels_erase}
 use Rattle.ol_law_optimality.proofs.Runs.{betas_are_routes}
@@ -56,7 +56,7 @@ use Rattle.ol_law_completeness.proofs.Degrees.{of_app, plain, of_lam, of_redex, 
 use Rattle.ol_law_completeness.proofs.First.{unlabelled, erased_unlabelled, port_of, H, L, first}
 use Rattle.ol_law_completeness.proofs.Links.{Goes, goes_at, goes_to, goes_row, goes_carries, Link, single}
 use Rattle.ol_law_completeness.proofs.Traces.{Env, AtEnd, Starts, own, Trace, steps}
-use Rattle.ol_law_completeness.specs.EndsExactly.{OnlyStrongEnds, OneThreadEndsExactly, EveryRunEndsExactly, AllWithin}
+use Rattle.ol_law_completeness.specs.EndsExactly.{OnlyStronglyNormalisingEnds, OneThreadEndsExactly, EveryRunEndsExactly, RunsAreWithin}
 
 -- ---- a step without its labels
 
@@ -210,7 +210,7 @@ module _ (τ : Translation) (t : Tree) (names : ℕ) (h : HasNames t names) (K :
   strong_if_short : (b : ℕ) → AreShort (net_under Init K) b → IsStronglyNormalising t
   strong_if_short b short =
       let r = built S net b short (all_norm (suc b) (unlabelled t)) env whole traced in
-      (strong_by_rules t).1 (subst (λ t. Normalises false t) (erased_unlabelled t) r)
+      (strongly_normalising_by_rules t).1 (subst (λ t. Normalises false t) (erased_unlabelled t) r)
 
   pub strong_if_ended : (journal : List Entry) (M : NamedNet NodeName) → IsRun (net_under Init K) 0 journal M →
       IsComplete M → IsStronglyNormalising t
@@ -224,7 +224,7 @@ module _ (τ : Translation) (t : Tree) (names : ℕ) (h : HasNames t names) (K :
   one_thread : (fuel : ℕ) → (journal : List Entry) × (M : NamedNet NodeName) × IsOneThread (net_under Init K) fuel journal M
   one_thread fuel = one_thread_run S fuel net (start_named K)
 
-  pub ended_within : (b : ℕ) → AllWithin K b →
+  pub ended_within : (b : ℕ) → RunsAreWithin K b →
       (fuel : ℕ) × (journal : List Entry) × (M : NamedNet NodeName) × IsOneThread (net_under Init K) fuel journal M × IsComplete M
   ended_within b r =
       let o = one_thread (suc b) in
@@ -235,7 +235,7 @@ module _ (τ : Translation) (t : Tree) (names : ℕ) (h : HasNames t names) (K :
       by es M (inr e) h = absurd (omega (arith, e, h))
 
   -- a strongly normalising term's runs are within a number
-  pub all_within : IsStronglyNormalising t → (b : ℕ) × AllWithin K b
+  pub all_within : IsStronglyNormalising t → (b : ℕ) × RunsAreWithin K b
   all_within s =
       let b = strong_is_bounded τ t names h s in
       let N = translation_of τ t names in
@@ -243,8 +243,8 @@ module _ (τ : Translation) (t : Tree) (names : ℕ) (h : HasNames t names) (K :
       let w = weighs_under Init K m (weighs_same N K same m (bounded_is_light N b.0 (translation_net τ t names h) b.1)) in
       (m, λ journal M run. short_of (net_under Init K) M m net 0 journal (start_named K) w run)
 
-pub only_strong_ends : OnlyStrongEnds
-only_strong_ends τ t names h K n same journal M run done = strong_if_ended τ t names h K n same journal M run done
+pub only_strongly_normalising_ends : OnlyStronglyNormalisingEnds
+only_strongly_normalising_ends τ t names h K n same journal M run done = strong_if_ended τ t names h K n same journal M run done
 
 pub one_thread_ends : OneThreadEndsExactly
 one_thread_ends τ t names h K n same = (

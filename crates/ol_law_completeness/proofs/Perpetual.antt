@@ -16,8 +16,8 @@ use Rattle.ol_law_confluence.proofs.Substitutions.{inst, up, point, subst_inst, 
 use Rattle.ol_law_meaning.specs.Shows.{ready, contract, BetaReduces}
 use Rattle.ol_law_meaning.proofs.Filling.{fun_beta}
 use Rattle.ol_term.specs.Trees.{Tree, var, free, lam, app}
-use Rattle.ol_law_completeness.specs.StrongTerms.{IsStronglyNormalising, where_all, argument, Normalises}
-use Rattle.ol_law_completeness.specs.StrongTerms as rules
+use Rattle.ol_law_completeness.specs.StrongNormalisation.{IsStronglyNormalising, where_all, argument, Normalises}
+use Rattle.ol_law_completeness.specs.StrongNormalisation as rules
 
 -- ---- a beta step, by where it is made (up to `beta_of` as in `ol_law_confluence`, Contractions)
 

@@ -13,7 +13,7 @@ use Rattle.ol_law_meaning.specs.Sites.{Site, spot_in}
 use Rattle.ol_law_meaning.specs.Spots.{bound, root, wire, Spot, at, body, fun, arg}
 use Rattle.ol_term.specs.Trees.{Tree, lam, app}
 use Rattle.ol_term.specs.declared.translations.Translation.{Translation}
-use Rattle.ol_law_completeness.specs.StrongTerms.{argument}
+use Rattle.ol_law_completeness.specs.StrongNormalisation.{argument}
 use Rattle.ol_law_completeness.proofs.Jumps.{Reached, reached_one, Jump, to_body, to_var, to_fun, to_arg, from_body}
 use Rattle.ol_law_completeness.proofs.Jumps.{from_var, from_fun, from_arg, in_body, in_fun, in_arg, Ends, ends}
 use Rattle.ol_law_completeness.proofs.Jumps.{Bounded, more, stuck, at_root, goes_on, out_of_arg, out_of_fun}

@@ -1,5 +1,5 @@
 -- A net that has a weight has no ring of principal ports.
--- For `light_has_no_ring` and `strong_ends`.
+-- For `light_has_no_ring` and `strongly_normalising_ends`.
 use Rattle.std.proofs.Common.{◌≡◌, ℕ, suc, List, refl, sym, ◌∙◌, subst, arith}
 use Rattle.ol_law_levels.specs.Rings.{Descends, first, next}
 use Rattle.ol_law_levels.specs.Unblocked.{Change}
@@ -13,7 +13,7 @@ use Rattle.ol_rules.specs.declared.journal.NodeName.TheVariants.{Init}
 use Rattle.ol_translate.proofs.Whole.{translation_net}
 use Rattle.ol_translate.specs.Translation.{translation_of}
 use Rattle.ol_law_completeness.specs.BoundedRuns.{LightHasNoRing}
-use Rattle.ol_law_completeness.specs.StrongTerms.{StrongHasNoRing}
+use Rattle.ol_law_completeness.specs.StrongNormalisation.{StronglyNormalisingHasNoRing}
 use Rattle.ol_law_completeness.specs.Walks.{ComesDown, leaves, rises, comes}
 use Rattle.ol_law_completeness.specs.Weights.{WeighsAtMost}
 use Rattle.ol_law_completeness.proofs.Bounding.{strong_is_bounded}
@@ -86,7 +86,7 @@ module _ {A : Type 0} (N : NamedNet A) (net : IsNet N) (p : NamedPort A) (ring :
 pub light_has_no_ring : {A : Type 0} → LightHasNoRing A
 light_has_no_ring N m net w p ring = none N net p ring m w
 
-pub strong_has_no_ring : StrongHasNoRing
+pub strong_has_no_ring : StronglyNormalisingHasNoRing
 strong_has_no_ring τ t names h strong g n same journal M run =
     let N = translation_of τ t names in
     let b = strong_is_bounded τ t names h strong in

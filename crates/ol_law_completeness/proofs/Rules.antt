@@ -5,7 +5,7 @@ use Rattle.ol_context.specs.Contexts.{Level, o, star, Context}
 use Rattle.ol_law_meaning.specs.Spots.{root, wire, Spot, at, body, fun, arg}
 use Rattle.ol_term.specs.Trees.{Tree, var, free, lam, app}
 use Rattle.ol_term.specs.declared.translations.Translation.{Translation}
-use Rattle.ol_law_completeness.specs.StrongTerms.{Normalises, of_var, of_free, of_app, plain, of_lam, of_redex}
+use Rattle.ol_law_completeness.specs.StrongNormalisation.{Normalises, of_var, of_free, of_app, plain, of_lam, of_redex}
 use Rattle.ol_law_completeness.proofs.Jumps.{Jump, to_body, to_var, to_fun, in_fun, Ends, ends, Bounded, more, stuck}
 use Rattle.ol_law_completeness.proofs.Jumps.{at_node, at_root, out_of_body, out_of_fun, out_of_arg}
 use Rattle.ol_law_completeness.proofs.Redexes.{stepped}

@@ -1,13 +1,13 @@
 -- Strongly normalising terms are normalised by the rules, and no others.
--- For `strong_by_rules`.
+-- For `strongly_normalising_by_rules`.
 use Rattle.std.proofs.Common.{◌≡◌, ℕ, true, false, List, [], ◌∷◌, Some, refl, ap}
 use Rattle.std.specs.Option.{option_map}
 use Rattle.ol_beta.specs.Beta.{contracted}
 use Rattle.ol_term.specs.Trees.{Tree, var, free, lam, app}
 use Rattle.ol_law_confluence.specs.Reductions.{WeakStep, weak_beta, weak_before}
-use Rattle.ol_law_completeness.specs.StrongTerms.{IsStronglyNormalising, where_all, argument}
-use Rattle.ol_law_completeness.specs.StrongTerms.{Normalises, of_var, of_free, of_app, plain, of_lam, of_redex}
-use Rattle.ol_law_completeness.specs.StrongTerms.{StrongByRules}
+use Rattle.ol_law_completeness.specs.StrongNormalisation.{IsStronglyNormalising, where_all, argument}
+use Rattle.ol_law_completeness.specs.StrongNormalisation.{Normalises, of_var, of_free, of_app, plain, of_lam, of_redex}
+use Rattle.ol_law_completeness.specs.StrongNormalisation.{StronglyNormalisingByRules}
 use Rattle.ol_law_completeness.proofs.Perpetual.{Plain, plain_var, plain_free, plain_app, strong_of}
 
 -- u is a part of t, one constructor below
@@ -126,5 +126,5 @@ rules_of : {t : Tree} → Deep t → Rules t
 rules_of {t = t} (deep r p) =
     all_of t (λ at u e. rules_of (r at u e)) (λ u h. rules_of (p u h))
 
-pub strong_by_rules : StrongByRules
-strong_by_rules t = (λ h. (rules_of (deep_of h)).whole, λ h. strong_of h)
+pub strongly_normalising_by_rules : StronglyNormalisingByRules
+strongly_normalising_by_rules t = (λ h. (rules_of (deep_of h)).whole, λ h. strong_of h)

@@ -10,12 +10,12 @@ use Rattle.ol_term.specs.Trees.{Tree}
 use Rattle.ol_term.specs.declared.translations.Translation.{Translation}
 use Rattle.ol_translate.specs.Names.{HasNames}
 use Rattle.ol_translate.specs.Translation.{translation_of}
-use Rattle.ol_law_completeness.specs.StrongTerms.{IsStronglyNormalising}
+use Rattle.ol_law_completeness.specs.StrongNormalisation.{IsStronglyNormalising}
 
 -- A run of the net of a term, however that is listed, of whichever pairs and in whatever order, comes
 -- to a net without an active pair only if each row of beta steps of the term ends.
-abbrev pub OnlyStrongEnds : Type 0
-OnlyStrongEnds = (τ : Translation) (t : Tree) (names : ℕ) → HasNames t names →
+abbrev pub OnlyStronglyNormalisingEnds : Type 0
+OnlyStronglyNormalisingEnds = (τ : Translation) (t : Tree) (names : ℕ) → HasNames t names →
     (K : NamedNet ℕ) → IsNet K → SameNet K (translation_of τ t names) →
     (journal : List Entry) (M : NamedNet NodeName) →
     IsRun (net_under Init K) 0 journal M → IsComplete M → IsStronglyNormalising t
@@ -28,12 +28,12 @@ OneThreadEndsExactly = (τ : Translation) (t : Tree) (names : ℕ) → HasNames 
     × IsOneThread (net_under Init K) fuel journal M × IsComplete M)
 
 -- no run from the net is longer than n
-abbrev pub AllWithin : NamedNet ℕ → ℕ → Type 0
-AllWithin K n = (journal : List Entry) (M : NamedNet NodeName) →
+abbrev pub RunsAreWithin : NamedNet ℕ → ℕ → Type 0
+RunsAreWithin K n = (journal : List Entry) (M : NamedNet NodeName) →
     IsRun (net_under Init K) 0 journal M → length journal ≤ n
 
 -- and there no run is longer than some number.
 abbrev pub EveryRunEndsExactly : Type 0
 EveryRunEndsExactly = (τ : Translation) (t : Tree) (names : ℕ) → HasNames t names →
     (K : NamedNet ℕ) → IsNet K → SameNet K (translation_of τ t names) →
-    IsStronglyNormalising t ↔ ((n : ℕ) × AllWithin K n)
+    IsStronglyNormalising t ↔ ((n : ℕ) × RunsAreWithin K n)

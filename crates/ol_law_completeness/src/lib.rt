@@ -25,13 +25,16 @@ ghost use Rattle.ol_law_completeness.specs.BoundedRuns.{LightHasNoRing};
 ghost use Rattle.ol_law_completeness.specs.Complete.{InversionsAreOne, AllInversionsAreOne};
 ghost use Rattle.ol_law_completeness.specs.Complete.{HeadsAreRead, NormalFormHasHeads};
 ghost use Rattle.ol_law_completeness.specs.Complete.{DemandIsComplete, HeadIsRead};
-ghost use Rattle.ol_law_completeness.specs.EndsExactly.{OnlyStrongEnds, OneThreadEndsExactly};
+ghost use Rattle.ol_law_completeness.specs.EndsExactly.{OnlyStronglyNormalisingEnds};
+ghost use Rattle.ol_law_completeness.specs.EndsExactly.{OneThreadEndsExactly};
 ghost use Rattle.ol_law_completeness.specs.EndsExactly.{EveryRunEndsExactly};
 ghost use Rattle.ol_law_completeness.specs.Laws.{StepShortensRow, ChainIsOnPath, ChainsMeetAlike};
 ghost use Rattle.ol_law_completeness.specs.Least.{DemandIsLeast, DemandedIsLeast, EnoughAsItIs};
 ghost use Rattle.ol_law_completeness.specs.Least.{EnoughWithoutHeads, CompleteIsEnough, ReadAsItIs};
-ghost use Rattle.ol_law_completeness.specs.StrongTerms.{StrongByRules, StrongIsBounded, StrongEnds};
-ghost use Rattle.ol_law_completeness.specs.StrongTerms.{StrongHasNoRing};
+ghost use Rattle.ol_law_completeness.specs.StrongNormalisation.{StronglyNormalisingByRules};
+ghost use Rattle.ol_law_completeness.specs.StrongNormalisation.{StronglyNormalisingIsBounded};
+ghost use Rattle.ol_law_completeness.specs.StrongNormalisation.{StronglyNormalisingEnds};
+ghost use Rattle.ol_law_completeness.specs.StrongNormalisation.{StronglyNormalisingHasNoRing};
 ghost use Rattle.ol_law_completeness.specs.Terms.{LevelledCrossesNoStuck, NormalFormIsRead};
 ghost use Rattle.ol_law_completeness.specs.Terms.{HeadNormalFormIsRead, PlacesAreOfTerm};
 ghost use Rattle.ol_law_completeness.specs.Terms.{ReadsExactlyNormalForms, TermIsReadLeast};
@@ -203,29 +206,29 @@ pub fn light_has_no_ring<A>()
 /// The strongly normalising terms are those that rules build: a variable or a name with such
 /// arguments, an abstraction of such a body, and a term that has a weak head step to such a term,
 /// if the argument of its redex is one too.
-pub fn strong_by_rules()
-    ensures { StrongByRules }
+pub fn strongly_normalising_by_rules()
+    ensures { StronglyNormalisingByRules }
 {}
 
 /// If each row of beta steps of a term ends, walks over its net are bounded, by either translation.
 /// So every run of the net ends, within a number that the net tells: of any pairs, in any order. And
 /// none leads to a ring of principal ports.
-pub fn strong_ends()
-    ensures bounded { StrongIsBounded }
-    ensures ends { StrongEnds }
-    ensures rings { StrongHasNoRing }
+pub fn strongly_normalising_ends()
+    ensures bounded { StronglyNormalisingIsBounded }
+    ensures ends { StronglyNormalisingEnds }
+    ensures rings { StronglyNormalisingHasNoRing }
 {}
 
 /// If some run of a term's net, by either translation, leads to a net without an active pair, the
 /// term is strongly normalising.
-pub fn only_strong_ends()
-    ensures { OnlyStrongEnds }
+pub fn only_strongly_normalising_ends()
+    ensures { OnlyStronglyNormalisingEnds }
 {}
 
 /// So the one-thread run of a term's net ends, with some fuel, just if the term is strongly
 /// normalising; and just then there is a number within which every run ends, of any pairs in any
 /// order.
-pub fn ends_exactly()
+pub fn ends_exactly_if_strongly_normalising()
     ensures one { OneThreadEndsExactly }
     ensures every { EveryRunEndsExactly }
 {}

@@ -3,7 +3,9 @@ use Rattle.std.proofs.Common.{inl, inr, List, [], ◌∷◌, sym, subst}
 use Rattle.ol_law_edges.specs.Edges.{IsIn}
 use Rattle.ol_law_meaning.proofs.Endings.{no_redex}
 use Rattle.ol_law_optimality.specs.Labels.{Label, Labelled, erased}
-use Rattle.ol_law_optimality.specs.LevysTheorem.{IsNeeded, NeededFamilies, NeedGoesBack, CallByNeedIsFewest, CallByNeedGoesOn}
+use Rattle.ol_beta.specs.Leftmost.{IsNormal}
+use Rattle.ol_term.specs.Trees.{Tree}
+use Rattle.ol_law_optimality.specs.LevysTheorem.{IsNeededFor, NeededFamilies, NeedGoesBack, CallByNeedIsFewest, CallByNeedGoesOn}
 use Rattle.ol_law_optimality.specs.LevysTheorem as laws
 use Rattle.ol_law_optimality.specs.Reductions.{WholeFamilies, FamilyReduces}
 use Rattle.ol_law_optimality.specs.Reductions as reductions
@@ -27,14 +29,15 @@ need_goes_back T U ds h d n V us c z =
     let x = spread (row_families (beside_families h (contracts_row c) (no_redex (erased V) z))) in
     x.known d (n V x.degrees x.steps z)
 
-whole : {T V : Labelled} {ds : List Label} → NeededFamilies T ds V → WholeFamilies T ds V
+pub whole : {Goal : Tree → Type 0} {T V : Labelled} {ds : List Label} → NeededFamilies Goal T ds V →
+    WholeFamilies T ds V
 whole laws.ready = reductions.ready
 whole (laws.contract at g n p r) = reductions.contract at g p (whole r)
 
-all_needed : {T V : Labelled} {ds : List Label} → NeededFamilies T ds V → (e : Label) → IsIn e ds →
-    IsNeeded T e
+all_needed : {T V : Labelled} {ds : List Label} → NeededFamilies IsNormal T ds V → (e : Label) → IsIn e ds →
+    IsNeededFor IsNormal T e
 all_needed laws.ready e i = absurd i
-all_needed (laws.contract {t = t} at g n p r) e (inl k) = subst (λ e. IsNeeded t e) (sym k) n
+all_needed (laws.contract {t = t} at g n p r) e (inl k) = subst (λ e. IsNeededFor IsNormal t e) (sym k) n
 all_needed (laws.contract {t = t} {u = u} {d = d} at g n p r) e (inr j) =
     need_goes_back t u (d ∷ []) (reductions.contract at g p reductions.ready) e (all_needed r e j)
 

@@ -26,7 +26,7 @@ use Rattle.ol_law_meaning.specs.Spots.{at, place}
 use Rattle.ol_term.specs.declared.translations.Translation.{Translation}
 use Rattle.ol_translate.specs.Names.{HasNames}
 use Rattle.ol_translate.specs.Translation.{translation_of}
-use Rattle.ol_law_optimality.specs.Entries.{start_row, start_route, SpellsLabel, AreFamilies, BetasSpellFamilies}
+use Rattle.ol_law_optimality.specs.Entries.{start_row, start_route, SpellsLabel, ContractsEachFamilyOnce, BetasSpellFamilies}
 use Rattle.ol_law_optimality.specs.Readings.{word_of, AreAlike}
 use Rattle.ol_law_optimality.specs.Signs.{letter_of, onward, signs_of}
 use Rattle.ol_law_optimality.proofs.AllFamilies.{asked_all, at_port}
@@ -88,7 +88,7 @@ module _ (τ : Translation) (T : Labelled) (names : ℕ) (h : HasNames (erased T
       × AreAlike (word_of T q m.matched) (signs_of d)) →
       ((d : Label) → IsIn d ds → (p : ℕ) × (c : Context) × IsAnswered t p c
       × (s : Route NodeName) × IsSeen (net_under Init K) p c s × Told s d) →
-      (r : IsRun (net_under Init K) 0 journal M) × AreFamilies (translation_of τ (erased T) names) letter r ds
+      (r : IsRun (net_under Init K) 0 journal M) × ContractsEachFamilyOnce (translation_of τ (erased T) names) letter r ds
   each_one ds {many} {turns} {journal} {ps} {M} {a} t f g =
       let L = ex.start_is_levelled τ T names h K same in
       let d = betas_of_demand (net_under Init K) M many turns journal ps a start L t in (

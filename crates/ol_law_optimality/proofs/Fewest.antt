@@ -11,7 +11,7 @@ use Rattle.ol_law_optimality.specs.Labels.{Label, Labelled, erased, LeftmostCont
 use Rattle.ol_law_optimality.specs.Labels as labels
 use Rattle.ol_term.specs.Trees.{Tree}
 use Rattle.ol_law_optimality.specs.Fewest.{FewestAreFamilies, FewestAreAllFamilies, FewestIsFrugal}
-use Rattle.ol_law_optimality.specs.Reductions.{FamilyReduces, NoneHasFewer}
+use Rattle.ol_law_optimality.specs.Reductions.{FamilyReduces, NoFamilyReductionIsShorter}
 use Rattle.ol_law_optimality.specs.Reductions as reductions
 use Rattle.ol_law_optimality.proofs.Needed.{none_is_shorter}
 use Rattle.ol_law_optimality.proofs.Reached.{fewest_is_reached}
@@ -44,7 +44,7 @@ record Counted (T : Labelled) (ws : List Label) (n : ℕ) : Type 0 where
   enough : n ≤ length families
 
 counted : (T v : Labelled) (ws : List Label) → HaveOwnLetters T → LeftmostContracts T ws v → IsNormal (erased v) →
-    (n : ℕ) → NoneHasFewer T n → Counted T ws n
+    (n : ℕ) → NoFamilyReductionIsShorter IsNormal T n → Counted T ws n
 counted T v ws own l normal n none =
     let y = fewest_is_reached T v ws l normal own.1 in
     record {
@@ -77,7 +77,7 @@ leftmost_families (labels.contract {w = w} at first g e l) =
     (leftmost_families l)
 
 frugal_of : (T : Labelled) (v : Tree) (r : LeftmostReduces (erased T) v) → IsNormal v → (n : ℕ) →
-    NoneHasFewer T n → n ≤ steps_of r
+    NoFamilyReductionIsShorter IsNormal T n → n ≤ steps_of r
 frugal_of T v r normal n none =
     let l = leftmost_is_labelled T v r in
     let few = none l.0 l.1 (leftmost_families l.2) (subst IsNormal (sym l.3) normal) in

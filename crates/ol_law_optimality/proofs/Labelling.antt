@@ -8,7 +8,7 @@ use Rattle.ol_beta.specs.Leftmost.{leftmost}
 use Rattle.ol_law_edges.specs.Edges.{IsIn}
 use Rattle.ol_law_edges.proofs.Lists.{in_cases}
 use Rattle.ol_law_optimality.specs.Steps.{steps_of}
-use Rattle.ol_law_meaning.specs.Shows.{LeftmostReduces}
+use Rattle.ol_law_meaning.specs.Shows.{BetaReduces, LeftmostReduces}
 use Rattle.ol_law_meaning.specs.Shows as shows
 use Rattle.ol_law_optimality.specs.Labels.{Label, none, atom, Labelled, erased, contracted, applied, degree}
 use Rattle.ol_law_optimality.specs.Labels.{degree_of_abstraction, LeftmostContracts}
@@ -19,6 +19,8 @@ use Rattle.ol_term.specs.Trees as trees
 use Rattle.ol_law_optimality.specs.Families.{labels_in}
 use Rattle.ol_law_optimality.specs.Labelling.{EachTermHasLetters, LeftmostIsLabelled, LabelledIsLeftmost}
 use Rattle.ol_law_optimality.specs.Readings.{AreDifferent}
+use Rattle.ol_law_optimality.specs.Reductions.{Contracts}
+use Rattle.ol_law_optimality.specs.Reductions as reductions
 
 -- ---- letters
 
@@ -163,7 +165,7 @@ applied_too (labels.lam b v) c w = λ U e. (v, refl)
 applied_too (labels.app f a v) c w = none_too None
 
 -- each step has a degree
-pub has_degree : (T : Labelled) (at : List ℕ) → SomeToo (contracted T at) (degree T at)
+has_degree : (T : Labelled) (at : List ℕ) → SomeToo (contracted T at) (degree T at)
 has_degree (labels.var k w) at = none_too None
 has_degree (labels.free k w) at = none_too None
 has_degree (labels.lam t w) [] = none_too None
@@ -179,7 +181,7 @@ has_degree (labels.app f c w) (m ∷ at) =
     (if_too (m == 2) (option_map (λ a. labels.app f a w) (contracted c at)) None (degree c at) None
     (map_too (λ a. labels.app f a w) (contracted c at) (degree c at) (has_degree c at)) (none_too None))
 
-pub erased_some : (o : Option Labelled) (u : Tree) → option_map erased o ≡ Some u →
+erased_some : (o : Option Labelled) (u : Tree) → option_map erased o ≡ Some u →
     (U : Labelled) × (o ≡ Some U) × (erased U ≡ u)
 erased_some None u e = absurd (none_some e)
 erased_some (Some U) u e = (U, refl, same_Some (erased U) u e)
@@ -192,6 +194,16 @@ with_labels (shows.contract {u = u} {at = at} c e r) T q =
     let d = has_degree T at s.0 s.1 in
     let x = with_labels r s.0 s.2 in
     (x.0, d.0 ∷ x.1, labels.contract at (ap leftmost q ∙ c) d.1 s.1 x.2, x.3, ap suc x.4)
+
+-- and so each reduction, of whatever redexes
+pub labelled : {t v : Tree} (r : BetaReduces t v) (T : Labelled) → erased T ≡ t →
+    (V : Labelled) × (us : List Label) × Contracts T us V × (erased V ≡ v) × (length us ≡ steps_of r)
+labelled shows.ready T q = (T, [], reductions.ready, q, refl)
+labelled (shows.contract {u = u} {at = at} c e r) T q =
+    let s = erased_some (contracted T at) u (labels_erase T at ∙ ap (λ t. beta.contracted t at) q ∙ e) in
+    let d = has_degree T at s.0 s.1 in
+    let x = labelled r s.0 s.2 in
+    (x.0, d.0 ∷ x.1, reductions.contract at d.1 s.1 x.2, x.3, ap suc x.4)
 
 pub leftmost_is_labelled : LeftmostIsLabelled
 leftmost_is_labelled T v r = with_labels r T refl

@@ -99,8 +99,8 @@ DemandIsAsShortForAHead = (τ : Translation) (T V : Labelled) (us : List Label) 
 
 -- In the words of plain terms: no reduction of a term to a normal form, of whatever redexes in whatever order, has fewer
 -- steps than a demand run of the term's net makes beta steps.
-abbrev pub NeverMoreThanAny : Type 0
-NeverMoreThanAny = (τ : Translation) (t v : Tree) (r : BetaReduces t v) → IsNormal v →
+abbrev pub NeverMoreThanAnyReduction : Type 0
+NeverMoreThanAnyReduction = (τ : Translation) (t v : Tree) (r : BetaReduces t v) → IsNormal v →
     (names : ℕ) → HasNames t names →
     (g : Graph) → IsNet (net_of g) → SameNet (net_of g) (translation_of τ t names) →
     (heads turns : ℕ) (journal : List Entry) (places : List ReadNode) (M : NamedNet NodeName)

@@ -43,7 +43,7 @@ pub record SpellsLabel (N : NamedNet ℕ) (letter : ℕ → ℕ → ℕ) (s : Ro
 
 -- Each beta step of the run contracts one of these families, no two the same one, and each of them
 -- is contracted by one.
-pub record AreFamilies (N : NamedNet ℕ) (letter : ℕ → ℕ → ℕ) {S M : NamedNet NodeName}
+pub record ContractsEachFamilyOnce (N : NamedNet ℕ) (letter : ℕ → ℕ → ℕ) {S M : NamedNet NodeName}
     {journal : List Entry} (r : IsRun S 0 journal M) (ds : List Label) : Type 0 where
   pub each : (n : ℕ) (s : Route NodeName) → IsBetaOf r n s →
       (d : Label) × IsIn d ds × SpellsLabel N letter s d
@@ -63,4 +63,4 @@ BetasSpellFamilies = (τ : Translation) (T v : Labelled) (ws : List Label) →
     (heads : ℕ) (journal : List Entry) (places : List ReadNode) (M : NamedNet NodeName) →
     IsDemandRun (start_of g) heads journal places M → HasAllHeads places →
     (letter : ℕ → ℕ → ℕ) × (r : IsRun (start_of g) 0 journal M)
-    × AreFamilies (translation_of τ (erased T) names) letter r ws
+    × ContractsEachFamilyOnce (translation_of τ (erased T) names) letter r ws

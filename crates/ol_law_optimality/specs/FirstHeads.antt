@@ -27,6 +27,7 @@ use Rattle.ol_law_edges.specs.Edges.{IsIn}
 use Rattle.ol_law_optimality.specs.Families.{labels_in, IsLetter, HaveOwnLetters}
 use Rattle.ol_law_optimality.specs.Readings.{AreDifferent}
 use Rattle.ol_law_optimality.specs.Demand.{AreSoManyOf}
+use Rattle.ol_law_optimality.specs.LevysTheorem.{IsNeededFor}
 use Rattle.ol_law_optimality.specs.Reductions.{Contracts, FamilyReduces, LeftmostFamilies}
 
 -- A term shows the first n heads of its Böhm tree, in preorder, or all of them where there are fewer: each of these
@@ -45,8 +46,8 @@ abbrev pub HasFirstHeads : ℕ → Tree → Type 0
 HasFirstHeads n t = (m : ℕ) × ShowsHeads n t m
 
 -- beta reduction leads to a term that shows so many
-abbrev pub CanShow : ℕ → Tree → Type 0
-CanShow n t = (v : Tree) × BetaReduces t v × HasFirstHeads n v
+abbrev pub ReducesToHeads : ℕ → Tree → Type 0
+ReducesToHeads n t = (v : Tree) × BetaReduces t v × HasFirstHeads n v
 
 -- the first n of these places have heads, or all of them where there are fewer
 abbrev pub HaveHeads : ℕ → List ReadNode → Type 0
@@ -71,42 +72,28 @@ OneHeadIsHeadNormal = (t : Tree) → IsHeadNormal t ↔ HasFirstHeads 1 t
 
 -- ---- reductions of labelled terms
 
--- A degree is needed for so many heads where each reduction to a term that shows them contracts it: of whatever redexes,
--- in whatever order.
-abbrev pub IsNeededTo : ℕ → Labelled → Label → Type 0
-IsNeededTo heads T d = (V : Labelled) (us : List Label) → Contracts T us V → HasFirstHeads heads (erased V) → IsIn d us
-
 -- Let each label of a term be a letter. Where some reduction of it leads to a term that shows its first heads, whole
--- families, each time that of the leftmost redex, lead to such a term too: no family twice, and each of them needed.
+-- families, each time that of the leftmost redex, lead to such a term too: no family twice, and each of
+-- them needed: each reduction to a term that shows so many heads contracts it.
 abbrev pub FewestForHeads : Type 0
 FewestForHeads = (heads : ℕ) (T V : Labelled) (us : List Label) → Contracts T us V → HasFirstHeads heads (erased V) →
     ((w : Label) → IsIn w (labels_in T) → IsLetter w) →
     (ds : List Label) × (W : Labelled) × LeftmostFamilies T ds W × HasFirstHeads heads (erased W)
-    × AreDifferent ds × ((d : Label) → IsIn d ds → IsNeededTo heads T d)
+    × AreDifferent ds × ((d : Label) → IsIn d ds → IsNeededFor (HasFirstHeads heads) T d)
 
 -- So no way of contracting families at once comes to so many heads by fewer steps (Lévy).
-abbrev pub NoneIsShorterThanLeftmost : Type 0
-NoneIsShorterThanLeftmost = (heads : ℕ) (T W : Labelled) (ds cs : List Label) → AreDifferent ds →
-    ((d : Label) → IsIn d ds → IsNeededTo heads T d) → FamilyReduces T cs W → HasFirstHeads heads (erased W) →
-    length ds ≤ length cs
+abbrev pub NoneIsShorterThanNeeded : Type 0
+NoneIsShorterThanNeeded = (heads : ℕ) (T W : Labelled) (ds cs : List Label) → AreDifferent ds →
+    ((d : Label) → IsIn d ds → IsNeededFor (HasFirstHeads heads) T d) →
+    FamilyReduces T cs W → HasFirstHeads heads (erased W) → length ds ≤ length cs
 
 -- ---- demand order
-
--- no reduction of T by family steps to a term that shows its first heads has fewer than n of them
-abbrev pub NoneHasFewerTo : ℕ → Labelled → ℕ → Type 0
-NoneHasFewerTo heads T n = (V : Labelled) (ds : List Label) → FamilyReduces T ds V →
-    HasFirstHeads heads (erased V) → n ≤ length ds
-
--- one has just n
-abbrev pub OneHasAsManyTo : ℕ → Labelled → ℕ → Type 0
-OneHasAsManyTo heads T n = (V : Labelled) × (ds : List Label) × FamilyReduces T ds V
-    × HasFirstHeads heads (erased V) × (n ≡ length ds)
 
 -- Let each subterm of a term have a letter of its own. Any reduction of it to a term that shows its first heads, by labelled
 -- beta steps in whatever order, contracts at least as many different degrees as a demand run of the term's net that asks
 -- for so many heads makes beta steps: by either translation, and also where the run stops on the way.
-abbrev pub BetasAreOfEachReductionToHeads : Type 0
-BetasAreOfEachReductionToHeads = (τ : Translation) (heads : ℕ) (T V : Labelled) (us : List Label) →
+abbrev pub BetasAreOfEachReductionForHeads : Type 0
+BetasAreOfEachReductionForHeads = (τ : Translation) (heads : ℕ) (T V : Labelled) (us : List Label) →
     Contracts T us V → HasFirstHeads heads (erased V) →
     HaveOwnLetters T → (names : ℕ) → HasNames (erased T) names →
     (g : Graph) → IsNet (net_of g) → SameNet (net_of g) (translation_of τ (erased T) names) →

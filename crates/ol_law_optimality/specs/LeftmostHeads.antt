@@ -20,16 +20,16 @@ use Rattle.ol_law_optimality.specs.HeadFamilies.{HasSoManyDifferent}
 use Rattle.ol_law_optimality.specs.FirstHeads.{HasFirstHeads}
 
 -- Leftmost reduction of a labelled term to the first term that shows so many heads, with its degrees.
-pub data LeftmostUpTo (heads : ℕ) : Labelled → List Label → Labelled → Type 0 where
-  ready : {t : Labelled} → HasFirstHeads heads (erased t) → LeftmostUpTo heads t [] t
+pub data LeftmostToHeads (heads : ℕ) : Labelled → List Label → Labelled → Type 0 where
+  ready : {t : Labelled} → HasFirstHeads heads (erased t) → LeftmostToHeads heads t [] t
   contract : {t u v : Labelled} {w : Label} {ws : List Label} (at : List ℕ) →
       (HasFirstHeads heads (erased t) → ⊥) → leftmost (erased t) ≡ Some at → degree t at ≡ Some w →
-      contracted t at ≡ Some u → LeftmostUpTo heads u ws v → LeftmostUpTo heads t (w ∷ ws) v
+      contracted t at ≡ Some u → LeftmostToHeads heads u ws v → LeftmostToHeads heads t (w ∷ ws) v
 
 -- Let each subterm of a term have a letter of its own. A demand run that asks for so many heads, and ends, makes as many
 -- beta steps as this reduction contracts different degrees: as there are families.
-abbrev pub BetasAreFamiliesUpTo : Type 0
-BetasAreFamiliesUpTo = (τ : Translation) (heads : ℕ) (T v : Labelled) (ws : List Label) → LeftmostUpTo heads T ws v →
+abbrev pub BetasAreFamiliesForHeads : Type 0
+BetasAreFamiliesForHeads = (τ : Translation) (heads : ℕ) (T v : Labelled) (ws : List Label) → LeftmostToHeads heads T ws v →
     HaveOwnLetters T → (names : ℕ) → HasNames (erased T) names →
     (g : Graph) → IsNet (net_of g) → SameNet (net_of g) (translation_of τ (erased T) names) →
     (journal : List Entry) (places : List ReadNode) (M : NamedNet NodeName) →

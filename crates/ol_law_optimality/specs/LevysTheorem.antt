@@ -9,16 +9,18 @@ use Rattle.ol_law_optimality.specs.Families.{labels_in, IsLetter}
 use Rattle.ol_law_optimality.specs.Readings.{AreDifferent, HeadReduces}
 use Rattle.ol_law_optimality.specs.Reductions.{Contracts, FamilyStep, FamilyReduces, Parallel, WholeFamily}
 use Rattle.ol_law_optimality.specs.Reductions.{WholeFamilies, LeftmostFamilies, HeadFamilies}
+use Rattle.ol_term.specs.Trees.{Tree}
 
--- A degree is needed where each reduction to a normal form contracts it: of whatever redexes, in
--- whatever order.
-abbrev pub IsNeeded : Labelled → Label → Type 0
-IsNeeded T d = (V : Labelled) (us : List Label) → Contracts T us V → IsNormal (erased V) → IsIn d us
+-- A degree is needed for a sort of terms, as for normal forms, where each reduction to a term of this
+-- sort contracts it: of whatever redexes, in whatever order.
+abbrev pub IsNeededFor : (Tree → Type 0) → Labelled → Label → Type 0
+IsNeededFor Goal T d =
+    (V : Labelled) (us : List Label) → Contracts T us V → Goal (erased V) → IsIn d us
 
 -- Each degree that leftmost reduction contracts is needed, whatever the labels of the first term are.
 abbrev pub EachDegreeIsNeeded : Type 0
 EachDegreeIsNeeded = (T v : Labelled) (ws : List Label) → LeftmostContracts T ws v →
-    (d : Label) → IsIn d ws → IsNeeded T d
+    (d : Label) → IsIn d ws → IsNeededFor IsNormal T d
 
 -- Each degree that head reduction contracts, every reduction to a head normal form contracts.
 abbrev pub EachHeadDegreeIsNeeded : Type 0
@@ -28,7 +30,7 @@ EachHeadDegreeIsNeeded = (T v V : Labelled) (ds us : List Label) → HeadReduces
 -- So a needed degree is that of one of the steps of each family reduction to a normal form.
 abbrev pub NeededAreContracted : Type 0
 NeededAreContracted = (T V : Labelled) (ds : List Label) → FamilyReduces T ds V →
-    IsNormal (erased V) → (d : Label) → IsNeeded T d → IsIn d ds
+    IsNormal (erased V) → (d : Label) → IsNeededFor IsNormal T d → IsIn d ds
 
 -- And so no family reduction to a normal form has fewer steps than leftmost reduction contracts
 -- different degrees.
@@ -81,7 +83,7 @@ NoFamilyTwice = (T V : Labelled) (ds : List Label) → WholeFamilies T ds V →
 -- families to a normal form (Lévy).
 abbrev pub NeededFamiliesAreFewest : Type 0
 NeededFamiliesAreFewest = (T V W : Labelled) (ds cs : List Label) → WholeFamilies T ds V →
-    ((d : Label) → IsIn d ds → IsNeeded T d) →
+    ((d : Label) → IsIn d ds → IsNeededFor IsNormal T d) →
     ((w : Label) → IsIn w (labels_in T) → IsLetter w) →
     FamilyReduces T cs W → IsNormal (erased W) → length ds ≤ length cs
 
@@ -105,20 +107,20 @@ FewestForAHead = (T v : Labelled) (ds : List Label) → HeadReduces T ds v →
 -- ---- call-by-need
 
 -- Call-by-need (Lévy): whole families, each time that of some redex that is needed in the term at hand.
-pub data NeededFamilies : Labelled → List Label → Labelled → Type 0 where
-  ready : {t : Labelled} → NeededFamilies t [] t
+pub data NeededFamilies (Goal : Tree → Type 0) : Labelled → List Label → Labelled → Type 0 where
+  ready : {t : Labelled} → NeededFamilies Goal t [] t
   contract : {t u v : Labelled} {d : Label} {ds : List Label} (at : List ℕ) →
-      degree t at ≡ Some d → IsNeeded t d → WholeFamily d t u → NeededFamilies u ds v →
-      NeededFamilies t (d ∷ ds) v
+      degree t at ≡ Some d → IsNeededFor Goal t d → WholeFamily d t u →
+      NeededFamilies Goal u ds v → NeededFamilies Goal t (d ∷ ds) v
 
 -- what is needed after whole families were contracted was needed before
 abbrev pub NeedGoesBack : Type 0
 NeedGoesBack = (T U : Labelled) (ds : List Label) → WholeFamilies T ds U →
-    (d : Label) → IsNeeded U d → IsNeeded T d
+    (d : Label) → IsNeededFor IsNormal U d → IsNeededFor IsNormal T d
 
 -- So call-by-need is never longer than a reduction by families to a normal form,
 abbrev pub CallByNeedIsFewest : Type 0
-CallByNeedIsFewest = (T V W : Labelled) (ds cs : List Label) → NeededFamilies T ds V →
+CallByNeedIsFewest = (T V W : Labelled) (ds cs : List Label) → NeededFamilies IsNormal T ds V →
     ((w : Label) → IsIn w (labels_in T) → IsLetter w) →
     FamilyReduces T cs W → IsNormal (erased W) → length ds ≤ length cs
 
@@ -126,4 +128,4 @@ CallByNeedIsFewest = (T V W : Labelled) (ds cs : List Label) → NeededFamilies 
 -- form, if there is one.
 abbrev pub CallByNeedGoesOn : Type 0
 CallByNeedGoesOn = (T : Labelled) (at : List ℕ) → leftmost (erased T) ≡ Some at →
-    (d : Label) × (degree T at ≡ Some d) × IsNeeded T d
+    (d : Label) × (degree T at ≡ Some d) × IsNeededFor IsNormal T d

@@ -2,12 +2,13 @@
 -- Réductions correctes et optimales dans le lambda-calcul, 1978; Optimal reductions in the
 -- lambda-calculus, 1980). The family of a redex is told by its degree.
 use Rattle.std.specs.Prelude.{◌≡◌, ℕ, ◌≤◌, List, [], ◌∷◌, Some, length}
-use Rattle.ol_beta.specs.Leftmost.{leftmost, IsNormal}
+use Rattle.ol_beta.specs.Leftmost.{leftmost}
 use Rattle.ol_law_edges.specs.Edges.{IsIn}
 use Rattle.ol_law_optimality.specs.Labels.{Label, none, over, under, joined, Labelled, var, free, lam, app}
 use Rattle.ol_law_optimality.specs.Labels.{erased, before, substituted, contracted, degree}
 use Rattle.ol_law_optimality.specs.Labels.{degree_of_abstraction}
 use Rattle.ol_law_optimality.specs.Readings.{HeadContracts}
+use Rattle.ol_term.specs.Trees.{Tree}
 
 -- ---- step by step
 
@@ -30,14 +31,14 @@ pub data FamilyReduces : Labelled → List Label → Labelled → Type 0 where
   contract : {t u v : Labelled} {d : Label} {ds : List Label} → FamilyStep d t u →
       FamilyReduces u ds v → FamilyReduces t (d ∷ ds) v
 
--- no reduction of T to a normal form by family steps has fewer than n of them
-abbrev pub NoneHasFewer : Labelled → ℕ → Type 0
-NoneHasFewer T n = (V : Labelled) (ds : List Label) → FamilyReduces T ds V → IsNormal (erased V) →
+-- no reduction of T by family steps to a term with this property has fewer than n of them
+abbrev pub NoFamilyReductionIsShorter : (Tree → Type 0) → Labelled → ℕ → Type 0
+NoFamilyReductionIsShorter Goal T n = (V : Labelled) (ds : List Label) → FamilyReduces T ds V → Goal (erased V) →
     n ≤ length ds
 
 -- one has just n
-abbrev pub OneHasAsMany : Labelled → ℕ → Type 0
-OneHasAsMany T n = (V : Labelled) × (ds : List Label) × FamilyReduces T ds V × IsNormal (erased V)
+abbrev pub FamilyReductionOfLength : (Tree → Type 0) → Labelled → ℕ → Type 0
+FamilyReductionOfLength Goal T n = (V : Labelled) × (ds : List Label) × FamilyReduces T ds V × Goal (erased V)
     × (n ≡ length ds)
 
 -- ---- at once

@@ -25,20 +25,20 @@ ghost use Rattle.ol_law_optimality.specs.AllFamilies.{BetasAreFamilies};
 ghost use Rattle.ol_law_optimality.specs.Demand.{BetasAreOfEachReduction, NoneIsShorterThanDemand};
 ghost use Rattle.ol_law_optimality.specs.Demand.{DemandIsAsShort, BetasAreOfEachHeadReduction};
 ghost use Rattle.ol_law_optimality.specs.Demand.{NoneIsShorterForAHead, DemandIsAsShortForAHead};
-ghost use Rattle.ol_law_optimality.specs.Demand.{NeverMoreThanAny};
+ghost use Rattle.ol_law_optimality.specs.Demand.{NeverMoreThanAnyReduction};
 ghost use Rattle.ol_law_optimality.specs.Entries.{BetasSpellFamilies};
 ghost use Rattle.ol_law_optimality.specs.Families.{LabelsHaveTheirSigns, SignsTellRoutes};
 ghost use Rattle.ol_law_optimality.specs.Families.{NoMoreBetasThanFamilies};
 ghost use Rattle.ol_law_optimality.specs.Families.{BetasAreNoMoreThanFamilies};
 ghost use Rattle.ol_law_optimality.specs.Fewest.{FewestAreFamilies, FewestAreAllFamilies};
 ghost use Rattle.ol_law_optimality.specs.Fewest.{FewestIsFrugal};
-ghost use Rattle.ol_law_optimality.specs.FirstHeads.{BetasAreOfEachReductionToHeads};
+ghost use Rattle.ol_law_optimality.specs.FirstHeads.{BetasAreOfEachReductionForHeads};
 ghost use Rattle.ol_law_optimality.specs.FirstHeads.{NoneIsShorterForHeads};
 ghost use Rattle.ol_law_optimality.specs.FirstHeads.{DemandIsAsShortForHeads, HeadsAreFound};
 ghost use Rattle.ol_law_optimality.specs.FirstHeads.{PrintedHeadsAreAsShort};
 ghost use Rattle.ol_law_optimality.specs.FirstHeads.{NoReductionToHeadsIsShorter, FilledHasHeads};
 ghost use Rattle.ol_law_optimality.specs.FirstHeads.{NormalHasHeads, OneHeadIsHeadNormal};
-ghost use Rattle.ol_law_optimality.specs.FirstHeads.{FewestForHeads, NoneIsShorterThanLeftmost};
+ghost use Rattle.ol_law_optimality.specs.FirstHeads.{FewestForHeads, NoneIsShorterThanNeeded};
 ghost use Rattle.ol_law_optimality.specs.HeadFamilies.{SeenByWiderQuestions, SeenByFirstQuestion};
 ghost use Rattle.ol_law_optimality.specs.HeadFamilies.{BetasAreHeadFamilies};
 ghost use Rattle.ol_law_optimality.specs.Labelling.{EachTermHasLetters, LeftmostIsLabelled};
@@ -47,7 +47,7 @@ ghost use Rattle.ol_law_optimality.specs.Labels.{LabelsErase};
 ghost use Rattle.ol_law_optimality.specs.Leftmost.{NeverMoreThanLeftmost, NeverMoreOnTheWay};
 ghost use Rattle.ol_law_optimality.specs.Leftmost.{SeenOnPlacesIsFew, NeverMoreWherePrinted};
 ghost use Rattle.ol_law_optimality.specs.Leftmost.{NeverMoreThanHead};
-ghost use Rattle.ol_law_optimality.specs.LeftmostHeads.{BetasAreFamiliesUpTo};
+ghost use Rattle.ol_law_optimality.specs.LeftmostHeads.{BetasAreFamiliesForHeads};
 ghost use Rattle.ol_law_optimality.specs.LevysTheorem.{EachDegreeIsNeeded, NeededAreContracted};
 ghost use Rattle.ol_law_optimality.specs.LevysTheorem.{NoneIsShorter, AtOnceIsOneStep};
 ghost use Rattle.ol_law_optimality.specs.LevysTheorem.{WholeFamilyIsOne, WholeFamiliesAreFamilies};
@@ -58,9 +58,9 @@ ghost use Rattle.ol_law_optimality.specs.LevysTheorem.{NoFamilyTwice, FewestIsRe
 ghost use Rattle.ol_law_optimality.specs.LevysTheorem.{NeededFamiliesAreFewest, NeedGoesBack};
 ghost use Rattle.ol_law_optimality.specs.LevysTheorem.{CallByNeedIsFewest, CallByNeedGoesOn};
 ghost use Rattle.ol_law_optimality.specs.Met.{NoMoreThanHeadSteps, SeenIsFew};
-ghost use Rattle.ol_law_optimality.specs.NeededHeads.{NeedToHeadsGoesBack};
+ghost use Rattle.ol_law_optimality.specs.NeededHeads.{NeedForHeadsGoesBack};
 ghost use Rattle.ol_law_optimality.specs.NeededHeads.{CallByNeedIsFewestForHeads};
-ghost use Rattle.ol_law_optimality.specs.NeededHeads.{CallByNeedGoesOnToHeads};
+ghost use Rattle.ol_law_optimality.specs.NeededHeads.{CallByNeedGoesOnForHeads};
 ghost use Rattle.ol_law_optimality.specs.Readings.{HeadStepsKeepWords, WordsAreDegrees};
 ghost use Rattle.ol_law_optimality.specs.Readings.{DegreesAreMet, HeadIsLeftmost, SiteHasOneWord};
 ghost use Rattle.ol_law_optimality.specs.Readings.{NoMoreThanFamilies, NoMoreThanLeftmostFamilies};
@@ -354,7 +354,7 @@ pub fn fewest_are_families()
 /// families has steps, whichever redexes these contract; also where the run is stopped on the way.
 /// Where it has a head at each place, whole families, each time that of the leftmost redex, lead to
 /// the printed term by just as many steps. So demand order makes the fewest.
-pub fn no_way_is_shorter_than_demand()
+pub fn demand_is_optimal()
     ensures each { BetasAreOfEachReduction }
     ensures shorter { NoneIsShorterThanDemand }
     ensures reached { DemandIsAsShort }
@@ -364,7 +364,7 @@ pub fn no_way_is_shorter_than_demand()
 /// a head normal form contracts different degrees, and so no more than one by families has steps.
 /// Where it ends, and there is such a reduction, whole families, each time that of the head redex,
 /// lead to a head normal form by just as many steps.
-pub fn no_way_to_a_head_is_shorter()
+pub fn demand_is_optimal_for_a_head()
     ensures each { BetasAreOfEachHeadReduction }
     ensures shorter { NoneIsShorterForAHead }
     ensures reached { DemandIsAsShortForAHead }
@@ -381,8 +381,8 @@ pub fn call_by_need()
 
 /// No reduction of a plain term to a normal form, of whatever redexes in whatever order, has fewer
 /// steps than a demand run of the term's net makes beta steps.
-pub fn never_more_than_any()
-    ensures { NeverMoreThanAny }
+pub fn never_more_than_any_reduction()
+    ensures { NeverMoreThanAnyReduction }
 {}
 
 /// A term that fills a tree whose first places, in preorder, have heads shows so many heads, whatever
@@ -399,7 +399,7 @@ pub fn first_heads()
 /// twice, and each of them is contracted by every such reduction. So none by families is shorter.
 pub fn first_heads_are_reached()
     ensures reached { FewestForHeads }
-    ensures shorter { NoneIsShorterThanLeftmost }
+    ensures shorter { NoneIsShorterThanNeeded }
 {}
 
 /// What is needed for so many heads after whole families were contracted was needed before. So
@@ -407,9 +407,9 @@ pub fn first_heads_are_reached()
 /// hand, is never longer than a reduction by families to so many heads (Lévy); and until they are
 /// there it can go on.
 pub fn call_by_need_for_heads()
-    ensures back { NeedToHeadsGoesBack }
+    ensures back { NeedForHeadsGoesBack }
     ensures fewest { CallByNeedIsFewestForHeads }
-    ensures goes_on { CallByNeedGoesOnToHeads }
+    ensures goes_on { CallByNeedGoesOnForHeads }
 {}
 
 /// Asked for some number of heads, in preorder, a demand run makes no more beta steps than a reduction
@@ -419,12 +419,12 @@ pub fn call_by_need_for_heads()
 /// many steps. Each of the places that were asked has a head then; and where each has one, such a
 /// reduction by families leads to a term that fills the printed tree. The beta steps are as many as
 /// leftmost reduction up to so many heads contracts different degrees.
-pub fn no_way_to_heads_is_shorter()
-    ensures each { BetasAreOfEachReductionToHeads }
+pub fn demand_is_optimal_for_heads()
+    ensures each { BetasAreOfEachReductionForHeads }
     ensures shorter { NoneIsShorterForHeads }
     ensures reached { DemandIsAsShortForHeads }
     ensures found { HeadsAreFound }
     ensures printed { PrintedHeadsAreAsShort }
     ensures plain { NoReductionToHeadsIsShorter }
-    ensures families { BetasAreFamiliesUpTo }
+    ensures families { BetasAreFamiliesForHeads }
 {}

@@ -1,6 +1,6 @@
 -- Terms that show their first heads.
 use Rattle.ol_law_optimality.proofs.first_heads.Goals as goal
-use Rattle.ol_law_optimality.proofs.AskedPrinted.{filled_has_heads, normal_has_heads, one_head_is_head_normal}
+use Rattle.ol_law_optimality.proofs.FirstHeadsPrinted.{filled_has_heads, normal_has_heads, one_head_is_head_normal}
 
 pub returns-clause-filled : goal.returns-clause-filled
 returns-clause-filled c = filled_has_heads

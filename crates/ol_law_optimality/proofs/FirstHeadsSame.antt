@@ -15,7 +15,7 @@ use Rattle.ol_readback.specs.declared.answers.ReadNode.TheVariants as node
 use Rattle.ol_term.specs.Trees.{Tree}
 use Rattle.ol_term.specs.Trees as trees
 use Rattle.ol_law_optimality.specs.FirstHeads.{ShowsHeads, not_asked, at_var, at_free, at_lam, at_app, HaveHeads}
-use Rattle.ol_law_optimality.proofs.AskedNeeded.{shown_head}
+use Rattle.ol_law_optimality.proofs.FirstHeadsNeeded.{shown_head}
 
 -- each place after the first n was cut
 abbrev pub CutAfter : ℕ → List ReadNode → Type 0

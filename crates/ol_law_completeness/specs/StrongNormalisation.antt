@@ -42,23 +42,23 @@ pub data Normalises : Bool → Tree → Type 0 where
       Normalises false u → Normalises false t
 
 -- The strongly normalising terms are those that are normalised by the rules.
-abbrev pub StrongByRules : Type 0
-StrongByRules = (t : Tree) → IsStronglyNormalising t ↔ Normalises false t
+abbrev pub StronglyNormalisingByRules : Type 0
+StronglyNormalisingByRules = (t : Tree) → IsStronglyNormalising t ↔ Normalises false t
 
 -- In the net of a strongly normalising term, by either translation, walks are bounded.
-abbrev pub StrongIsBounded : Type 0
-StrongIsBounded = (τ : Translation) (t : Tree) (names : ℕ) → HasNames t names →
+abbrev pub StronglyNormalisingIsBounded : Type 0
+StronglyNormalisingIsBounded = (τ : Translation) (t : Tree) (names : ℕ) → HasNames t names →
     IsStronglyNormalising t → (b : ℕ) × AreBounded (translation_of τ t names) b
 
 -- So every run of such a net ends, within a number that the net tells.
-abbrev pub StrongEnds : Type 0
-StrongEnds = (τ : Translation) (t : Tree) (names : ℕ) → HasNames t names →
+abbrev pub StronglyNormalisingEnds : Type 0
+StronglyNormalisingEnds = (τ : Translation) (t : Tree) (names : ℕ) → HasNames t names →
     IsStronglyNormalising t → (n : ℕ) × ((g : Graph) → IsNet (net_of g) →
     SameNet (net_of g) (translation_of τ t names) → RunsEndWithin g n)
 
 -- And no run leads to a ring of principal ports.
-abbrev pub StrongHasNoRing : Type 0
-StrongHasNoRing = (τ : Translation) (t : Tree) (names : ℕ) → HasNames t names →
+abbrev pub StronglyNormalisingHasNoRing : Type 0
+StronglyNormalisingHasNoRing = (τ : Translation) (t : Tree) (names : ℕ) → HasNames t names →
     IsStronglyNormalising t → (g : Graph) → IsNet (net_of g) →
     SameNet (net_of g) (translation_of τ t names) → (journal : List Entry)
     (M : NamedNet NodeName) → IsRun (net_under Init (net_of g)) 0 journal M → HasNoRing M

@@ -17,8 +17,8 @@ use Rattle.ol_term.specs.Trees as trees
 use Rattle.ol_law_optimality.specs.FirstHeads.{ShowsHeads, not_asked, at_var, at_free, at_lam, at_app}
 use Rattle.ol_law_optimality.specs.Reductions.{Contracts, Parallel, of_var, of_free, of_lam, of_app, of_redex}
 use Rattle.ol_law_optimality.specs.Reductions as reductions
-use Rattle.ol_law_optimality.proofs.AskedPlaces.{By}
-use Rattle.ol_law_optimality.proofs.AskedPlaces as places
+use Rattle.ol_law_optimality.proofs.FirstHeadsPlaces.{By}
+use Rattle.ol_law_optimality.proofs.FirstHeadsPlaces as places
 use Rattle.ol_law_optimality.proofs.HeadNeeded.{head_parallel, headed, heads_needed, head_labels}
 use Rattle.ol_law_optimality.proofs.Needed.{Of, Row, done, more, beside, contracts_then}
 use Rattle.ol_law_optimality.proofs.Steps.{at_once}

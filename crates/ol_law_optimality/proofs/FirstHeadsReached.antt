@@ -32,14 +32,15 @@ use Rattle.ol_readback.specs.Terms.{IsNoLam}
 use Rattle.ol_term.specs.Trees.{Tree}
 use Rattle.ol_term.specs.Trees as trees
 use Rattle.ol_law_optimality.specs.FirstHeads.{ShowsHeads, not_asked, at_var, at_free, at_lam, at_app, HasFirstHeads}
-use Rattle.ol_law_optimality.specs.FirstHeads.{BetasAreOfEachReductionToHeads, NoneIsShorterForHeads, DemandIsAsShortForHeads}
-use Rattle.ol_law_optimality.specs.FirstHeads.{IsNeededTo, FewestForHeads, NoneIsShorterThanLeftmost}
+use Rattle.ol_law_optimality.specs.FirstHeads.{BetasAreOfEachReductionForHeads, NoneIsShorterForHeads, DemandIsAsShortForHeads}
+use Rattle.ol_law_optimality.specs.FirstHeads.{FewestForHeads, NoneIsShorterThanNeeded}
+use Rattle.ol_law_optimality.specs.LevysTheorem.{IsNeededFor}
 use Rattle.ol_law_optimality.specs.Reductions.{Contracts, FamilyReduces, Parallel, of_lam, of_app, LeftmostFamilies}
 use Rattle.ol_law_optimality.specs.Reductions as reductions
-use Rattle.ol_law_optimality.proofs.AskedFamilies.{turns_have_families, runs_have_families}
-use Rattle.ol_law_optimality.proofs.AskedNeeded.{BesideHeads, shows_one, shows_stay, shown, spine_neutral, neutral_row, neutral_no_lam}
-use Rattle.ol_law_optimality.proofs.AskedPlaces.{By}
-use Rattle.ol_law_optimality.proofs.AskedPlaces as places
+use Rattle.ol_law_optimality.proofs.FirstHeadsFamilies.{turns_have_families, runs_have_families}
+use Rattle.ol_law_optimality.proofs.FirstHeadsNeeded.{BesideHeads, shows_one, shows_stay, shown, spine_neutral, neutral_row, neutral_no_lam}
+use Rattle.ol_law_optimality.proofs.FirstHeadsPlaces.{By}
+use Rattle.ol_law_optimality.proofs.FirstHeadsPlaces as places
 use Rattle.ol_law_optimality.proofs.Counts.{no_more}
 use Rattle.ol_law_optimality.proofs.Firsts.{IsPlain, IsStill, IsFirst, first_is_none, stays, stays_plain, first_of, first_degree}
 use Rattle.ol_law_optimality.proofs.Firsts as firsts
@@ -289,7 +290,7 @@ pub record Rest (T0 : Labelled) (n : ℕ) (ws : List Label) (T : Labelled) : Typ
   pub families : LeftmostFamilies T degrees term
   pub shows : HasFirstHeads n (erased term)
   pub within : (e : Label) → IsIn e degrees → IsIn e ws
-  pub needed : (e : Label) → IsIn e degrees → IsNeededTo n T0 e
+  pub needed : (e : Label) → IsIn e degrees → IsNeededFor (HasFirstHeads n) T0 e
 
 module _ (T0 : Labelled) (n m : ℕ) (ws : List Label) where
   nothing_left : (T : Labelled) → HasFirstHeads n (erased T) → Rest T0 n ws T
@@ -302,7 +303,7 @@ module _ (T0 : Labelled) (n m : ℕ) (ws : List Label) where
     needed = λ e i. absurd i;
   }
 
-  is_needed : (hs : List Label) (T : Labelled) (d : Label) → IsWithin n d T → Gone T0 n m ws hs T → IsNeededTo n T0 d
+  is_needed : (hs : List Label) (T : Labelled) (d : Label) → IsWithin n d T → Gone T0 n m ws hs T → IsNeededFor (HasFirstHeads n) T0 d
   is_needed hs T d h g V us c s =
       let x = g.each V us s.0 (contracts_row c) s.1 in within_is_needed d x.row x.shows h
 
@@ -348,7 +349,7 @@ module _ (T0 : Labelled) (n m : ℕ) (ws : List Label) where
             ];
         needed =
             λ x i. elim i [
-              | inl k ↦ subst (λ x. IsNeededTo n T0 x) (sym k) (is_needed hs T d h g)
+              | inl k ↦ subst (λ x. IsNeededFor (HasFirstHeads n) T0 x) (sym k) (is_needed hs T d h g)
               | inr j ↦ r.needed x j
             ];
       }
@@ -390,8 +391,8 @@ fewest_for_heads heads T V us c s letters =
     let o = leftmost_families_are_whole T r.term r.degrees r.families in
     (r.degrees, r.term, r.families, r.shows, no_family_twice T r.term r.degrees o letters, r.needed)
 
-pub none_is_shorter_than_leftmost : NoneIsShorterThanLeftmost
-none_is_shorter_than_leftmost heads T W ds cs d needed f s =
+pub none_is_shorter_than_needed : NoneIsShorterThanNeeded
+none_is_shorter_than_needed heads T W ds cs d needed f s =
     let x = spread f in no_more ds cs d (λ e i. x.known e (needed e i W x.degrees x.steps s))
 
 -- ---- a run of any net that is the term's up to names, for the term that T is without labels
@@ -450,7 +451,7 @@ as_short_to τ heads T V us c s own t q names h K k same start journal places M 
 
 -- ---- the laws
 
-pub betas_are_of_each_reduction_to_heads : BetasAreOfEachReductionToHeads
+pub betas_are_of_each_reduction_to_heads : BetasAreOfEachReductionForHeads
 betas_are_of_each_reduction_to_heads τ heads T V us c s own names h g k same =
     degrees_to τ heads T V us c s own (erased T) refl names h (net_of g) k same (is_start g k)
 

@@ -3,13 +3,15 @@ use Rattle.std.proofs.Common.{ℕ, inl, inr, List, [], ◌∷◌, ◌++◌, sym,
 use Rattle.ol_law_edges.specs.Edges.{IsIn}
 use Rattle.ol_law_edges.proofs.Lists.{in_cases}
 use Rattle.ol_law_optimality.specs.Labels.{Label, Labelled, erased}
-use Rattle.ol_law_optimality.specs.FirstHeads.{ShowsHeads, IsNeededTo}
-use Rattle.ol_law_optimality.specs.NeededHeads.{NeededFamiliesTo, ready, contract, NeedToHeadsGoesBack}
-use Rattle.ol_law_optimality.specs.NeededHeads.{CallByNeedIsFewestForHeads, CallByNeedGoesOnToHeads}
+use Rattle.ol_law_optimality.specs.FirstHeads.{ShowsHeads, HasFirstHeads}
+use Rattle.ol_law_optimality.specs.LevysTheorem.{IsNeededFor, NeededFamilies, ready, contract}
+use Rattle.ol_law_optimality.specs.NeededHeads.{NeedForHeadsGoesBack}
+use Rattle.ol_law_optimality.specs.NeededHeads.{CallByNeedIsFewestForHeads, CallByNeedGoesOnForHeads}
 use Rattle.ol_law_optimality.specs.Reductions.{Contracts, WholeFamilies}
 use Rattle.ol_law_optimality.specs.Reductions as reductions
-use Rattle.ol_law_optimality.proofs.AskedNeeded.{BesideHeads, shows_stay}
-use Rattle.ol_law_optimality.proofs.AskedReached.{find, is_first, within_is_needed, none_is_shorter_than_leftmost, stands}
+use Rattle.ol_law_optimality.proofs.CallByNeed.{whole}
+use Rattle.ol_law_optimality.proofs.FirstHeadsNeeded.{BesideHeads, shows_stay}
+use Rattle.ol_law_optimality.proofs.FirstHeadsReached.{find, is_first, within_is_needed, none_is_shorter_than_needed, stands}
 use Rattle.ol_law_optimality.proofs.Needed.{Of, Row, done, more, beside, contracts_row, contracts_then}
 use Rattle.ol_law_optimality.proofs.Once.{no_family_twice}
 use Rattle.ol_law_optimality.proofs.Steps.{at_once, whole_parallel}
@@ -38,28 +40,24 @@ along {V = V} reductions.ready r s = record { term = V; row = r; shows = s }
 along (reductions.contract {d = d} at e p f) r s =
     let x = beside (Of d) (whole_parallel p) r in along f x.row (shows_stay (Of d) x.step s)
 
-pub need_to_heads_goes_back : NeedToHeadsGoesBack
+pub need_to_heads_goes_back : NeedForHeadsGoesBack
 need_to_heads_goes_back heads T U ds f d needed V us c s =
     let x = along f (contracts_row c) s.1 in
     let y = one_by_one x.row in
     y.known d (needed x.term y.degrees y.steps (s.0, x.shows))
 
-whole : {heads : ℕ} {T V : Labelled} {ds : List Label} → NeededFamiliesTo heads T ds V → WholeFamilies T ds V
-whole ready = reductions.ready
-whole (contract at g n p r) = reductions.contract at g p (whole r)
-
-all_needed : {heads : ℕ} {T V : Labelled} {ds : List Label} → NeededFamiliesTo heads T ds V → (e : Label) →
-    IsIn e ds → IsNeededTo heads T e
+all_needed : {heads : ℕ} {T V : Labelled} {ds : List Label} → NeededFamilies (HasFirstHeads heads) T ds V →
+    (e : Label) → IsIn e ds → IsNeededFor (HasFirstHeads heads) T e
 all_needed ready e i = absurd i
-all_needed {heads = heads} (contract {t = t} at g n p r) e (inl k) = subst (λ e. IsNeededTo heads t e) (sym k) n
+all_needed {heads = heads} (contract {t = t} at g n p r) e (inl k) = subst (λ e. IsNeededFor (HasFirstHeads heads) t e) (sym k) n
 all_needed {heads = heads} (contract {t = t} {u = u} {d = d} at g n p r) e (inr j) =
     need_to_heads_goes_back heads t u (d ∷ []) (reductions.contract at g p reductions.ready) e (all_needed r e j)
 
 pub call_by_need_is_fewest_for_heads : CallByNeedIsFewestForHeads
 call_by_need_is_fewest_for_heads heads T V W ds cs r letters f s =
-    none_is_shorter_than_leftmost heads T W ds cs (no_family_twice T V ds (whole r) letters) (all_needed r) f s
+    none_is_shorter_than_needed heads T W ds cs (no_family_twice T V ds (whole r) letters) (all_needed r) f s
 
-pub call_by_need_goes_on_to_heads : CallByNeedGoesOnToHeads
+pub call_by_need_goes_on_to_heads : CallByNeedGoesOnForHeads
 call_by_need_goes_on_to_heads heads T = elim (find T heads) [
   | inl s ↦ inl s
   | inr x ↦ inr (

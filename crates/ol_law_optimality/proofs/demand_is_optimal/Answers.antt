@@ -1,5 +1,5 @@
 -- No reduction by families is shorter than demand order makes beta steps.
-use Rattle.ol_law_optimality.proofs.no_way_is_shorter_than_demand.Goals as goal
+use Rattle.ol_law_optimality.proofs.demand_is_optimal.Goals as goal
 use Rattle.ol_law_optimality.proofs.Demanding.{betas_are_of_each_reduction, none_is_shorter_than_demand}
 use Rattle.ol_law_optimality.proofs.Demanding.{demand_is_as_short}
 

@@ -24,8 +24,8 @@ use Rattle.ol_law_optimality.proofs.HeadWords.{Step, step_of}
 use Rattle.ol_law_optimality.proofs.Leading.{leads, silent}
 use Rattle.ol_law_optimality.proofs.Wanting.{Lifted, lift_fun, lift_arg, lift_lam, IsNormalHead}
 use Rattle.ol_law_optimality.proofs.DegreesWanted.{Reached, begun, place_back, Close, labelled, comes_back, deep_site, sunk, enters, reached_up}
-use Rattle.ol_law_optimality.proofs.AskedPlaces.{Heads, Before, IsAt, By, heads_by}
-use Rattle.ol_law_optimality.proofs.AskedPlaces as places
+use Rattle.ol_law_optimality.proofs.FirstHeadsPlaces.{Heads, Before, IsAt, By, heads_by}
+use Rattle.ol_law_optimality.proofs.FirstHeadsPlaces as places
 
 module _ (τ : Translation) where
   -- ---- before a head step

@@ -23,8 +23,8 @@ use Rattle.ol_law_optimality.specs.Readings.{AreAlike, word_of, word_along, func
 use Rattle.ol_law_optimality.proofs.HeadWords.{Step, step_of, redex_word}
 use Rattle.ol_law_optimality.proofs.Sides.{site_has_one_word}
 use Rattle.ol_law_optimality.proofs.Wanting.{comes_on, lift_fun, lift_arg, lift_lam}
-use Rattle.ol_law_optimality.proofs.AskedPlaces.{Heads, one_left, Before, IsAt, nothing_at, By, heads_by}
-use Rattle.ol_law_optimality.proofs.AskedPlaces as places
+use Rattle.ol_law_optimality.proofs.FirstHeadsPlaces.{Heads, one_left, Before, IsAt, nothing_at, By, heads_by}
+use Rattle.ol_law_optimality.proofs.FirstHeadsPlaces as places
 
 module _ (τ : Translation) where
   -- a question after one of the first n places comes to this site

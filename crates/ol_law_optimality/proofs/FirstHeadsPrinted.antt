@@ -2,7 +2,6 @@
 use Rattle.std.proofs.Common.{◌⊎◌, inl, inr, ◌≡◌, ℕ, zero, suc, ◌+◌, ◌≤◌, Bool, true, false, if◌then◌else◌, List, [], ◌∷◌, ◌++◌, length, Some, None}
 use Rattle.std.proofs.Common.{append-nil, map, refl, sym, ap, ◌∙◌, subst, arith}
 use Rattle.std.proofs.lemmas.List.{append_assoc, length_push}
-use Rattle.ol_beta.specs.Beta as beta
 use Rattle.std.specs.Option.{option_or}
 use Rattle.ol_beta.specs.Leftmost.{leftmost, IsNormal, is_abstraction}
 use Rattle.ol_beta.specs.Leftmost as steps
@@ -13,7 +12,7 @@ use Rattle.ol_context.specs.Paths.{HaveSamePaths}
 use Rattle.ol_demand.proofs.Onward.{is_start}
 use Rattle.ol_invariance.proofs.SameNets.{start_paths}
 use Rattle.ol_law_optimality.proofs.Exactly.{start_is_levelled}
-use Rattle.ol_law_optimality.proofs.Labelling.{each_term_has_letters, has_degree, erased_some}
+use Rattle.ol_law_optimality.proofs.Labelling.{each_term_has_letters, labelled}
 use Rattle.ol_law_optimality.specs.Steps.{steps_of}
 use Rattle.ol_law_levels.proofs.DemandPlaces.{demand_places}
 use Rattle.ol_law_levels.proofs.Runs.{same_levelled, start_levelled}
@@ -23,11 +22,9 @@ use Rattle.ol_rules.specs.declared.journal.NodeName.TheVariants.{Init}
 use Rattle.ol_demand.specs.Laws.{IsStart}
 use Rattle.ol_translate.specs.Names.{HasNames}
 use Rattle.ol_law_meaning.specs.Shows.{BetaReduces, IsHeadNormal, IsVariable, Shown, Fills, applied}
-use Rattle.ol_law_meaning.specs.Shows as shows
 use Rattle.ol_law_meaning.proofs.Based.{places_say}
 use Rattle.ol_law_meaning.proofs.Endings.{no_redex}
-use Rattle.ol_law_optimality.specs.Labels.{Label, Labelled, erased, contracted}
-use Rattle.ol_law_optimality.proofs.Erasing.{labels_erase}
+use Rattle.ol_law_optimality.specs.Labels.{Label, Labelled, erased}
 use Rattle.ol_net.specs.Nets.{NamedNet, IsNet, SameNet, net_under}
 use Rattle.ol_net.specs.Numbered.{net_of}
 use Rattle.ol_readback.specs.Frames.{Frame}
@@ -54,14 +51,14 @@ use Rattle.ol_translate.specs.Translation.{translation_of}
 use Rattle.ol_law_optimality.specs.FirstHeads.{ShowsHeads, not_asked, at_var, at_free, at_lam, at_app, HasFirstHeads, HaveHeads}
 use Rattle.ol_law_optimality.specs.FirstHeads.{FilledHasHeads, NormalHasHeads, OneHeadIsHeadNormal, PrintedHeadsAreAsShort, HeadsAreFound}
 use Rattle.ol_law_optimality.specs.FirstHeads.{NoReductionToHeadsIsShorter}
-use Rattle.ol_law_optimality.specs.Reductions.{Contracts, ready, contract}
-use Rattle.ol_law_optimality.proofs.AskedNeeded.{shown_head, shown}
-use Rattle.ol_law_optimality.proofs.AskedPlaces.{Heads, heads_by}
-use Rattle.ol_law_optimality.proofs.AskedTurns.{run_heads}
-use Rattle.ol_law_optimality.proofs.AskedReached.{OfTurns, degrees_to, demand_is_as_short_for_heads}
+use Rattle.ol_law_optimality.specs.Demand.{NeverMoreThanAnyReduction}
+use Rattle.ol_law_optimality.proofs.FirstHeadsNeeded.{shown_head, shown}
+use Rattle.ol_law_optimality.proofs.FirstHeadsPlaces.{Heads, heads_by}
+use Rattle.ol_law_optimality.proofs.FirstHeadsTurns.{run_heads}
+use Rattle.ol_law_optimality.proofs.FirstHeadsReached.{OfTurns, degrees_to, demand_is_as_short_for_heads}
 use Rattle.ol_law_confluence.specs.Reductions.{Convertible, turned, joined}
 use Rattle.ol_law_confluence.proofs.Meetings.{convertible}
-use Rattle.ol_law_optimality.proofs.AskedSame.{CutAfter, all_cut, fills_same}
+use Rattle.ol_law_optimality.proofs.FirstHeadsSame.{CutAfter, all_cut, fills_same}
 use Rattle.ol_law_optimality.proofs.Counts.{no_more}
 use Rattle.ol_law_optimality.proofs.Demanding.{contracts_beta}
 use Rattle.ol_law_optimality.proofs.Needed.{spread, contracts_row}
@@ -188,15 +185,6 @@ one_head_is_head_normal t = (λ h. head_one t h, λ s. shown_head s.1)
 
 -- ---- with the labels of the first term
 
-pub labelled : {t v : Tree} (r : BetaReduces t v) (T : Labelled) → erased T ≡ t →
-    (V : Labelled) × (us : List Label) × Contracts T us V × (erased V ≡ v) × (length us ≡ steps_of r)
-labelled shows.ready T q = (T, [], ready, q, refl)
-labelled (shows.contract {u = u} {at = at} c e r) T q =
-    let s = erased_some (contracted T at) u (labels_erase T at ∙ ap (λ t. beta.contracted t at) q ∙ e) in
-    let d = has_degree T at s.0 s.1 in
-    let x = labelled r s.0 s.2 in
-    (x.0, d.0 ∷ x.1, contract at d.1 s.1 x.2, x.3, ap suc x.4)
-
 pub no_shorter_reduction : (τ : Translation) (heads : ℕ) (t v : Tree) (r : BetaReduces t v) → HasFirstHeads heads v →
     OfTurns τ heads t (λ n. n ≤ steps_of r)
 no_shorter_reduction τ heads t v r s names h K k same start turns journal places M a run =
@@ -212,6 +200,11 @@ no_shorter_reduction τ heads t v r s names h K k same start turns journal place
 pub no_reduction_to_heads_is_shorter : NoReductionToHeadsIsShorter
 no_reduction_to_heads_is_shorter τ heads t v r s names h g k same =
     no_shorter_reduction τ heads t v r s names h (net_of g) k same (is_start g k)
+
+-- a normal form shows as many heads as are asked for
+pub never_more_than_any_reduction : NeverMoreThanAnyReduction
+never_more_than_any_reduction τ t v r n names h g k same heads =
+    no_reduction_to_heads_is_shorter τ heads t v r (normal_has_heads v n heads) names h g k same
 
 -- ---- what is printed
 

@@ -5,12 +5,12 @@ use Rattle.ol_law_edges.specs.Edges.{IsIn}
 use Rattle.ol_law_optimality.specs.Labels.{Label, Labelled, erased}
 use Rattle.ol_net.specs.Numbered.{net_of}
 use Rattle.ol_law_optimality.specs.FirstHeads.{ShowsHeads, HasFirstHeads}
-use Rattle.ol_law_optimality.specs.LeftmostHeads.{LeftmostUpTo, ready, contract, BetasAreFamiliesUpTo}
+use Rattle.ol_law_optimality.specs.LeftmostHeads.{LeftmostToHeads, ready, contract, BetasAreFamiliesForHeads}
 use Rattle.ol_law_optimality.specs.Reductions.{Contracts}
 use Rattle.ol_law_optimality.specs.Reductions as reductions
-use Rattle.ol_law_optimality.proofs.AskedFamilies.{runs_have_families}
-use Rattle.ol_law_optimality.proofs.AskedNeeded.{shows_stay, shown}
-use Rattle.ol_law_optimality.proofs.AskedReached.{Found, IsWithin, find, is_first, within_is_needed, first_one, ends}
+use Rattle.ol_law_optimality.proofs.FirstHeadsFamilies.{runs_have_families}
+use Rattle.ol_law_optimality.proofs.FirstHeadsNeeded.{shows_stay, shown}
+use Rattle.ol_law_optimality.proofs.FirstHeadsReached.{Found, IsWithin, find, is_first, within_is_needed, first_one, ends}
 use Rattle.ol_law_optimality.proofs.Firsts.{IsFirst, first_of}
 use Rattle.ol_law_optimality.proofs.Needed.{Of, Row, beside, contraction_step, contracts_row}
 
@@ -23,16 +23,16 @@ is_within heads T d none h = by (find T heads)
     by (inl s) = absurd (none s)
     by (inr x) = subst (λ d. IsWithin heads d T) (first_one (is_first x.1) h) x.1
 
-contracts_of : {heads : ℕ} {T v : Labelled} {ws : List Label} → LeftmostUpTo heads T ws v → Contracts T ws v
+contracts_of : {heads : ℕ} {T v : Labelled} {ws : List Label} → LeftmostToHeads heads T ws v → Contracts T ws v
 contracts_of (ready s) = reductions.ready
 contracts_of (contract at none e g f l) = reductions.contract at g f (contracts_of l)
 
-shows_at_end : {heads : ℕ} {T v : Labelled} {ws : List Label} → LeftmostUpTo heads T ws v →
+shows_at_end : {heads : ℕ} {T v : Labelled} {ws : List Label} → LeftmostToHeads heads T ws v →
     HasFirstHeads heads (erased v)
 shows_at_end (ready s) = s
 shows_at_end (contract at none e g f l) = shows_at_end l
 
-all_are_needed : {heads m : ℕ} {T v V : Labelled} {ws us : List Label} → LeftmostUpTo heads T ws v → Row T us V →
+all_are_needed : {heads m : ℕ} {T v V : Labelled} {ws us : List Label} → LeftmostToHeads heads T ws v → Row T us V →
     ShowsHeads heads (erased V) m → (e : Label) → IsIn e ws → IsIn e us
 all_are_needed (ready s) r z e i = absurd i
 all_are_needed {heads = heads} {us = us} (contract {t = t} {w = d} at none l g f rest) r z e (inl k) =
@@ -41,7 +41,7 @@ all_are_needed (contract {t = t} {u = u} {w = d} at none l g f rest) r z e (inr 
     let x = beside (Of d) (contraction_step t at d u g f) r in
     all_are_needed rest x.row (shows_stay (Of d) x.step z) e i
 
-pub betas_are_families_up_to : BetasAreFamiliesUpTo
+pub betas_are_families_up_to : BetasAreFamiliesForHeads
 betas_are_families_up_to τ heads T v ws l own names h g k same journal places M d =
     let s = shows_at_end l in
     let y = shown heads s.0 T v ws (contracts_row (contracts_of l)) s.1 in

@@ -34,10 +34,10 @@ use Rattle.ol_law_optimality.proofs.Lettering.{lettering}
 use Rattle.ol_law_optimality.proofs.MetSeen.{SeenBy, comes_seen}
 use Rattle.ol_law_optimality.proofs.Phases.{HaveLetters}
 use Rattle.ol_law_optimality.specs.Demand.{AreSoManyOf}
-use Rattle.ol_law_optimality.proofs.AskedPlaces.{By, heads_by}
-use Rattle.ol_law_optimality.proofs.AskedWanted.{asked_degree}
-use Rattle.ol_law_optimality.proofs.AskedFound.{asked_found}
-use Rattle.ol_law_optimality.proofs.AskedTurns.{question_at, is_answered}
+use Rattle.ol_law_optimality.proofs.FirstHeadsPlaces.{By, heads_by}
+use Rattle.ol_law_optimality.proofs.FirstHeadsWanted.{asked_degree}
+use Rattle.ol_law_optimality.proofs.FirstHeadsFound.{asked_found}
+use Rattle.ol_law_optimality.proofs.FirstHeadsTurns.{question_at, is_answered}
 
 module _ (τ : Translation) (many m : ℕ) (T : Labelled) (ws : List Label) (by : By true many T m ws)
     (names : ℕ) (h : HasNames (erased T) names) (K : NamedNet ℕ)

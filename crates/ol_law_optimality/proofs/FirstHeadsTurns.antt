@@ -54,7 +54,7 @@ use Rattle.ol_translate.specs.Translation.{translation_of}
 use Rattle.ol_law_optimality.proofs.Wanted.{Asks, whole, part, one_step, arg_stops}
 use Rattle.ol_law_optimality.proofs.Answering.{rest_of, port_of_place}
 use Rattle.ol_law_optimality.proofs.DegreesWanted.{Close, Reached}
-use Rattle.ol_law_optimality.proofs.AskedPlaces.{Heads, not_asked, is_asked, of_var, of_free, of_lam, of_app, same_form, one_left, Before, IsAt, nothing_at}
+use Rattle.ol_law_optimality.proofs.FirstHeadsPlaces.{Heads, not_asked, is_asked, of_var, of_free, of_lam, of_app, same_form, one_left, Before, IsAt, nothing_at}
 
 pub steps_reduce : {t u : Tree} {m : ℕ} → Steps t u m → HeadReduces t u
 steps_reduce done = shows.ready

@@ -1,5 +1,0 @@
-use Rattle.ol_law_completeness.proofs.OnlyStrong as ending
-use Rattle.ol_law_completeness.proofs.only_strong_ends.Goals as goal
-
-pub returns : goal.returns
-returns c = ending.only_strong_ends

@@ -1,5 +1,0 @@
-use Rattle.ol_law_completeness.proofs.Strong as strong
-use Rattle.ol_law_completeness.proofs.strong_by_rules.Goals as goal
-
-pub returns : goal.returns
-returns c = strong.strong_by_rules
