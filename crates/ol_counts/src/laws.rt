@@ -1,5 +1,19 @@
-//! Laws of counts, of call-by-need, of the columns of a table and of waves: no code, only what follows
-//! from the definitions.
+//! Theorems on counts, on call-by-need, on the columns of a table and on parallel steps.
+//!
+//! Call-by-need finds the normal form, with at least as many β-steps as on-demand reduction and at
+//! most as many as leftmost reduction.
+//!
+//! Call-by-need is defined by rules (Launchbury, A natural semantics for lazy evaluation, 1993),
+//! continued from weak head normal forms into bodies and arguments; the machine of `need.rt` counts
+//! its β-steps. With `ol_law_optimality` the order of the counts is: on-demand reduction, families,
+//! call-by-need, leftmost reduction.
+//!
+//! The theorems on call-by-need start with the machine (`demand_is_no_more_than_need`,
+//! `need_finds_the_normal_form`), and continue with the rules (`machine_follows_the_rules`,
+//! `call_by_need_by_rules`) and examples (`small_terms`).
+//!
+//! Only β-steps are counted, and not the other moves of the machine. The normal form is stated for
+//! the rules only, because names of the machine have no identity. Applicative order isn't compared.
 
 ghost use Rattle.ol_counts.specs.Ordered.{CountIsOne};
 ghost use Rattle.ol_counts.specs.WaveLaws.{TablesAgree};
@@ -25,10 +39,11 @@ pub fn tables_agree()
     ensures { TablesAgree }
 {}
 
-/// If the machine of call-by-need comes to its end, as many family steps as it made beta steps lead
-/// the term, whatever its labels are, to its normal form. So no demand run of the term's net makes
-/// more beta steps than the machine. And whether it ends or not: no run that asks for one head makes
-/// more than the machine has made where it comes to a name that nothing is to be done with.
+/// If the machine of call-by-need ends, as many family steps as it made β-steps lead the term, with
+/// any labels, to its normal form. It follows that on-demand reduction of the term's net makes at
+/// most as many β-steps as the machine. For a single head, whether or not the machine ends,
+/// on-demand reduction makes at most as many β-steps as the machine has made when it reaches a name
+/// that nothing can reduce.
 pub fn demand_is_no_more_than_need()
     ensures families { NeedIsByFamilies }
     ensures normal { NeedEndsInTheNormalForm }
@@ -36,9 +51,9 @@ pub fn demand_is_no_more_than_need()
     ensures head { DemandIsNoMoreThanNeedForAHead }
 {}
 
-/// If a term has a normal form, the machine of call-by-need comes to its end, after no more beta steps
-/// than leftmost reduction has. It comes to a name that nothing is to be done with exactly if the term
-/// has a head normal form.
+/// If a term has a normal form, the machine of call-by-need ends, after at most as many β-steps as
+/// leftmost reduction has steps. It reaches a name that nothing can reduce exactly if the term has
+/// a head normal form.
 pub fn need_finds_the_normal_form()
     ensures ends { NeedFindsTheNormalForm }
     ensures leftmost { NeedIsNoMoreThanLeftmost }
@@ -46,17 +61,18 @@ pub fn need_finds_the_normal_form()
     ensures finds_head { NeedFindsAHead }
 {}
 
-/// The machine counts the beta steps of call-by-need by the rules of Launchbury's natural semantics,
-/// from weak head normal forms on into bodies and arguments: it comes to its end after n beta steps
-/// exactly if a term comes to some form by n by the rules.
+/// The machine counts the β-steps of call-by-need by the rules of Launchbury's natural semantics,
+/// continued from weak head normal forms into bodies and arguments: it ends after n β-steps exactly
+/// if the rules evaluate the term to some form in n β-steps.
 pub fn machine_follows_the_rules()
     ensures rules { MachineIsByRules }
     ensures followed { RulesAreFollowed }
 {}
 
-/// By the rules of call-by-need a term comes to its normal form, and where it has one. That takes no
-/// more beta steps than leftmost reduction, and no fewer than any demand run of the term's net makes,
-/// by either translation, for whatever number of heads, and also where it is stopped on the way.
+/// By the rules of call-by-need a term evaluates to its normal form exactly if it has a normal
+/// form. This takes at most as many β-steps as leftmost reduction, and at least as many as
+/// on-demand reduction of the term's net, by either translation, for any number of heads, also if
+/// it is stopped.
 pub fn call_by_need_by_rules()
     ensures form { RulesGiveTheNormalForm }
     ensures found { RulesFindTheNormalForm }
@@ -64,7 +80,8 @@ pub fn call_by_need_by_rules()
     ensures demand { DemandIsNoMoreThanRules }
 {}
 
-/// Two small terms, what they come to, and by how many beta steps: by the machine and by the rules.
+/// Two small terms, their normal forms, and their numbers of β-steps, by the machine and by the
+/// rules.
 pub fn small_terms()
     ensures counts { SmallCounts }
     ensures forms { SmallForms }
