@@ -1,16 +1,15 @@
-/* libolcheck: what a runtime's journal is found to be, by the proved checker of `ol check`.
+/* libolcheck: the verdict on a trace of a runtime, by the proved checker of `ol check`.
 
-   scripts/library builds libolcheck.a; library/README.md has an example and each answer. No call starts a
-   thread, reads a file, writes anywhere but where a pointer says, or ends the process. Calls may run
-   side by side, each on memory of its own.
+   scripts/library builds libolcheck.a; library/README.md has an example and the meaning of each verdict.
+   No call starts a thread, reads a file, writes anywhere except where a pointer says, or ends the process.
+   Calls may run at the same time in several threads.
 
-   What is believed of a caller. Behind each pointer stand as many bytes as the length beside it says;
-   what `counts` or `room` points to overlaps nothing else that is given; while a call runs, nothing
-   else writes to any of these, and nothing else reads what `counts` or `room` points to. The stack has
-   room for terms 1,000 deep (tests/README.md, "Hostile use"). malloc, realloc and free are those of
-   the C library. No call is made from a signal handler, or from the forked child of a process with
-   threads. Nothing can check these; all else is answered: a null pointer, any length, any bytes, and
-   memory that isn't found. */
+   What the caller must guarantee. Each pointer points to as many bytes as its length says. `counts` and
+   `room` don't overlap any other argument; during a call no other thread writes to the arguments, or reads
+   `counts` or `room`. The thread has a stack of at least 1 MB: terms may be 1,000 deep. malloc, realloc and
+   free are those of the C library. Calls aren't made from a signal handler, or from the forked child of a
+   process with threads. None of this can be checked; everything else has an answer: a null pointer, any
+   length, any bytes, and lack of memory. */
 
 #ifndef OLCHECK_H
 #define OLCHECK_H

@@ -2,7 +2,7 @@
 
     tests/bench-limits [--program PATH]
 
-Each row has the status and the first line that are wanted; the lines are those of docs/BENCH.md, and never the program's own. tests/hostile does
+Each row has the status and the first line that are wanted; the lines are those of docs/runtimes/FORMATS.md, and never the program's own. tests/hostile does
 the same with `ol`. The files take a gigabyte of the temporary folder, and a run up to 2 GB of memory. The last line is 'N passed, M
 failed'.
 

@@ -9,7 +9,7 @@ Without the bug the same command has to find nothing wrong. A bug that no comman
 fails. For each bug a line is written: its name, the slip, and what each command says. With names these alone are tried.
 The last line is 'N passed, M failed'.
 
-The commands are those that docs/RUNTIMES.md and docs/BENCH.md name. Which programs they run, tests/lib/which_ol.py says.
+docs/runtimes/DIAGNOSE.md has the same table. Which programs they run, tests/lib/which_ol.py says.
 """
 import collections
 import os

@@ -1,4 +1,4 @@
-"""The runtime beside this script, with one of eight faults (docs/BENCH.md, "Eight faults of a runtime").
+"""The runtime beside this script, with one of eight faults (docs/runtimes/DIAGNOSE.md).
 
     tests/faults/broken FAULT [--seed S] [--net | --after L] < NET
     tests/faults/broken --show FAULT

@@ -133,7 +133,7 @@ def tree_of(term):
 
 
 def translated(term):
-    """Returns the text of the net, by translation 2, of a term of x alone that is applied to x or y last, as docs/RUNTIMES.md lists its nodes."""
+    """Returns the text of the net, by translation 2, of a term of x alone that is applied to x or y last, as docs/runtimes/FORMATS.md orders its nodes."""
     nodes, links = [], []
 
     def added(kind, level):

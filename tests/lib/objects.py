@@ -5,7 +5,7 @@
 N terms are drawn at random, 1,000 where nothing is said. Of each the columns of `counts` are asked, some of them, with
 bounds that some ways pass. Then a journal of the term is taken whole, cut, or with a byte changed. Each call is made
 twice, with `--json` and without. The statuses have to be the same. The object has to be one line that Python's json
-reads, with just the members that the plain answer tells (docs/BENCH.md). The last line is 'N passed, M failed'.
+reads, with just the members that the plain answer has (docs/runtimes/FORMATS.md). The last line is 'N passed, M failed'.
 
 The programs are those that the variables OL and OL_BENCH name, else those of tests/bench.
 """

@@ -1,4 +1,4 @@
-"""How long the program takes, and how much memory: the rows of docs/RUNTIMES.md, part 4, that stand for all of it.
+"""How long the program takes, and how much memory: the tables of docs/runtimes/PERFORMANCE.md.
 
     tests/speed [--program PATH] [--beside PATH] [--times N] [--of run|demand] [--processor]
 

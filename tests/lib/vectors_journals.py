@@ -6,7 +6,7 @@ COMMAND is run by the shell. It reads a net as `ol view` shows it and writes a j
 record of the two files is tried, from the first on. A line tells each answer that isn't `complete`; the last line is
 'A of B complete', and the status 1 where these aren't all. Where COMMAND doesn't end within a minute, what it wrote
 until then is given to `ol check`. Which program `ol` is run, tests/lib/which_ol.py says. `complete` doesn't mean that the
-runtime is right: docs/RUNTIMES.md.
+runtime is right: docs/runtimes/CHECK_YOUR_RUNTIME.md.
 """
 import tempfile
 
