@@ -35,7 +35,7 @@ use Rattle.ol_words.specs.declared.jobs.Job.{Job}
 use Rattle.ol_words.specs.declared.jobs.Job.TheVariants as jobs
 use Rattle.ol_cli.proofs.DemandRuns.{is_start}
 use Rattle.ol_cli.proofs.NormalLines.{run_printed, demand_printed, file_of}
-use Rattle.ol_cli.proofs.OneAnswer.{file_names}
+use Rattle.ol_law_meaning.proofs.FileNames.{file_names}
 use Rattle.ol_cli.specs.Demand.{Demands}
 use Rattle.ol_cli.specs.NormalForms.{PrintsCounts, CountsSay, NoneIsStuck, AreFewest, BetasAreFewest, AreFewestForHeads, BetasAreFewestForHeads}
 use Rattle.ol_cli.specs.Run.{Prints}

@@ -30,7 +30,7 @@ use Rattle.ol_cli.specs.Sources.{DemandsTree, TellsTree, WritesTree}
 use Rattle.ol_cli.specs.NormalForms.{PrintsTerm, FirstLine, LineSays, IsFoundOnDemand}
 use Rattle.ol_cli.specs.NormalForms.{count_of_variables}
 use Rattle.ol_cli.proofs.StartNet.{is_read_within, ends_within, reads_told}
-use Rattle.ol_cli.proofs.OneAnswer.{file_names}
+use Rattle.ol_law_meaning.proofs.FileNames.{file_names}
 use Rattle.ol_cli.proofs.NormalLines.{run_printed, walk_printed, demand_printed, first_line}
 use Rattle.ol_cli.proofs.NormalLines.{file_of}
 

@@ -7,13 +7,11 @@ use Rattle.ol_term.specs.declared.translations.Translation.{Translation}
 use Rattle.ol_term.specs.Trees.{Tree, depth}
 use Rattle.ol_term.specs.Generated.{doubled_text}
 use Rattle.ol_parse.specs.Texts.{IsRefusedAt}
-use Rattle.ol_parse.specs.Numbered.{names_of, number}
+use Rattle.ol_parse.specs.Numbered.{number}
 use Rattle.ol_parse.specs.Parsed.{IsFileOf}
 use Rattle.ol_parse.proofs.Exact.{one_file}
 use Rattle.ol_parse.proofs.Sizes.{one_dead_place}
-use Rattle.ol_parse.proofs.Files.{whole_bound, whole_named, whole_occurs}
 use Rattle.ol_net.specs.Nets.{IsNet}
-use Rattle.ol_translate.specs.Names.{HasNames}
 use Rattle.ol_translate.specs.Sizes.{size_of_translation}
 use Rattle.ol_translate.specs.Translation.{translation_of}
 use Rattle.ol_translate.proofs.Whole.{translation_net}
@@ -46,6 +44,7 @@ use Rattle.ol_cli.specs.Generate.{Makes, plain_run}
 use Rattle.ol_cli.proofs.OnePrint.{one_last_tree}
 use Rattle.ol_cli.proofs.TermLaws.{done_by_laws, laws, one_by_laws}
 use Rattle.ol_cli.proofs.NetFiles.{Alike, alike_by, one_net_file}
+use Rattle.ol_law_meaning.proofs.FileNames.{file_names}
 
 abbrev pub Same : Status → Status → List ℕ → List ℕ → Type 0
 Same s s' x x' = (s ≡ s') × (x ≡ x')
@@ -65,15 +64,6 @@ alike_as : (job : Job) (s s' : Status) (x x' y : List ℕ) → Same s Limit x y 
 alike_as job s s' x x' y h h' = alike_by job s s' Limit x x' h.0 h'.0 (refused_texts job x x' (h.1 ∙ sym h'.1)).0
 
 -- ---- a term
-
--- the translation of a file's term is a net
-pub file_names : (bytes : List ℕ) (t : Tree) (names : List (List ℕ)) → IsFileOf bytes t names →
-    HasNames t (length names)
-file_names bytes t names f =
-    let has_names : HasNames (number f.named) (length (names_of f.named)) =
-    record { bound = whole_bound f.named; named = whole_named f.named; each = λ k b. whole_occurs f.named k b } in
-    subst (λ t. HasNames t (length names)) (sym f.tree)
-    (subst (λ names. HasNames (number f.named) (length names)) (sym f.free_names) has_names)
 
 pub file_net : (tr : Translation) (bytes : List ℕ) (t : Tree) (names : List (List ℕ)) →
     IsFileOf bytes t names → IsNet (translation_of tr t (length names))

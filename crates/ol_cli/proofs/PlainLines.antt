@@ -1,9 +1,8 @@
 -- Words without options, and the line that is written for them.
 use Rattle.std.proofs.Common.{◌≡◌, ℕ, List, [], ◌∷◌, Bool, true, false, ◌&&◌, inl, inr}
-use Rattle.std.proofs.Common.{codes, not, nat_eq, length, Option, Some, None, String, Global, ◌⊎◌}
-use Rattle.std.proofs.Common.{refl, sym, ap, ◌∙◌, subst, cond, zero, suc, arith}
-use Rattle.std.specs.Str.{bytes_eq}
-use Rattle.std.proofs.lemmas.Bool.{ne_eqb, cases_Bool}
+use Rattle.std.proofs.Common.{codes, Option, Some, None, String, Global, ◌⊎◌}
+use Rattle.std.proofs.Common.{refl, ap, ◌∙◌, subst, cond, zero, suc}
+use Rattle.std.proofs.lemmas.Bool.{cases_Bool}
 use Rattle.std.proofs.lemmas.Slice.Eq.{bytes_eq-Decides}
 use Rattle.std.specs.Prelude.{option_and_then, option_map}
 use Rattle.ol_term.specs.declared.translations.Translation.TheVariants.{Two}
@@ -27,25 +26,9 @@ use Rattle.ol_cli.proofs.OneAnswer.{one_job}
 use Rattle.ol_cli.proofs.NormalLines.{run_printed, walk_printed, demand_printed, first_line}
 use Rattle.ol_cli.proofs.NormalLines.{file_of}
 use Rattle.ol_cli.proofs.DemandedLines.{writes_demanded}
+use Rattle.ol_words.proofs.Shapes.{not_end}
 
 -- ---- one name
-
-no_end : (name : Text) → is_dashed name ≡ false → is_end name ≡ false
-no_end [] h = refl
-no_end (b ∷ []) h = go (nat_eq b 45)
-  where
-    go : (x : Bool) → x && false ≡ false
-    go true = refl
-    go false = refl
-no_end (b ∷ c ∷ rest) h =
-    go (nat_eq b 45)
-    (sym
-    (ap (λ (x : Bool). nat_eq b 45 && not x)
-    (ne_eqb (suc (length rest)) 0 (λ e. absurd (omega arith)))) ∙ h)
-  where
-    go : (x : Bool) → x && true ≡ false → x && bytes_eq (c ∷ rest) (45 ∷ []) ≡ false
-    go true e = absurd (cc)
-    go false e = refl
 
 abbrev named : Text → List Text → Option Line
 named name names = Some (record { options = []; names = name ∷ names })
@@ -62,7 +45,7 @@ other known name rest =
 name_first : (known : Known) (name : Text) (rest : List Text) → is_dashed name ≡ false →
     line_of known (name ∷ rest) ≡ option_map (with_name name) (line_of known rest)
 unfolding line_from
-name_first known name rest h = go (is_end name) (is_dashed name) (no_end name h) h
+name_first known name rest h = go (is_end name) (is_dashed name) (not_end name h) h
   where
     go : (a b : Bool) → a ≡ false → b ≡ false →
         cond a (unnamed rest) (cond b (other known name rest)

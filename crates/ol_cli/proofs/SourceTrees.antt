@@ -1,5 +1,5 @@
 -- What `equal` and `certify` tell of the terms of their files.
-use Rattle.std.proofs.Common.{◌≡◌, ℕ, ◌*◌, true, List, Option, Some, length, sym, ◌∙◌, subst, subst₂, inr}
+use Rattle.std.proofs.Common.{◌≡◌, ℕ, ◌*◌, true, List, Option, length, sym, ◌∙◌, subst, subst₂, inr}
 use Rattle.std.proofs.Common.{String, Global}
 use Rattle.ol_term.specs.declared.translations.Translation.{Translation}
 use Rattle.ol_term.specs.Trees.{Tree}
@@ -11,6 +11,7 @@ use Rattle.ol_readback.specs.declared.answers.ReadNode.{ReadNode}
 use Rattle.ol_readback.proofs.Forests.{tree_is_whole}
 use Rattle.ol_law_meaning.specs.Meaning.{SaysOf}
 use Rattle.ol_law_meaning.proofs.Based.{places_say}
+use Rattle.ol_law_meaning.proofs.FileNames.{file_names}
 use Rattle.ol_law_confluence.proofs.ComparedTrees.{comparison_tells, not_apart}
 use Rattle.ol_law_levels.proofs.Sources.{last_places}
 use Rattle.ol_law_confluence.proofs.PrintedTrees.{never_differs}
@@ -40,7 +41,7 @@ use Rattle.ol_cli.specs.Certify.{Certifies}
 use Rattle.ol_cli.specs.SourceLaws.{TellsOfTwo, TellsSources, WritesOfSources, ComparisonTellsSources}
 use Rattle.ol_cli.specs.SourceLaws.{HeadBesideLostTellsSources}
 use Rattle.ol_cli.specs.SourceLaws.{CertifyNeverDiffers}
-use Rattle.ol_cli.proofs.OneAnswer.{file_names, own_job}
+use Rattle.ol_cli.proofs.OneAnswer.{own_job, one_bytes}
 
 says : (tr : Translation) (t : Tree) (names : List (List ℕ)) (fuel heads : ℕ)
     (tree : List ReadNode) → HasNames t (length names) → ReadsLast tr t names fuel heads tree →
@@ -100,9 +101,6 @@ moved P n n' m m' t t' u u' e f g h x =
     (subst (λ m. P (record { a = n'; b = m }) t u) f
     (subst (λ n. P (record { a = n; b = m }) t u) e x)))
 
-same_bytes : (o : Option (List ℕ)) (a b : List ℕ) → o ≡ Some a → o ≡ Some b → a ≡ b
-same_bytes o a b e f = let k : Some a ≡ Some b = sym e ∙ f in cc
-
 module _ (tr : Translation) (a b : List ℕ) (fuel heads : ℕ) (x : HasTree tr a fuel heads)
     (y : HasTree tr b fuel heads) (t u : Tree) (names others : List (List ℕ))
     (f : IsFileOf a t names) (g : IsFileOf b u others) (old new : Option (List ℕ)) where
@@ -146,8 +144,8 @@ compares files tr w fuel heads a b old new s text done ap (of_second e x d isnt 
 compares files tr w fuel heads a b old new s text done ap
     (of_both {bytes = m} {bytes' = n} e x d y is h) =
     λ m' n' e' d' t u names others f g.
-    let p = same_bytes (files 0 a) m' m e' e in
-    let q = same_bytes (files 1 b) n' n d' d in
+    let p = one_bytes (files 0 a) m' m e' e in
+    let q = one_bytes (files 1 b) n' n d' d in
     subst₂ (λ m n. TellsOfTwo tr fuel heads m n (record { a = names; b = others }) t u old new)
     (sym p) (sym q)
     (compares_both tr m n fuel heads x y t u names others
@@ -163,7 +161,7 @@ certifies : (files : Files) (tr : Translation) (b w fuel heads : ℕ) (name : Te
 certifies files tr b w fuel heads name old new s text done ap (of_file {bytes = m} has e h) =
     λ m' e' t names f.
     let x = subst (λ s. FileAnswer (jobs.Certify tr b w fuel heads name) m s text) done h in
-    let p = same_bytes (files 0 name) m' m e' e in
+    let p = one_bytes (files 0 name) m' m e' e in
     let q = one_file m x.0 t x.1 names x.2.file (subst (λ k. IsFileOf k t names) p f) in
     let c =
     subst (λ t. Certifies tr t names b fuel heads text) q.0

@@ -3,6 +3,7 @@ use Rattle.std.proofs.Common.{◌≡◌, ◌≢◌, ℕ, ◌*◌, Bool, true, fa
 use Rattle.std.proofs.Common.{slice_get, length, Option, Some, String, Global, ◌<◌, ◌≤◌, ◌⊎◌, inl}
 use Rattle.std.proofs.Common.{inr, sym, ap, ◌∙◌, subst, arith}
 use Rattle.std.proofs.lemmas.Bool.{cases_lt}
+use Rattle.std.proofs.lemmas.Option.{same_Some}
 use Rattle.ol_io.specs.Outside.{Appended, Rose}
 use Rattle.ol_term.specs.declared.translations.Translation.{Translation}
 use Rattle.ol_term.specs.Trees.{Tree}
@@ -28,6 +29,7 @@ use Rattle.ol_law_completeness.proofs.TheLeast.{demand_is_the_least, stopped_is_
 use Rattle.ol_law_levels.proofs.AskedTrees.{asked_heads, asked_kept, last_tree_tells}
 use Rattle.ol_law_levels.proofs.DemandPlaces.{demand_tells as places_told}
 use Rattle.ol_law_meaning.proofs.Based.{places_say}
+use Rattle.ol_law_meaning.proofs.FileNames.{file_names}
 use Rattle.ol_law_confluence.proofs.PrintedTrees.{says_always}
 use Rattle.ol_words.specs.Texts.{Text}
 use Rattle.ol_words.specs.declared.jobs.Job.{Job}
@@ -53,7 +55,7 @@ use Rattle.ol_rules.proofs.LeadRuns.{as_run}
 use Rattle.ol_cli.proofs.DemandRuns.{demand_is_longer}
 use Rattle.ol_cli.proofs.StartNet.{start_net_is_fit, is_less}
 use Rattle.ol_cli.proofs.EveryRun.{every_run_prints, every_run_is_longer}
-use Rattle.ol_cli.proofs.OneAnswer.{file_net, file_names, one_job, own_job}
+use Rattle.ol_cli.proofs.OneAnswer.{file_net, one_job, own_job}
 use Rattle.ol_cli.proofs.Exact.{ends_exact}
 use Rattle.ol_limits.specs.Limits.{plain_fuel, plain_heads}
 
@@ -209,9 +211,6 @@ module _ (tr : Translation) (bytes : List ℕ) (fuel heads : ℕ) (name : Text) 
       last_is_longer (runs_out tr bytes fuel heads name t names f text h) last
   demand_tells _ text h last old new = tt
 
-same_bytes : (a b : List ℕ) → Some a ≡ Some b → a ≡ b
-same_bytes a b e = cc
-
 fuel_tells : (files : Files) (bytes : List ℕ) (st : Status) (text : List ℕ) (t : Tree)
     (names : List (List ℕ)) → IsFileOf bytes t names → (job : Job) →
     term_bytes (files 0) job ≡ Some bytes → JobAnswer files st text job →
@@ -219,7 +218,7 @@ fuel_tells : (files : Files) (bytes : List ℕ) (st : Status) (text : List ℕ) 
 fuel_tells files bytes st text t names f (jobs.Demand tr fuel heads name) told
     (of_file {bytes = other} has e h) =
     let own = subst (λ b. FileAnswer (jobs.Demand tr fuel heads name) b st text)
-    (same_bytes other bytes (sym e ∙ told)) h in
+    (same_Some other bytes (sym e ∙ told)) h in
     spent_tells tr bytes fuel heads name t names f st text own
 fuel_tells files bytes st text t names f _ told a = tt
 
@@ -232,15 +231,15 @@ module _ (files : Files) (bytes : List ℕ) (st : Status) (text : List ℕ) (old
       JobTells job names journal net st old new
   answer_tells (jobs.Run tr workers fuel heads name) last ran told (of_file {bytes = other} has e h) =
       let own = subst (λ b. FileAnswer (jobs.Run tr workers fuel heads name) b st text)
-      (same_bytes other bytes (sym e ∙ told)) h in
+      (same_Some other bytes (sym e ∙ told)) h in
       runs_tell tr bytes workers fuel heads name t names f st text old new own written journal net ran last
   answer_tells (jobs.Gen tr true k) last ran told (made m) =
-      let own = subst (λ b. FileAnswer (plain_run tr) b st text) (same_bytes (doubled_text k) bytes told) m in
+      let own = subst (λ b. FileAnswer (plain_run tr) b st text) (same_Some (doubled_text k) bytes told) m in
       runs_tell tr bytes 4 200000 4096 (codes "-") t names f st text old new own written journal net ran last
   answer_tells (jobs.Gen tr true k) last ran told (of_file has e h) = absurd has
   answer_tells (jobs.Demand tr fuel heads name) last ran told (of_file {bytes = other} has e h) =
       let own = subst (λ b. FileAnswer (jobs.Demand tr fuel heads name) b st text)
-      (same_bytes other bytes (sym e ∙ told)) h in
+      (same_Some other bytes (sym e ∙ told)) h in
       demand_tells tr bytes fuel heads name t names f journal net ran st text own last old new
   answer_tells _ last ran told a = tt
 

@@ -5,7 +5,7 @@ use Rattle.ol_term.specs.Trees.{Tree}
 use Rattle.ol_translate.proofs.TermSizes.{counted}
 use Rattle.ol_cli.specs.TermFiles.{IsTermFile}
 use Rattle.ol_cli.specs.Ready.{IsReducible}
-use Rattle.ol_cli.proofs.OneAnswer.{file_names}
+use Rattle.ol_law_meaning.proofs.FileNames.{file_names}
 
 -- the term of a file within the limits can be reduced
 pub reducible : (tr : Translation) (bytes : List ℕ) (t : Tree) (names : List (List ℕ)) →

@@ -16,16 +16,12 @@ use Rattle.ol_words.specs.Jobs.{Setting, setting_row, verb_row, verb_named, know
 use Rattle.ol_words.specs.Jobs.{number_on, numbers, job_on, job_behind, job_of}
 use Rattle.ol_words.specs.Jobs as set
 use Rattle.ol_cli.specs.Jobs.{IsWithinLimits}
+use Rattle.ol_law_edges.proofs.Options.{mapped}
 
 and_then_some : {A B : Type 0} (f : A → Option B) (o : Option A) (b : B) →
     option_and_then f o ≡ Some b → (a : A) × (o ≡ Some a) × (f a ≡ Some b)
 and_then_some f (Some a) b h = (a, refl, h)
 and_then_some f None b h = absurd (cc)
-
-map_some : {A B : Type 0} (f : A → B) (o : Option A) (b : B) → option_map f o ≡ Some b →
-    (a : A) × (o ≡ Some a) × (f a ≡ b)
-map_some f (Some a) b h = (a, refl, cc)
-map_some f None b h = absurd (cc)
 
 -- ---- a number
 
@@ -70,7 +66,7 @@ first_number : (number : Setting → Option ℕ) (s : Setting) (rest : List Sett
     (n : ℕ) × (more : List ℕ) × (number s ≡ Some n) × (numbers number rest ≡ Some more) × (n ∷ more ≡ ns)
 first_number number s rest ns h =
     let t = and_then_some (λ (n : ℕ). option_map (λ (more : List ℕ). n ∷ more) (numbers number rest)) (number s) ns h in
-    let u = map_some (λ (more : List ℕ). t.0 ∷ more) (numbers number rest) ns t.2 in
+    let u = mapped (λ (more : List ℕ). t.0 ∷ more) (numbers number rest) ns t.2 in
     (t.0, u.0, t.1, u.1, u.2)
 
 -- each number is within the limits of its setting
@@ -106,7 +102,7 @@ doubled_within : (job : ℕ → Job) (text : Text) (a : Job) →
     ((k : ℕ) → k ≤ 10 → IsWithinLimits (job k)) →
     option_map job (number_within doublings text) ≡ Some a → IsWithinLimits a
 doubled_within job text a each h =
-    let is = map_some job (number_within doublings text) a h in
+    let is = mapped job (number_within doublings text) a h in
     let t = three (is_number text) (nat_le doublings.least (digits_value 10 text))
     (nat_le (digits_value 10 text) doublings.most) (digits_value 10 text) is.0 is.1 in
     subst IsWithinLimits {x = job is.0} is.2

@@ -1,7 +1,6 @@
 -- Marks on lists of numbers, up and down.
-use Rattle.std.proofs.Common.{◌≡◌, ℕ, zero, suc, ◌+◌, ◌-◌, ◌<◌, ◌≤◌, List, [], ◌∷◌, ◌++◌, length}
-use Rattle.std.proofs.Common.{get_or, set, replicate, refl, sym, ap, ◌∙◌, arith, add-one}
-use Rattle.std.proofs.Common.{length-append}
+use Rattle.std.proofs.Common.{◌≡◌, ℕ, zero, suc, ◌+◌, ◌-◌, ◌<◌, ◌≤◌, List, [], ◌∷◌, ◌++◌, length, get_or, set}
+use Rattle.std.proofs.Common.{replicate, refl, sym, ap, ◌∙◌, arith, add-one, length-append}
 use Rattle.std.specs.List.{insert, remove}
 use Rattle.std.proofs.lemmas.List.{length-replicate}
 use Rattle.ol_context.specs.Contexts.{Level, empty, pair, Context, cons, at_level, marked, mark, packed}
@@ -9,10 +8,9 @@ use Rattle.ol_context.specs.Shapes.{value, AreHeld, context_of, Extends, IsNumbe
 use Rattle.ol_context.specs.Crossings.{Becomes, ComesFrom, NoneInto}
 use Rattle.ol_context.proofs.Shapes.{context_more, held_more}
 use Rattle.ol_context.proofs.LevelLists.{after, at_level_at}
-use Rattle.ol_context.proofs.ValueLists.{held_set, held_append, held_replicate, held_insert}
-use Rattle.ol_context.proofs.ValueLists.{held_remove, level_is, pad_is, past_level, past_put}
-use Rattle.ol_context.proofs.ValueLists.{insert_is, marked_up, marked_down, put_down, packed_up}
-use Rattle.ol_context.proofs.ValueLists.{packed_down}
+use Rattle.ol_context.proofs.ValueLists.{held_set, held_append, held_replicate, held_insert, held_remove, level_is}
+use Rattle.ol_context.proofs.ValueLists.{pad_is, past_level, past_put, insert_is, marked_up, marked_down, put_down}
+use Rattle.ol_context.proofs.ValueLists.{packed_up, packed_down}
 
 -- what stands at level i within the list
 pub level_in : (vs : List Level) (ns : List ℕ) (i d : ℕ) → i < length ns → context_of vs ns i ≡ value vs (get_or ns i d)

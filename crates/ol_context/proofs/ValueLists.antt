@@ -6,9 +6,8 @@ use Rattle.std.proofs.lemmas.List.{length-map, map-append, map-set, get_or_past}
 use Rattle.ol_context.specs.Contexts.{Level, empty, pair, Context, levels, cons, tail, at_level, marked, mark, packed}
 use Rattle.ol_context.proofs.Contexts.{eta, cons_eta}
 use Rattle.ol_context.specs.Shapes.{value, AreHeld, context_of}
-use Rattle.ol_context.proofs.LevelLists.{after, after_first, at_level_same, at_level_id}
-use Rattle.ol_context.proofs.LevelLists.{at_level_two, at_level_next, levels_at, levels_set}
-use Rattle.ol_context.proofs.LevelLists.{levels_insert, levels_remove, levels_pad, at_level_past}
+use Rattle.ol_context.proofs.LevelLists.{after, after_first, at_level_same, at_level_id, at_level_two, at_level_next}
+use Rattle.ol_context.proofs.LevelLists.{levels_at, levels_set, levels_insert, levels_remove, levels_pad, at_level_past}
 
 -- what is held
 pub held_set : (vs : List Level) (ns : List ℕ) (i w : ℕ) → AreHeld vs ns → w < length vs → AreHeld vs (set ns i w)

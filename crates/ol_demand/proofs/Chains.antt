@@ -10,9 +10,8 @@ use Rattle.ol_context.proofs.Ways.{way_one, way_exits}
 use Rattle.ol_context.proofs.Exits.{Three, three, no_stop}
 use Rattle.ol_rules.proofs.FreshPairs.{linked_sym}
 use Rattle.ol_rules.proofs.OneRun.{ArePaired}
-use Rattle.ol_demand.specs.Chains.{IsAtPair, IsAtNoPair, Chain, starts, crosses, End, met, left}
-use Rattle.ol_demand.specs.Chains.{undefined, budget, Stands, at_pair, at_port, barred, at_last}
-use Rattle.ol_demand.specs.Chains.{Ends}
+use Rattle.ol_demand.specs.Chains.{IsAtPair, IsAtNoPair, Chain, starts, crosses, End, met, left, undefined, budget}
+use Rattle.ol_demand.specs.Chains.{Stands, at_pair, at_port, barred, at_last, Ends}
 use Rattle.ol_demand.proofs.Pairs.{no_free}
 
 -- two ends are the same, but for which of two nodes is given first

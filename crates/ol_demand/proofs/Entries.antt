@@ -1,7 +1,6 @@
 -- A step of a pair as an entry of a journal, under the names of a run.
-use Rattle.std.proofs.Common.{◌≡◌, ℕ, zero, suc, ◌+◌, ◌-◌, ◌<◌, ◌≤◌, List, [], ◌∷◌, ◌++◌, length}
-use Rattle.std.proofs.Common.{get_or, if◌then◌else◌, Bool, true, false, nat_lt, ◌⊎◌, inl, inr, refl}
-use Rattle.std.proofs.Common.{sym, ap, ◌∙◌, subst, arith, add-one}
+use Rattle.std.proofs.Common.{◌≡◌, ℕ, zero, suc, ◌+◌, ◌-◌, ◌<◌, ◌≤◌, List, [], ◌∷◌, ◌++◌, length, get_or, if◌then◌else◌}
+use Rattle.std.proofs.Common.{Bool, true, false, nat_lt, ◌⊎◌, inl, inr, refl, sym, ap, ◌∙◌, subst, arith, add-one}
 use Rattle.std.proofs.lemmas.Bool.{cases_lt}
 use Rattle.std.proofs.lemmas.Bool.Decides.{nat_tests}
 use Rattle.std.proofs.lemmas.List.{get_or_append_left, get_or-append_right, get_or_push, length_push}
@@ -15,13 +14,12 @@ use Rattle.ol_rules.specs.declared.journal.Entry.{Entry}
 use Rattle.ol_rules.specs.Names.{IsNamed}
 use Rattle.ol_rules.specs.Rewriting.{IsStep}
 use Rattle.ol_rules.specs.Runs.{names_born}
-use Rattle.ol_rules.specs.UnderWay.{name_in}
+use Rattle.ol_rules.specs.UnderWay.{name_in, Advances}
 use Rattle.ol_rules.specs.Steps.{StepsAt}
 use Rattle.ol_rules.proofs.NameOrder.{Names, names_apart, names_after, names_after_old, names_on}
 use Rattle.ol_rules.proofs.Renaming.{step_under}
 use Rattle.ol_rules.proofs.OnTheWay.{entry_names, length-names_born}
 use Rattle.ol_demand.specs.Asking.{IsNaming, AreNamesOf}
-use Rattle.ol_rules.specs.UnderWay.{Advances}
 use Rattle.ol_rules.specs.declared.under_way.UnderWay.{UnderWay}
 
 pub as_names : (start next ticket : ℕ) (m : ℕ → NodeName) → IsNaming start next ticket m → Names start next ticket m

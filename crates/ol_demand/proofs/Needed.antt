@@ -1,13 +1,12 @@
 -- Each pair that is rewritten is rewritten in every complete run.
 use Rattle.std.proofs.Common.{List, subst}
-use Rattle.ol_net.specs.Nets.{NamedNet}
+use Rattle.ol_net.specs.Nets.{NamedNet, net_under}
 use Rattle.ol_rules.specs.declared.journal.NodeName.{NodeName}
 use Rattle.ol_rules.specs.declared.journal.Entry.{Entry}
 use Rattle.ol_diamond.specs.Runs.{IsPairRun}
 use Rattle.ol_diamond.proofs.Confluence.{each_pair_is_among}
 use Rattle.ol_diamond.proofs.Journals.{birth_follows, complete_follows}
 use Rattle.ol_diamond.proofs.OneThreadRuns.{start_alike}
-use Rattle.ol_net.specs.Nets.{net_under}
 use Rattle.ol_readback.specs.declared.answers.ReadNode.{ReadNode}
 use Rattle.ol_demand.specs.Answers.{IsNeeded}
 use Rattle.ol_demand.specs.Demands.{Asking, Turns}

@@ -1,25 +1,20 @@
 -- A whole demand run of a graph.
-use Rattle.std.proofs.Common.{◌≡◌, ℕ, ◌+◌, ◌-◌, ◌*◌, ◌≤◌, ◌↔◌, List, [], ◌∷◌, ◌++◌, length, Bool}
-use Rattle.std.proofs.Common.{false, refl, ap, arith}
+use Rattle.std.proofs.Common.{◌≡◌, ℕ, ◌+◌, ◌-◌, ◌*◌, ◌≤◌, ◌↔◌, List, [], ◌∷◌, ◌++◌, length, false, refl, ap, arith}
 use Rattle.ol_net.specs.Graph.{Graph}
 use Rattle.ol_net.specs.Nets.{NamedNet, IsNet, net_under}
 use Rattle.ol_net.specs.Numbered.{net_of}
-use Rattle.ol_context.specs.Paths.{HaveSamePaths}
 use Rattle.ol_invariance.proofs.Renamed.{renamed}
 use Rattle.ol_rules.specs.declared.journal.NodeName.{NodeName}
 use Rattle.ol_rules.specs.declared.journal.NodeName.TheVariants.{Init}
 use Rattle.ol_rules.specs.declared.journal.Entry.{Entry}
 use Rattle.ol_rules.proofs.StartNets.{start_net, start_named, one_start}
 use Rattle.ol_readback.specs.Askers.{Reading, the_start, IsOver}
-use Rattle.ol_readback.specs.Frames.{Frame}
-use Rattle.ol_readback.specs.ReadTrees.{Subterm, framed}
-use Rattle.ol_readback.specs.Sources.{HaveHeadsOf, HasHeadsOf}
-use Rattle.ol_readback.specs.Sources as sources
+use Rattle.ol_readback.specs.Sources.{HasHeadsOf}
 use Rattle.ol_readback.specs.Texts.{AreNamed}
 use Rattle.ol_readback.specs.Whole.{IsWholeTree}
 use Rattle.ol_readback.specs.declared.answers.ReadNode.{ReadNode}
 use Rattle.ol_readback.proofs.Forests.{heads_are_whole}
-use Rattle.ol_readback.proofs.Kept.{heads_are_kept}
+use Rattle.ol_readback.proofs.Kept.{heads_moved}
 use Rattle.ol_readback.proofs.Named.{heads_are_named}
 use Rattle.ol_demand.specs.Answers.{start_of, IsAnswer, IsSpent, IsNeeded}
 use Rattle.ol_demand.specs.Asking.{IsLeftOff, IsRunning}
@@ -42,17 +37,6 @@ is_start old n = record {
   named = start_named (net_of old);
   once = once_under Init one_start (net_of old) (once old);
 }
-
--- heads of a net with the same paths
-heads_moved : {A B : Type 0} (N : NamedNet A) (M : NamedNet B) → HaveSamePaths N M →
-    (lost_too : Bool) {F : List Frame} {ss : List Subterm} {ns : List ReadNode} →
-    HaveHeadsOf N lost_too F ss ns → HaveHeadsOf M lost_too F ss ns
-heads_moved N M p b sources.end = sources.end
-heads_moved N M p b (sources.cut r) = sources.cut (heads_moved N M p b r)
-heads_moved N M p b (sources.lost {frames = F} {s = s} h r) = sources.lost
-    (λ e. heads_are_kept N M p (F ++ framed s 0 ∷ []) (length F) _ (h e)) (heads_moved N M p b r)
-heads_moved N M p b (sources.found {frames = F} {s = s} h r) = sources.found
-    (heads_are_kept N M p (F ++ framed s 0 ∷ []) (length F) _ h) (heads_moved N M p b r)
 
 pub graph_heads : (old : Graph) → IsNet (net_of old) →
     (heads : ℕ) (journal : List Entry) (places : List ReadNode) (M : NamedNet NodeName) →

@@ -12,8 +12,7 @@ use Rattle.ol_rules.specs.declared.journal.Entry.{Entry}
 use Rattle.ol_rules.specs.declared.journal.NodeName.{NodeName}
 use Rattle.ol_rules.specs.Runs.{names_born}
 use Rattle.ol_readback.specs.declared.answers.ReadNode.{ReadNode}
-use Rattle.ol_rules.proofs.OnTheWay.{length-names_born}
-use Rattle.ol_rules.proofs.OnTheWay.{step_few}
+use Rattle.ol_rules.proofs.OnTheWay.{length-names_born, step_few}
 use Rattle.ol_readback.specs.Askers.{IsKnownHead}
 use Rattle.ol_readback.specs.Frames.{Frame, os, asked, frame_at, frame_of, frames_of, ParentsFirst, AreHeldFrames}
 use Rattle.ol_readback.specs.Heads.{Answer, IsMatched, matched, unmatched, answer_of}
@@ -30,9 +29,8 @@ use Rattle.ol_demand.specs.Chains.{Ends}
 use Rattle.ol_demand.specs.Chaining.{MetBy, IsEndOf, question_of}
 use Rattle.ol_demand.specs.Demands.{asks}
 use Rattle.ol_demand.specs.Answers.{StopsOnTheWay}
-use Rattle.ol_demand.specs.Asking.{IsUnderWay, IsRunning}
+use Rattle.ol_demand.specs.Asking.{IsUnderWay, IsRunning, AdvancesEither, StopsEither}
 use Rattle.ol_rules.specs.UnderWay.{entry_for, Advances}
-use Rattle.ol_demand.specs.Asking.{AdvancesEither, StopsEither}
 use Rattle.ol_demand.specs.declared.answers.End.{End}
 use Rattle.ol_rules.specs.declared.under_way.UnderWay.{UnderWay}
 use Rattle.ol_demand.proofs.Chains.{path_at}

@@ -14,9 +14,8 @@ use Rattle.ol_readback.specs.Heads.{Answer}
 use Rattle.ol_readback.specs.ReadTrees.{Subterm}
 use Rattle.ol_readback.specs.declared.answers.ReadNode.{ReadNode}
 use Rattle.ol_demand.specs.Chains.{End, met, undefined, Stands, at_pair, at_port, barred, at_last}
-use Rattle.ol_demand.specs.Demands.{Asking, ChainEnds, Meets, IsFound, exits, lost, spent, Turn}
-use Rattle.ol_demand.specs.Demands.{rewrites, one_more, finds, Turns, begins, and_then, IsDemandRun}
-use Rattle.ol_demand.specs.Demands.{GoesOn}
+use Rattle.ol_demand.specs.Demands.{Asking, ChainEnds, Meets, IsFound, exits, lost, spent, Turn, rewrites, one_more}
+use Rattle.ol_demand.specs.Demands.{finds, Turns, begins, and_then, IsDemandRun, GoesOn}
 use Rattle.ol_demand.proofs.LiveNodes.{live_same}
 use Rattle.ol_demand.proofs.OneDemand.{once_kept}
 use Rattle.ol_demand.proofs.SameChains.{ends_same}

@@ -3,8 +3,7 @@ use Rattle.std.proofs.Common.{◌≡◌, ℕ, suc, ◌*◌, ◌≤◌, inl, inr,
 use Rattle.ol_law_edges.specs.Edges.{here, on}
 use Rattle.ol_net.specs.declared.parts.Kind.{Kind}
 use Rattle.ol_net.specs.declared.parts.Rule.{Rule}
-use Rattle.ol_net.specs.Nets.{NamedNet, NamedPort, free, slot, HasNode, Linked, IsNet, IsPort}
-use Rattle.ol_net.specs.Nets.{IsPrincipalOf, IsSlotOf}
+use Rattle.ol_net.specs.Nets.{NamedNet, NamedPort, free, slot, HasNode, Linked, IsNet, IsPort, IsPrincipalOf, IsSlotOf}
 use Rattle.ol_context.specs.Contexts.{Context}
 use Rattle.ol_context.specs.Paths.{Crosses, inward, outward}
 use Rattle.ol_context.specs.Short.{live}

@@ -10,9 +10,8 @@ use Rattle.ol_context.specs.Contexts.{Context}
 use Rattle.ol_context.specs.Paths.{Crosses, Through, through, IsBarred}
 use Rattle.ol_context.specs.Short.{live, IsOnce}
 use Rattle.ol_rules.proofs.Renaming.{node_to, node_back, link_to, active_to, active_from, one_port}
-use Rattle.ol_demand.specs.Chains.{IsAtPair, IsAtNoPair, Chain, starts, crosses, End, met, left}
-use Rattle.ol_demand.specs.Chains.{undefined, budget, Stands, at_pair, at_port, barred, at_last}
-use Rattle.ol_demand.specs.Chains.{Ends}
+use Rattle.ol_demand.specs.Chains.{IsAtPair, IsAtNoPair, Chain, starts, crosses, End, met, left, undefined, budget}
+use Rattle.ol_demand.specs.Chains.{Stands, at_pair, at_port, barred, at_last, Ends}
 
 -- the end of a chain under other names
 abbrev pub end_under : {A B : Type 0} → (A → B) → End A → End B

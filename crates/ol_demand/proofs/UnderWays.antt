@@ -12,7 +12,7 @@ use Rattle.ol_context.specs.Short.{live}
 use Rattle.ol_rules.specs.declared.journal.NodeName.{NodeName}
 use Rattle.ol_rules.specs.declared.journal.NodeName.TheVariants.{Init}
 use Rattle.ol_rules.specs.declared.journal.Entry.{Entry}
-use Rattle.ol_rules.specs.UnderWay.{name_in}
+use Rattle.ol_rules.specs.UnderWay.{name_in, Advances}
 use Rattle.ol_rules.specs.Steps.{StepsAt}
 use Rattle.std.proofs.lemmas.Bool.Decides.{nat_tests}
 use Rattle.ol_rules.proofs.NameOrder.{names_first, names_after, names_after_old}
@@ -25,12 +25,10 @@ use Rattle.ol_readback.specs.declared.answers.ReadNode.{ReadNode}
 use Rattle.ol_demand.specs.Chains.{IsAtPair, Ends}
 use Rattle.ol_demand.specs.Chains as chain
 use Rattle.ol_demand.specs.Chaining.{MetBy}
-use Rattle.ol_demand.specs.Demands.{Asking, asks, ChainEnds, Meets, IsFound, exits, lost, spent}
-use Rattle.ol_demand.specs.Demands.{place_of, next, Turn, rewrites, one_more, finds, Turns, begins}
-use Rattle.ol_demand.specs.Demands.{and_then}
+use Rattle.ol_demand.specs.Demands.{Asking, asks, ChainEnds, Meets, IsFound, exits, lost, spent, place_of, next, Turn}
+use Rattle.ol_demand.specs.Demands.{rewrites, one_more, finds, Turns, begins, and_then}
 use Rattle.ol_demand.specs.Answers.{start_of, StopsOnTheWay}
 use Rattle.ol_demand.specs.Asking.{IsNaming, IsUnderWay, IsLeftOff}
-use Rattle.ol_rules.specs.UnderWay.{Advances}
 use Rattle.ol_rules.specs.declared.under_way.UnderWay.{UnderWay}
 use Rattle.ol_demand.proofs.Entries.{is_naming, one_name, named_entry, named_step, names_of_next, after_step}
 use Rattle.ol_demand.proofs.LiveNodes.{once}

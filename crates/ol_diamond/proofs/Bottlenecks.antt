@@ -1,7 +1,6 @@
 -- The least weight within which two vertices are joined by the edges of a list.
-use Rattle.std.proofs.Common.{◌≡◌, ℕ, ◌≤◌, min, max, nat_lt, ltb-true, List, [], ◌∷◌, Option, Some}
-use Rattle.std.proofs.Common.{None, Bool, true, false, cond, ◌⊎◌, inl, inr, refl, sym, ap, subst}
-use Rattle.std.proofs.Common.{arith}
+use Rattle.std.proofs.Common.{◌≡◌, ℕ, ◌≤◌, min, max, nat_lt, ltb-true, List, [], ◌∷◌, Option, Some, None, Bool, true}
+use Rattle.std.proofs.Common.{false, cond, ◌⊎◌, inl, inr, refl, sym, ap, subst, arith}
 use Rattle.std.proofs.lemmas.Bool.{ltb-false}
 use Rattle.ol_law_edges.specs.Edges.{IsTest, Joined, here, on, back}
 use Rattle.ol_law_edges.proofs.Joining.{joined_trans, joined_map}

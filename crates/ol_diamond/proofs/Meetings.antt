@@ -14,9 +14,8 @@ use Rattle.ol_rules.proofs.FreshPairs.{linked_sym}
 use Rattle.ol_rules.proofs.Tests.{port_test}
 use Rattle.ol_diamond.specs.Waves.{WeightedNet, LinkedWithin, LeftWithin}
 use Rattle.ol_diamond.proofs.Weighted.{iff_trans}
-use Rattle.ol_diamond.proofs.OneJoin.{AreLinks, IsOneOf, JoinedAt, AndJoin, Left, linked, by_a}
-use Rattle.ol_diamond.proofs.OneJoin.{by_b, left_of, of_left, links_left, AreWithin, StaysGreatest}
-use Rattle.ol_diamond.proofs.OneJoin.{within_left}
+use Rattle.ol_diamond.proofs.OneJoin.{AreLinks, IsOneOf, JoinedAt, AndJoin, Left, linked, by_a, by_b, left_of, of_left}
+use Rattle.ol_diamond.proofs.OneJoin.{links_left, AreWithin, StaysGreatest, within_left}
 
 max_comm : (a b : ℕ) → max a b ≡ max b a
 max_comm a b = omega arith

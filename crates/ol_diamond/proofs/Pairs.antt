@@ -21,16 +21,13 @@ use Rattle.ol_rules.proofs.FreshPairs.{linked_sym}
 use Rattle.ol_rules.proofs.Relation.{net_kept}
 use Rattle.ol_rules.proofs.Tests.{nat_test}
 use Rattle.ol_rules.proofs.OnTheWay.{fresh_numbers}
+use Rattle.ol_rules.proofs.OneRun.{ArePaired}
 use Rattle.ol_diamond.specs.Squares.{AreTogether}
 use Rattle.ol_diamond.proofs.Commute.{Disjoint, faces_still}
 
 -- x is one of two nodes
 abbrev pub IsOneOf : {A : Type 0} → A → A → A → Type 0
 IsOneOf x f g = (x ≡ f) ⊎ (x ≡ g)
-
--- two nodes are the same two, in one order or the other
-abbrev pub AreSameTwo : {A : Type 0} → A → A → A → A → Type 0
-AreSameTwo f g f' g' = ((f ≡ f') × (g ≡ g')) ⊎ ((f ≡ g') × (g ≡ f'))
 
 module _ {A : Type 0} (N : NamedNet A) (is_net : IsNet N) where
   abbrev Joins : A → A → Type 0
@@ -76,7 +73,7 @@ module _ {A : Type 0} (N : NamedNet A) (is_net : IsNet N) where
       record { ff = d.gg; fg = d.gf; gf = d.fg; gg = d.ff }
 
   -- two pairs with one node in common are one
-  pub same_two : (x f g f' g' : A) → IsOneOf x f g → IsOneOf x f' g' → Joins f g → Joins f' g' → AreSameTwo f g f' g'
+  pub same_two : (x f g f' g' : A) → IsOneOf x f g → IsOneOf x f' g' → Joins f g → Joins f' g' → ArePaired f g f' g'
   same_two x f g f' g' (inl a) (inl b) h h' = let e = sym a ∙ b in
       inl (e, one_partner f g g' h (at_first f' f g' (sym e) h'))
   same_two x f g f' g' (inl a) (inr b) h h' = let e = sym a ∙ b in
@@ -108,7 +105,7 @@ births_turned r k l = go (is_meeting r)
 -- One active pair, seen twice: where the two nodes are written in different orders, it makes no node.
 pub record IsSeenTwice {A : Type 0} {N M : NamedNet A} {f g f' g' : A} {r : Rule}
     (a : IsActive N f g r) (b : IsActive M f' g' r) : Type 0 where
-  pub two : AreSameTwo f g f' g'
+  pub two : ArePaired f g f' g'
   pub names : (births r a.k a.l ≡ 0) ⊎ ((f ≡ f') × (g ≡ g'))
   pub count : births r a.k a.l ≡ births r b.k b.l
 
@@ -122,7 +119,7 @@ seen_twice {A} N M is_net x f g f' g' r a b o o' faces = go
     same_kind : (y z : A) (k l : Kind) (i j : ℕ) → y ≡ z → HasNode M y k i → HasNode M z l j → (k ≡ l) × (i ≡ j)
     same_kind y z k l i j e h h' = is_net.one_node y k l i j h (subst (λ w. HasNode M w l j) (sym e) h')
 
-    go : AreSameTwo f g f' g' → IsSeenTwice a b
+    go : ArePaired f g f' g' → IsSeenTwice a b
     go (inl (e, e')) =
         let p = same_kind f f' a.k b.k a.i b.i e faces.first b.faces.first in
         let q = same_kind g g' a.l b.l a.j b.j e' faces.second b.faces.second in

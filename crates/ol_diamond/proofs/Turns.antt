@@ -15,6 +15,7 @@ use Rattle.ol_rules.proofs.FreshPairs.{linked_sym}
 use Rattle.ol_rules.proofs.Relation.{same_refl, same_sym, same_trans}
 use Rattle.ol_rules.proofs.Renaming.{node_to, link_to, node_back, link_back, net_alike}
 use Rattle.ol_rules.proofs.OnTheWay.{node_below, fresh_numbers}
+use Rattle.ol_rules.proofs.OneRun.{ArePaired}
 use Rattle.ol_diamond.specs.Births.{BirthName, init, born, IsBirthNet}
 use Rattle.ol_diamond.specs.Runs.{BirthPair, IsSamePair, IsPairStep}
 use Rattle.ol_diamond.specs.Squares.{IsInNoActive, AreTogether, AreInOnePair, InTurn, born_between}
@@ -23,8 +24,7 @@ use Rattle.ol_diamond.proofs.Births.{fresh_of, start_is_birth_net}
 use Rattle.ol_diamond.proofs.Commute.{Disjoint}
 use Rattle.ol_diamond.proofs.Confluence.{step_keeps, take, one_pair, pairs_commute}
 use Rattle.ol_diamond.proofs.Renaming.{IsRenamed, under_renamed, renamed_under, agree, renamed}
-use Rattle.ol_diamond.proofs.Pairs.{one_partner, one_rule, AreSameTwo, IsSeenTwice, seen_twice}
-use Rattle.ol_diamond.proofs.Pairs.{after_net, apart, faces_after}
+use Rattle.ol_diamond.proofs.Pairs.{one_partner, one_rule, IsSeenTwice, seen_twice, after_net, apart, faces_after}
 
 -- ---- names by numbers
 
@@ -289,7 +289,7 @@ module _ (net ab ba : Graph) (a b : ℕ) (r s : Rule) (is_net : IsNet (net_of ne
   same_a : IsSamePair a_first a_second
   same_a = (refl, go a_twice.two)
     where
-      go : AreSameTwo t.first.f t.first.g u.second.f u.second.g →
+      go : ArePaired t.first.f t.first.g u.second.f u.second.g →
           ((a_first.f ≡ a_second.f) × (a_first.g ≡ a_second.g)) ⊎ ((a_first.f ≡ a_second.g) × (a_first.g ≡ a_second.f))
       go (inl (e, e')) = inl (
         kept_a t.first.f u.second.f a_active.k a_active.i a_active.faces.first
@@ -305,7 +305,7 @@ module _ (net ab ba : Graph) (a b : ℕ) (r s : Rule) (is_net : IsNet (net_of ne
   same_b : IsSamePair b_second b_first
   same_b = (refl, go b_twice.two)
     where
-      go : AreSameTwo u.first.f u.first.g t.second.f t.second.g →
+      go : ArePaired u.first.f u.first.g t.second.f t.second.g →
           ((b_second.f ≡ b_first.f) × (b_second.g ≡ b_first.g)) ⊎ ((b_second.f ≡ b_first.g) × (b_second.g ≡ b_first.f))
       go (inl (e, e')) = inl (
         sym (kept_b u.first.f t.second.f b_active.k b_active.i

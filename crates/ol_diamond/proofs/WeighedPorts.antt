@@ -2,6 +2,7 @@
 use Rattle.std.proofs.Common.{◌≡◌, ◌≢◌, ℕ, ◌+◌, ◌*◌, ◌<◌, max, true, List, length, Option, Some}
 use Rattle.std.proofs.Common.{None, get_or, ◌⊎◌, inl, inr, refl, sym, ap, ◌∙◌, subst, arith}
 use Rattle.std.proofs.lemmas.List.{get_or-set_same, get_or-set_other, length-set}
+use Rattle.std.proofs.lemmas.Bool.{cases_eq}
 use Rattle.ol_net.specs.declared.parts.Port.{Port}
 use Rattle.ol_net.specs.declared.parts.Port.TheVariants.{Free, Of}
 use Rattle.ol_net.specs.Graph.{Graph, IsTabled, has_port, place, port_at, partner_of}
@@ -13,7 +14,6 @@ use Rattle.ol_net.proofs.Places.{place-within, port_at-place, kind_at-within}
 use Rattle.ol_rules.specs.declared.journal.NodeName.{NodeName}
 use Rattle.ol_rules.proofs.NameOrder.{Names, names_apart}
 use Rattle.ol_rules.proofs.Renaming.{node_from, link_back, link_to}
-use Rattle.ol_rules.proofs.Waiting.{nat_is}
 use Rattle.ol_rules.specs.UnderWay.{node_number}
 use Rattle.ol_diamond.specs.PortWeights.{weight_at, raised_if, join_weight, joined_weights}
 use Rattle.ol_diamond.proofs.Meetings.{IsRaised}
@@ -71,7 +71,7 @@ module _ (g : Graph) (tabled : IsTabled g.free g.nodes g.partners) (weights : Li
       ⊎ ((o ≢ Some p) × (get_or (raised_if g.free weights o least)
       (place g.free p) 0 ≡ get_or weights (place g.free p) 0))
   after_one None least p h there = inr ((λ e. cc), refl)
-  after_one (Some q) least p h there = go (nat_is (place g.free p) (place g.free q))
+  after_one (Some q) least p h there = go (cases_eq (place g.free p) (place g.free q))
     where
       go : (place g.free p ≡ place g.free q) ⊎ (place g.free p ≢ place g.free q) →
           ((Some q ≡ Some p) × (get_or (raised_if g.free weights (Some q) least)

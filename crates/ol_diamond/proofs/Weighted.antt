@@ -1,18 +1,17 @@
 -- Steps of nets with weights commute, and so complete runs have the same waves.
-use Rattle.std.proofs.Common.{◌≡◌, ◌≢◌, ℕ, suc, ◌+◌, ◌≤◌, List, [], ◌∷◌, count_by, Bool, true}
-use Rattle.std.proofs.Common.{false, cond, Some, ◌⊎◌, ◌↔◌, inl, inr, refl, sym, ap, ◌∙◌, subst}
-use Rattle.std.proofs.Common.{arith, map}
+use Rattle.std.proofs.Common.{◌≡◌, ◌≢◌, ℕ, suc, ◌+◌, ◌≤◌, List, [], ◌∷◌, count_by, Bool, true, false, cond, Some, ◌⊎◌}
+use Rattle.std.proofs.Common.{◌↔◌, inl, inr, refl, sym, ap, ◌∙◌, subst, arith, map}
 use Rattle.std.proofs.lemmas.List.Sums.{sum_by-cons}
+use Rattle.std.proofs.lemmas.Bool.{cases_eq}
 use Rattle.ol_law_edges.specs.Edges.{Joined, here, on, back, Edge, Contracted, bit}
 use Rattle.ol_law_edges.proofs.Joining.{joined_map}
 use Rattle.ol_law_edges.proofs.Composing.{HasEdge, edge_of_apart, contracted_map, contracted_swap}
 use Rattle.ol_net.specs.declared.parts.Kind.{Kind}
 use Rattle.ol_net.specs.Rules.{rule_of}
 use Rattle.ol_net.specs.Nets.{NamedPort, slot, NamedNet, HasNode, Linked, SameNet, Faces, IsPrincipalOf, IsSlotOf}
-use Rattle.ol_net.specs.Pairs.{IsActive}
+use Rattle.ol_net.specs.Pairs.{IsActive, IsComplete}
 use Rattle.ol_rules.specs.Rewriting.{action_of, JoinOf, Rewrites}
 use Rattle.ol_rules.specs.Laws.{IsFresh}
-use Rattle.ol_net.specs.Pairs.{IsComplete}
 use Rattle.ol_rules.proofs.Relation.{same_refl, same_sym, same_trans, rewrites_same}
 use Rattle.ol_diamond.specs.Births.{BirthName, born, IsBirthNet}
 use Rattle.ol_diamond.specs.Runs.{BirthPair, IsSamePair, IsPairStep}
@@ -23,16 +22,13 @@ use Rattle.ol_diamond.specs.WaveLaws.{WavesAgree, EachPairHasItsWave, RunHasOneW
 use Rattle.ol_diamond.proofs.Births.{same_name, name_test}
 use Rattle.ol_diamond.proofs.TurnedJoins.{plain_of, turn_join}
 use Rattle.ol_diamond.proofs.Rewirings.{Edge2, Clear, left_after}
-use Rattle.ol_diamond.proofs.Commute.{Disjoint, disjoint_sym, decide, principal_slot, faced}
-use Rattle.ol_diamond.proofs.Commute.{far_slots, own_slot_f, own_slot_g, clear_joins, faces_still}
-use Rattle.ol_diamond.proofs.Commute.{square}
-use Rattle.ol_diamond.proofs.Confluence.{fresh_in, step_keeps, take, pair_is, pair_sym, pair_refl}
-use Rattle.ol_diamond.proofs.Confluence.{rename, one_pair, disjoint, pair_trans, tell, tell_holds}
-use Rattle.ol_diamond.proofs.Confluence.{told, tell_same, counted, found}
+use Rattle.ol_diamond.proofs.Commute.{Disjoint, disjoint_sym, decide, principal_slot, faced, far_slots, own_slot_f}
+use Rattle.ol_diamond.proofs.Commute.{own_slot_g, clear_joins, faces_still, square}
+use Rattle.ol_diamond.proofs.Confluence.{fresh_in, step_keeps, take, pair_is, pair_sym, pair_refl, rename, one_pair}
+use Rattle.ol_diamond.proofs.Confluence.{disjoint, pair_trans, tell, tell_holds, told, tell_same, counted, found}
 use Rattle.ol_diamond.proofs.Journals.{AreSamePairs}
 use Rattle.ol_diamond.proofs.Orders as orders
 use Rattle.ol_diamond.proofs.Orders.{Commuting}
-use Rattle.ol_rules.proofs.Waiting.{nat_is}
 
 abbrev pub Port : Type 0
 Port = NamedPort BirthName
@@ -417,7 +413,7 @@ weighted_square s t u p q g h h' other =
     )
 
 label_is : (p q : Label) → IsSameWave p q ⊎ (IsSameWave p q → ⊥)
-label_is p q = go (pair_is p.0 q.0) (nat_is p.1 q.1)
+label_is p q = go (pair_is p.0 q.0) (cases_eq p.1 q.1)
   where
     go : IsSamePair p.0 q.0 ⊎ (IsSamePair p.0 q.0 → ⊥) → (p.1 ≡ q.1) ⊎ (p.1 ≢ q.1) →
         IsSameWave p q ⊎ (IsSameWave p q → ⊥)

@@ -19,6 +19,7 @@ use Rattle.ol_families.specs.Letters.{letters_of, most_letters}
 use Rattle.ol_families.proofs.Renaming.{renamed, relabelled, numbered, reduces_too, erased_too, letters_in_too}
 use Rattle.ol_families.proofs.Renaming.{letters_of_too, up_to_letters, AreOneUpToLetters}
 use Rattle.ol_families.proofs.Rows.{same_some}
+use Rattle.ol_law_optimality.proofs.Counts.{no_more}
 
 -- ---- two reductions of one labelled term
 
@@ -109,46 +110,10 @@ not_both x s (inr p) = let b = s.1 in absurd (omega (arith, p, b))
 
 -- ---- how many different ones there are
 
-record Out (x : Label) (ys : List Label) : Type 0 where
-  others : List Label
-  shorter : length ys ≡ suc (length others)
-  still : (z : Label) → IsIn z ys → (z ≡ x) ⊎ IsIn z others
-
-out : (x : Label) (ys : List Label) → IsIn x ys → Out x ys
-out x [] i = absurd i
-out x (y ∷ ys) (inl e) = record { others = ys; shorter = refl; still = λ z i. by z i }
-  where
-    by : (z : Label) → IsIn z (y ∷ ys) → (z ≡ x) ⊎ IsIn z ys
-    by z (inl q) = inl (q ∙ sym e)
-    by z (inr j) = inr j
-out x (y ∷ ys) (inr i) =
-    let o = out x ys i in
-    record { others = y ∷ o.others; shorter = ap suc o.shorter; still = λ z k. by o z k }
-  where
-    keep : (o : Out x ys) (z : Label) → (z ≡ x) ⊎ IsIn z o.others → (z ≡ x) ⊎ IsIn z (y ∷ o.others)
-    keep o z (inl q) = inl q
-    keep o z (inr k) = inr (inr k)
-
-    by : (o : Out x ys) (z : Label) → IsIn z (y ∷ ys) → (z ≡ x) ⊎ IsIn z (y ∷ o.others)
-    by o z (inl q) = inr (inl q)
-    by o z (inr k) = keep o z (o.still z k)
-
-no_longer : (xs ys : List Label) → AreDifferent xs → ((x : Label) → IsIn x xs → IsIn x ys) → length xs ≤ length ys
-no_longer [] ys d h = omega arith
-no_longer (x ∷ xs) ys d h =
-    let o = out x ys (h x (inl refl)) in
-    let l = no_longer xs o.others d.1 (λ z i. go o z i (o.still z (h z (inr i)))) in
-    let s = o.shorter in
-    omega arith
-  where
-    go : (o : Out x ys) (z : Label) → IsIn z xs → (z ≡ x) ⊎ IsIn z o.others → IsIn z o.others
-    go o z i (inl e) = absurd (d.0 (subst (λ z. IsIn z xs) e i))
-    go o z i (inr k) = k
-
 one_number : (ds : List Label) (n m : ℕ) → HasSoManyDifferent ds n → HasSoManyDifferent ds m → n ≡ m
 one_number ds n m (es, d, s, e) (fs, c, r, f) =
-    let a = no_longer es fs d (λ x i. (r x).1 ((s x).0 i)) in
-    let b = no_longer fs es c (λ x i. (s x).1 ((r x).0 i)) in
+    let a = no_more es fs d (λ x i. (r x).1 ((s x).0 i)) in
+    let b = no_more fs es c (λ x i. (s x).1 ((r x).0 i)) in
     omega (arith, a, b, e, f)
 
 length_map : (f : Label → Label) (ds : List Label) → length (map f ds) ≡ length ds

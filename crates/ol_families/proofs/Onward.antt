@@ -8,7 +8,7 @@ use Rattle.ol_beta.specs.Beta as beta
 use Rattle.ol_beta.specs.Beta.{IsWithin, IsPast}
 use Rattle.ol_beta.specs.Leftmost.{leftmost}
 use Rattle.ol_law_edges.specs.Edges.{IsIn}
-use Rattle.ol_law_edges.proofs.Lists.{in_cases, in_left, in_right, only}
+use Rattle.ol_law_edges.proofs.Lists.{in_cases, in_left, in_right, only, got_last}
 use Rattle.ol_law_optimality.specs.Families.{HaveOwnLetters}
 use Rattle.ol_law_optimality.specs.Readings.{AreDifferent}
 use Rattle.ol_law_optimality.specs.Labels.{Label, none, Labelled, erased, LeftmostContracts, ready, contract}
@@ -120,10 +120,6 @@ got_there [] k d e = absurd (clash e)
 got_there (x ∷ ls) zero d e = inl (sym (same_some e))
 got_there (x ∷ ls) (suc k) d e = inr (got_there ls k d e)
 
-last_place : (ls : List Label) (d : Label) → slice_get (ls ++ d ∷ []) (length ls) ≡ Some d
-last_place [] d = refl
-last_place (x ∷ ls) d = last_place ls d
-
 append_nil : (ls : List Label) → ls ≡ ls ++ []
 append_nil [] = refl
 append_nil (x ∷ ls) = ap (λ (ls : List Label). x ∷ ls) (append_nil ls)
@@ -148,7 +144,7 @@ noted ls d k after a (inl (e, g)) =
     }
 noted ls d k after a (inr (n, e, i)) =
     let h : slice_get after k ≡ Some d =
-    ap (λ (ls : List Label). slice_get ls k) e ∙ ap (λ (j : ℕ). slice_get (ls ++ d ∷ []) j) i ∙ last_place ls d in
+    ap (λ (ls : List Label). slice_get ls k) e ∙ ap (λ (j : ℕ). slice_get (ls ++ d ∷ []) j) i ∙ got_last ls d in
     record {
       more = d ∷ [];
       is = e;
@@ -288,7 +284,7 @@ module _ (t : Tree) (made : ℕ) (here : Tree) (h : Held) (ls : List Label) (wri
           let after = ls ++ label_of ls r ∷ [] in
           let o = has_step k h at next (ap (λ (t : Tree). beta.contracted t at) f.bare_is ∙ c) in
           let q : slice_index_or after k none ≡ label_of ls r =
-          get_or_from_slice_get after k (label_of ls r) none (last_place ls (label_of ls r)) in
+          get_or_from_slice_get after k (label_of ls r) none (got_last ls (label_of ls r)) in
           let i = named_step k after (label_of ls r ∷ []) refl q o.0 o.1 in
           let d : n ≡ held_letters o.0 = same_letters k 0 h at o.0 n o.1 a in
           let e = letters_are after o.0 in

@@ -18,6 +18,7 @@ use Rattle.ol_term.specs.Trees.{Tree, term_size}
 use Rattle.ol_term.specs.Trees as trees
 use Rattle.ol_families.specs.Counts.{IsShortLabelled, AreShortLabelled}
 use Rattle.ol_families.specs.Letters.{letters, letters_in, letters_of}
+use Rattle.ol_families.proofs.Rows.{in_get}
 
 abbrev pub renamed : (ℕ → ℕ) → Label → Label
 renamed ρ none = none
@@ -268,11 +269,6 @@ given_back ls n (app f a w) l h =
         sym (get_or-append-add (labels_in f) (labels_in a) j none) ∙ h (suc (length (labels_in f) + j)) (omega arith)
         ∙ ap (λ k. slice_index_or ls k none) z
 
-in_place : (ls : List Label) (k : ℕ) → k < length ls → IsIn (slice_index_or ls k none) ls
-in_place [] k l = absurd (omega arith)
-in_place (x ∷ ls) zero l = inl refl
-in_place (x ∷ ls) (suc k) l = inr (in_place ls k (omega arith))
-
 -- the place of letter k is k, where no letter has two places
 place_is : (ls : List Label) → AreDifferent ls → ((v : Label) → IsIn v ls → IsLetter v) → (k : ℕ) → k < length ls →
     place_of ls (letter_at ls k) ≡ k
@@ -284,7 +280,7 @@ place_is (x ∷ ls) d l (suc k) b =
     by : suc (place_of ls (letter_at ls k)) ≡ suc k → (b : Bool) → nat_eq (first x) (letter_at ls k) ≡ b →
         (if nat_eq (first x) (letter_at ls k) then 0 else suc (place_of ls (letter_at ls k))) ≡ suc k
     by next true e =
-        let i = in_place ls k (omega arith) in
+        let i = in_get ls k (omega arith) in
         let q : x ≡ slice_index_or ls k none = sym (letter_is x (l x (inl refl)))
         ∙ ap (λ n. atom n none) (eqb-true (first x) (letter_at ls k) e)
         ∙ letter_is (slice_index_or ls k none) (l (slice_index_or ls k none) (inr i)) in

@@ -4,7 +4,7 @@ use Rattle.std.proofs.Common.{length-append, Option, Some, None, refl, sym, ap, 
 use Rattle.std.specs.Prelude.{slice_get, slice_index_or}
 use Rattle.std.proofs.lemmas.List.{get_or_append_left}
 use Rattle.ol_law_edges.specs.Edges.{IsIn}
-use Rattle.ol_law_edges.proofs.Lists.{in_cases, only, got_append, get_there}
+use Rattle.ol_law_edges.proofs.Lists.{in_cases, only, got_append, get_there, got_left, got_last}
 use Rattle.ol_law_optimality.specs.Labels.{Label, none, atom, over, under, joined}
 use Rattle.ol_law_optimality.specs.Readings.{AreDifferent}
 use Rattle.ol_families.specs.declared.degrees.Letter.{Letter}
@@ -51,7 +51,7 @@ label_letters ls (Under k ∷ r) = let e = label_letters ls r in omega arith
 
 -- ---- different degrees have different places
 
-in_get : (ls : List Label) (k : ℕ) → k < length ls → IsIn (slice_index_or ls k none) ls
+pub in_get : (ls : List Label) (k : ℕ) → k < length ls → IsIn (slice_index_or ls k none) ls
 in_get [] k l = absurd (omega arith)
 in_get (x ∷ ls) zero l = inl refl
 in_get (x ∷ ls) (suc k) l = inr (in_get ls k (omega arith))
@@ -137,15 +137,6 @@ pub read_more : (ls : List Label) (rs : List (List Letter)) (r : List Letter) �
     read ls (rs ++ r ∷ []) ≡ read ls rs ++ label_of (read ls rs) r ∷ []
 read_more ls [] r = refl
 read_more ls (s ∷ rs) r = read_more (ls ++ label_of ls s ∷ []) rs r
-
-got_left : (ls ms : List Label) (k : ℕ) (d : Label) → slice_get ls k ≡ Some d → slice_get (ls ++ ms) k ≡ Some d
-got_left [] ms k d e = absurd (cc)
-got_left (x ∷ ls) ms zero d e = e
-got_left (x ∷ ls) ms (suc k) d e = got_left ls ms k d e
-
-got_last : (ls : List Label) (d : Label) → slice_get (ls ++ d ∷ []) (length ls) ≡ Some d
-got_last [] d = refl
-got_last (x ∷ ls) d = got_last ls d
 
 got_only : (r s : List Letter) (q : ℕ) → slice_get (r ∷ []) q ≡ Some s → (q ≡ 0) × (s ≡ r)
 got_only r s zero e = (refl, sym (same_some e))

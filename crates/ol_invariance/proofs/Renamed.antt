@@ -1,8 +1,7 @@
 -- A net under other names has the same paths, where no two of its nodes get one name.
 use Rattle.std.proofs.Common.{◌≡◌, ℕ, refl, sym, ap, ◌∙◌, subst}
 use Rattle.ol_context.specs.Contexts.{Context}
-use Rattle.ol_context.specs.Paths.{Path, ends, goes}
-use Rattle.ol_context.specs.Paths.{HaveSamePaths}
+use Rattle.ol_context.specs.Paths.{Path, ends, goes, HaveSamePaths}
 use Rattle.ol_net.specs.Nets.{NamedPort, free, slot, NamedNet, HasNode, Linked, IsPort, IsNet, port_under, net_under}
 use Rattle.ol_net.specs.declared.parts.Kind.{Kind}
 use Rattle.ol_rules.proofs.Renaming.{node_to, node_from, link_to, link_from}

@@ -1,6 +1,7 @@
 -- Labelled terms are normalised by the rules if redexes of too great a degree aren't contracted.
 -- Used in Traces and Ending.
 use Rattle.std.proofs.Common.{◌≡◌, ℕ, zero, suc, ◌+◌, ◌<◌, ◌≤◌, Bool, true, false, ◌⊎◌, inl, inr, refl, sym, subst, arith}
+use Rattle.std.proofs.lemmas.Bool.{cases_lt}
 use Rattle.ol_law_optimality.specs.Readings.{label_of}
 use Rattle.ol_law_optimality.proofs.Putting.{ren, up, inst}
 use Rattle.ol_law_optimality.proofs.Putting.{point, substituted_inst, inst_reduct, ren_reduct, before_reduct}
@@ -91,11 +92,6 @@ inst_step σ (at_redex {b = b} {c = c} {v = v} {w = w}) =
     moved_on (sym (inst_reduct σ w v c b)) (record { step = at_redex; argument = refl; degree = refl })
 inst_step σ (at_function s) = in_function (inst_step σ s)
 
-compare : (m n : ℕ) → (m ≤ n) ⊎ (n < m)
-compare zero n = inl (omega arith)
-compare (suc m) zero = inr (omega arith)
-compare (suc m) (suc n) = elim (compare m n) [ inl h ↦ inl (omega (arith, h)) | inr h ↦ inr (omega (arith, h)) ]
-
 module _ (K : ℕ) where
   plain_any : {k j : ℕ} {b : Bool} {t : Labelled} → Norm K k b t → true ≡ b → Norm K j true t
   plain_any of_var e = of_var
@@ -184,10 +180,10 @@ module _ (K : ℕ) where
       let g = size_joined w (over v none) in
       raised (relabelled (joined w (over v none)) q) (omega (arith, f, g))
 
-  at_lam : (v w : Label) (b c : Labelled) (k : ℕ) → k ≤ size v → ((K ≤ size v) ⊎ (size v < K)) →
+  at_lam : (v w : Label) (b c : Labelled) (k : ℕ) → k ≤ size v → ((size v < K) ⊎ (K ≤ size v)) →
       (size v < K → Applies (suc (size v))) → Norm K 0 false b → Norm K 0 false c → Norm K k false (app (lam b v) c w)
-  at_lam v w b c k h (inl g) next r s = too_great (at_redex {b = b} {c = c} {v = v} {w = w}) g
-  at_lam v w b c k h (inr g) next r s =
+  at_lam v w b c k h (inr g) next r s = too_great (at_redex {b = b} {c = c} {v = v} {w = w}) g
+  at_lam v w b c k h (inl g) next r s =
       of_redex at_redex s (raised (contracts v w b c (next g) r s) (let e = weight_before (joined w (over v none))
       (substituted (before (under v none) c) 0 b) in let f = size_joined w (over v none) in omega (arith, e, f, h)))
 
@@ -197,7 +193,7 @@ module _ (K : ℕ) where
   applied k next n w s of_free = plain (of_app of_free s)
   applied k next n w s (of_app r r') = plain (of_app (of_app r r') s)
   applied k next n w s (plain r) = plain (of_app r s)
-  applied k next n w s (of_lam {m = m} {w = v} h r) = at_lam v w m n k h (compare K (size v)) (next v h) r s
+  applied k next n w s (of_lam {m = m} {w = v} h r) = at_lam v w m n k h (cases_lt (size v) K) (next v h) r s
   applied k next n w s (of_redex q r u) = of_redex (at_function q) r (applied k next n w s u)
   applied k next n w s (too_great q h) = too_great (at_function q) h
 

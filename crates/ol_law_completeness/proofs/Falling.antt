@@ -3,8 +3,7 @@
 -- Used in Onward, Nodes and Bounding.
 use Rattle.std.proofs.Common.{◌≡◌, ℕ, zero, suc, ◌+◌, ◌<◌, length, Bool, true, false, [], ◌∷◌, nat_eq}
 use Rattle.std.proofs.Common.{Option, None, Some, refl, sym, ap, ◌∙◌, subst, arith}
-use Rattle.std.proofs.lemmas.Bool.Decides.{nat_tests}
-use Rattle.std.proofs.lemmas.Bool.{and_parts}
+use Rattle.std.proofs.lemmas.Bool.{and_parts, eqb-true}
 use Rattle.ol_context.specs.Contexts.{Level, empty, o, star, pair, Context, cons, tail, change}
 use Rattle.ol_context.proofs.Contexts.{eta, head_eq, tail_eq}
 use Rattle.ol_net.specs.declared.parts.Kind.TheVariants as kind
@@ -74,15 +73,12 @@ room (free f) = 2
 room (lam M) = suc (suc (room M))
 room (app M Q) = suc (suc (suc (room M + room Q)))
 
-same_number : (v y : ℕ) → nat_eq v y ≡ true → v ≡ y
-same_number v y e = grind (arith, nat_tests, e)
-
 reached_var : (τ : Translation) (v : ℕ) (y : Wire) → occurs y (var v) ≡ true → Reached τ (var v) y empty self
-reached_var τ v (bound y) e = subst (λ y. Reached τ (var v) (bound y) empty self) (same_number v y e) at_var
+reached_var τ v (bound y) e = subst (λ y. Reached τ (var v) (bound y) empty self) (eqb-true v y e) at_var
 reached_var τ v (name f) e = absurd (cc)
 
 reached_name : (τ : Translation) (g : ℕ) (y : Wire) → occurs y (free g) ≡ true → Reached τ (free g) y empty self
-reached_name τ g (name f) e = subst (λ f. Reached τ (free g) (name f) empty self) (same_number g f e) at_name
+reached_name τ g (name f) e = subst (λ f. Reached τ (free g) (name f) empty self) (eqb-true g f e) at_name
 reached_name τ g (bound y) e = absurd (cc)
 
 -- an argument that is a wire is its own occurrence

@@ -26,8 +26,9 @@ use Rattle.ol_term.specs.declared.translations.Translation.TheVariants.{One, Two
 use Rattle.ol_translate.proofs.Joints.{few_wires}
 use Rattle.ol_translate.specs.Translation.{Subnet, subnet_of, applied, bare_variable, wire_of}
 use Rattle.ol_translate.specs.Translation.{slot_port, bound_port}
-use Rattle.ol_law_completeness.proofs.Links.{Goes, stays, goes_on, goes_at, goes_to, upwards, put_last, Link, single}
+use Rattle.ol_law_completeness.proofs.Links.{Goes, stays, goes_on, goes_at, goes_to, upwards, Link, single}
 use Rattle.ol_law_completeness.proofs.Traces.{Env, pushed, Starts, ToBinder, own, boxed, Trace}
+use Rattle.ol_law_optimality.proofs.Untouched.{put_last}
 
 -- with no words at all
 abbrev pub unlabelled : Tree → Labelled

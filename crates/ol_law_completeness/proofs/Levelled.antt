@@ -1,5 +1,5 @@
 -- Nets of terms are levelled, and so demand order is complete on them.
-use Rattle.std.proofs.Common.{◌≡◌, ℕ, suc, ◌+◌, ◌≤◌, Bool, true, List, [], ◌∷◌, ◌++◌, length, Option, Some, None}
+use Rattle.std.proofs.Common.{◌≡◌, ℕ, suc, ◌+◌, ◌≤◌, true, List, [], ◌∷◌, ◌++◌, length, Option, Some, None}
 use Rattle.std.proofs.Common.{inl, inr, refl, sym, subst, arith}
 use Rattle.ol_net.specs.declared.parts.Rule.{Rule}
 use Rattle.ol_net.specs.Graph.{Graph}
@@ -17,16 +17,13 @@ use Rattle.ol_translate.specs.Names.{HasNames}
 use Rattle.ol_translate.specs.Translation.{translation_of}
 use Rattle.ol_rules.specs.declared.journal.Entry.{Entry}
 use Rattle.ol_beta.specs.Leftmost.{IsNormal}
-use Rattle.ol_readback.specs.Frames.{Frame}
-use Rattle.ol_readback.specs.ReadTrees.{Subterm, framed}
-use Rattle.ol_readback.specs.Sources.{HaveHeadsOf, HasHeadsOf}
-use Rattle.ol_readback.specs.Sources as sources
+use Rattle.ol_readback.specs.Sources.{HasHeadsOf}
 use Rattle.ol_readback.specs.Terms.{HasAllHeads, term_of}
 use Rattle.ol_readback.specs.Whole.{preorder}
 use Rattle.ol_readback.specs.declared.answers.ReadNode.{ReadNode}
 use Rattle.ol_readback.specs.declared.answers.ReadNode.TheVariants as node
 use Rattle.ol_readback.proofs.Forests.{heads_are_whole}
-use Rattle.ol_readback.proofs.Kept.{heads_are_kept}
+use Rattle.ol_readback.proofs.Kept.{heads_moved}
 use Rattle.ol_law_meaning.specs.Shows.{LeftmostReduces}
 use Rattle.ol_law_meaning.proofs.Based.{shown_normal, tree_shows}
 use Rattle.ol_demand.specs.Demands.{IsDemandRun}
@@ -158,23 +155,10 @@ head_normal_form_is_read τ t names h u r n =
 
 -- ---- what a run says of the term
 
--- places of a net with the same paths
-places_moved : {A B : Type 0} (N : NamedNet A) (M : NamedNet B) → HaveSamePaths N M →
-    (b : Bool) {F : List Frame} {ss : List Subterm} {ns : List ReadNode} → HaveHeadsOf N b F ss ns →
-    HaveHeadsOf M b F ss ns
-places_moved N M p b sources.end = sources.end
-places_moved N M p b (sources.cut r) = sources.cut (places_moved N M p b r)
-places_moved N M p b (sources.lost {frames = F} {s = s} h r) =
-    sources.lost (λ e. heads_are_kept N M p (F ++ framed s 0 ∷ []) (length F) _ (h e))
-    (places_moved N M p b r)
-places_moved N M p b (sources.found {frames = F} {s = s} h r) =
-    sources.found (heads_are_kept N M p (F ++ framed s 0 ∷ []) (length F) _ h)
-    (places_moved N M p b r)
-
 pub places_are_of_term : PlacesAreOfTerm
 places_are_of_term τ t names h g is_net same heads journal places M d =
     let p = paths τ t names h g is_net same in
-    places_moved (start_of g) (translation_of τ t names) (λ q c r X. ((p q c r X).1, (p q c r X).0))
+    heads_moved (start_of g) (translation_of τ t names) (λ q c r X. ((p q c r X).1, (p q c r X).0))
     true
     (demand_places (start_of g) M heads journal places (start τ t names h g is_net same)
     (levels τ t names h g is_net same) d)

@@ -17,10 +17,6 @@ pub at_put : (L : List Level) (g : Context → Context) (c : Context) → at_lev
 at_put [] g c = refl
 at_put (v ∷ L) g c = ap (cons v) (at_put L g c)
 
-pub put_last : (L : List Level) (v : Level) (c : Context) → put (L ++ v ∷ []) c ≡ put L (cons v c)
-put_last [] v c = refl
-put_last (u ∷ L) v c = ap (cons u) (put_last L v c)
-
 pub length_turned : (w : List (Crossing NodeName)) → length (turned w) ≡ length w
 length_turned [] = refl
 length_turned (rise x s ∷ w) =

@@ -16,7 +16,7 @@ use Rattle.ol_net.specs.Nets as nets
 use Rattle.ol_net.specs.Numbered.{numbered_port, numbered_from}
 use Rattle.ol_law_meaning.proofs.Down.{wire_under}
 use Rattle.ol_law_meaning.proofs.Fans.{Holds, Links, holds_append, links_append, by_wire, wire_here, wire_later}
-use Rattle.ol_law_meaning.proofs.Fans.{Merges, fans_merge}
+use Rattle.ol_law_meaning.proofs.Fans.{Merges, fans_merge, none_there, rewired_here}
 use Rattle.ol_law_meaning.proofs.Parts.{Has, argument, HasLam, has_lam, Wires, has_app}
 use Rattle.ol_law_meaning.proofs.Parts.{has_head, HasHead, key, IsInside}
 use Rattle.ol_law_meaning.proofs.States.{Before, before_arg, H, L}
@@ -41,7 +41,7 @@ holds_join : (P : ℕ → Kind → ℕ → Type 0) (k j : ℕ) (xs ys : List (Ki
 holds_join P k j [] ys e h h' = let same : j ≡ k = omega arith in subst (λ k. Holds P k ys) same h'
 holds_join P k j (x ∷ xs) ys e h h' = (h.0, holds_join P (k + 1) j xs ys (omega arith) h.1 h')
 
-holds_map : (P P' : ℕ → Kind → ℕ → Type 0) → ((x : ℕ) (K : Kind) (i : ℕ) → P x K i → P' x K i) →
+pub holds_map : (P P' : ℕ → Kind → ℕ → Type 0) → ((x : ℕ) (K : Kind) (i : ℕ) → P x K i → P' x K i) →
     (k : ℕ) (xs : List (Kind × ℕ)) → Holds P k xs → Holds P' k xs
 holds_map P P' f k [] h = tt
 holds_map P P' f k (x ∷ xs) h = (f k x.0 x.1 h.0, holds_map P P' f (k + 1) xs h.1)
@@ -54,13 +54,6 @@ holds_at P k (n ∷ xs) h x K i (inr m) =
     let same : k + 1 ≡ suc k = omega arith in
     holds_at P (suc k) xs (subst (λ k. Holds P k xs) same h.1) x K i m
 
-none_there : (v : ℕ) (wires : List (ℕ × Port)) → times v wires ≡ 0 → wire_of v wires ≡ None
-none_there v [] h = refl
-none_there v (w ∷ wires) h = by_wire (wire_of v (w ∷ wires) ≡ None) v w
-    (λ t. absurd (let g : times v (w ∷ wires) ≡ 1 + times v wires = rw t refl in omega (arith, g, h)))
-    (λ t. let g : times v (w ∷ wires) ≡ 0 + times v wires = rw t refl in
-    wire_later v w wires t ∙ none_there v wires (omega (arith, g, h)))
-
 -- the wire of a key is no other's
 later_none : (v : ℕ) (w : ℕ × Port) (wires : List (ℕ × Port)) → times v (w ∷ wires) ≤ 1 → nat_eq w.0 v ≡ true →
     wire_of v wires ≡ None
@@ -69,13 +62,6 @@ later_none v w wires h t =
 
 later_few : (v : ℕ) (w : ℕ × Port) (wires : List (ℕ × Port)) → times v (w ∷ wires) ≤ 1 → times v wires ≤ 1
 later_few v w wires h = omega arith
-
-rewired : (v : ℕ) (r q : Port) (wires : List (ℕ × Port)) → wire_of v wires ≡ Some q → wire_of v (reconnected v r wires) ≡ Some r
-rewired v r q [] e = absurd (cc)
-rewired v r q (w ∷ wires) e = by_wire (wire_of v (reconnected v r (w ∷ wires)) ≡ Some r) v w
-    (λ t. rw (t, t) refl)
-    (λ t. let rest = rewired v r q wires (sym (wire_later v w wires t) ∙ e) in
-    rw t (wire_later v w (reconnected v r wires) t ∙ rest))
 
 same_key : (v : ℕ) → nat_eq v v ≡ true
 same_key v = eq-eqb v v refl
@@ -102,7 +88,7 @@ module _ (H : ℕ → Kind → ℕ → Type 0) (L : Port → Port → Type 0) wh
           Holds (λ x K i. (v : ℕ) × (wire_of v ws ≡ Some (slot_port x 0))) f (fan_nodes n x)
       own None e ws m = tt
       own (Some p) e ws m =
-          let g : wire_of w.0 (reconnected w.0 (slot_port f 0) wires) ≡ Some (slot_port f 0) = rewired w.0 (slot_port f 0) p wires e in
+          let g : wire_of w.0 (reconnected w.0 (slot_port f 0) wires) ≡ Some (slot_port f 0) = rewired_here w.0 (slot_port f 0) p wires e in
           let none : wire_of w.0 more ≡ None = later_none w.0 w more (few w.0) (same_key w.0) in
           let m' : Merges H L n (Some (slot_port f 0)) None (wire_of w.0 ws) =
           subst (λ y. Merges H L n (Some (slot_port f 0)) y (wire_of w.0 ws)) none

@@ -31,7 +31,7 @@ use Rattle.ol_law_optimality.specs.Labels.{Label, Labelled, erased}
 use Rattle.ol_law_optimality.specs.Labels as labels
 use Rattle.ol_law_optimality.specs.Redexes.{Carries, put, IsVirtualRedex}
 use Rattle.ol_law_optimality.specs.Routes.{Crossing, Route}
-use Rattle.ol_law_meaning.proofs.Fans.{Holds, Links}
+use Rattle.ol_law_meaning.proofs.Fans.{Links}
 use Rattle.ol_law_meaning.proofs.Parts.{Has}
 use Rattle.ol_law_meaning.proofs.States as plain
 use Rattle.ol_law_meaning.proofs.Whole.{has_part, end_links}
@@ -56,6 +56,7 @@ use Rattle.ol_law_completeness.proofs.Degrees.{of_app, plain, of_lam, of_redex, 
 use Rattle.ol_law_completeness.proofs.First.{unlabelled, erased_unlabelled, port_of, H, L, first}
 use Rattle.ol_law_completeness.proofs.Links.{Goes, goes_at, goes_to, goes_row, goes_carries, Link, single}
 use Rattle.ol_law_completeness.proofs.Traces.{Env, AtEnd, Starts, own, Trace, steps}
+use Rattle.ol_law_completeness.proofs.Nodes.{holds_map}
 use Rattle.ol_law_completeness.specs.EndsExactly.{OnlyStronglyNormalisingEnds, OneThreadEndsExactly, EveryRunEndsExactly, RunsAreWithin}
 
 -- ---- a step without its labels
@@ -142,11 +143,6 @@ module _ (N : NamedNet NodeName) (net : IsNet N) (b : ℕ) (short : AreShort N b
   built (too_great s h) env l z = let g = small s env l z in absurd (omega (arith, g, h))
 
 -- ---- a term's net, under the names with which a run begins
-
-holds_map : (P P' : ℕ → Kind → ℕ → Type 0) → ((x : ℕ) (K : Kind) (i : ℕ) → P x K i → P' x K i) →
-    (k : ℕ) (xs : List (Kind × ℕ)) → Holds P k xs → Holds P' k xs
-holds_map P P' f k [] h = tt
-holds_map P P' f k (x ∷ xs) h = (f k x.0 x.1 h.0, holds_map P P' f (k + 1) xs h.1)
 
 links_map : (P P' : Port → Port → Type 0) → ((p q : Port) → P p q → P' p q) → (xs : List (Port × Port)) → Links P xs → Links P' xs
 links_map P P' f [] h = tt

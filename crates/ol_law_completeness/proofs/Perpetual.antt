@@ -1,7 +1,7 @@
 -- Terms that the rules build are strongly normalising: the fundamental lemma of perpetuality
 -- (van Raamsdonk, Severi, Sorensen and Xi, Perpetual reductions in lambda calculus, 1999).
 -- Used in Strong.
-use Rattle.std.proofs.Common.{◌≡◌, ℕ, Bool, true, false, List, [], ◌∷◌, Option, Some, None, refl}
+use Rattle.std.proofs.Common.{◌≡◌, ℕ, Bool, true, false, List, [], ◌∷◌, Some, None, refl}
 use Rattle.std.proofs.Common.{sym, ap, ◌∙◌, subst}
 use Rattle.std.specs.Prelude.{◌==◌, if◌then◌else◌}
 use Rattle.std.specs.Option.{option_map}
@@ -18,6 +18,7 @@ use Rattle.ol_law_meaning.proofs.Filling.{fun_beta}
 use Rattle.ol_term.specs.Trees.{Tree, var, free, lam, app}
 use Rattle.ol_law_completeness.specs.StrongNormalisation.{IsStronglyNormalising, where_all, argument, Normalises}
 use Rattle.ol_law_completeness.specs.StrongNormalisation as rules
+use Rattle.ol_law_edges.proofs.Options.{mapped}
 
 -- ---- a beta step, by where it is made (up to `beta_of` as in `ol_law_confluence`, Contractions)
 
@@ -26,15 +27,6 @@ data Beta : Tree → Tree → Type 0 where
   in_lam : {M M' : Tree} → Beta M M' → Beta (lam M) (lam M')
   in_fun : {M M' N : Tree} → Beta M M' → Beta (app M N) (app M' N)
   in_arg : {M N N' : Tree} → Beta N N' → Beta (app M N) (app M N')
-
-record Mapped (f : Tree → Tree) (o : Option Tree) (u : Tree) : Type 0 where
-  before : Tree
-  is : o ≡ Some before
-  gives : f before ≡ u
-
-mapped : (f : Tree → Tree) (o : Option Tree) (u : Tree) → option_map f o ≡ Some u → Mapped f o u
-mapped f None u e = absurd (cc)
-mapped f (Some t) u e = record { before = t; is = refl; gives = cc }
 
 applied_step : (f c u : Tree) → beta_steps.applied f c ≡ Some u → Beta (app f c) u
 applied_step (var k) c u e = absurd (cc)
@@ -53,7 +45,7 @@ beta_of (lam t) (m ∷ at) u e = go (beta_of t at) (m == 0) e
         (if b then option_map lam (contracted t at) else None) ≡ Some u → Beta (lam t) u
     go next true e =
         let r = mapped lam (contracted t at) u e in
-        subst (λ u. Beta (lam t) u) r.gives (in_lam (next r.before r.is))
+        subst (λ u. Beta (lam t) u) r.2 (in_lam (next r.0 r.1))
     go next false e = absurd (cc)
 beta_of (app f c) [] u e = applied_step f c u e
 beta_of (app f c) (m ∷ at) u e = go (beta_of f at) (beta_of c at) (m == 1) (m == 2) e
@@ -64,10 +56,10 @@ beta_of (app f c) (m ∷ at) u e = go (beta_of f at) (beta_of c at) (m == 1) (m 
         (contracted c at) else None) ≡ Some u → Beta (app f c) u
     go left right true b e =
         let r = mapped (λ g. app g c) (contracted f at) u e in
-        subst (λ u. Beta (app f c) u) r.gives (in_fun (left r.before r.is))
+        subst (λ u. Beta (app f c) u) r.2 (in_fun (left r.0 r.1))
     go left right false true e =
         let r = mapped (app f) (contracted c at) u e in
-        subst (λ u. Beta (app f c) u) r.gives (in_arg (right r.before r.is))
+        subst (λ u. Beta (app f c) u) r.2 (in_arg (right r.0 r.1))
     go left right false false e = absurd (cc)
 
 beta_at : {t u : Tree} → Beta t u → (at : List ℕ) × (contracted t at ≡ Some u)

@@ -5,7 +5,7 @@ use Rattle.std.proofs.Common.{◌≡◌, ℕ, suc, Bool, false, Some, refl, sym,
 use Rattle.ol_context.specs.Contexts.{Level, empty}
 use Rattle.ol_law_meaning.proofs.Addresses.{without_own, occurs_same, left_same, bare_same, zero_lifted}
 use Rattle.ol_law_meaning.proofs.Addresses.{without_under, occurs_more, wire_some}
-use Rattle.ol_law_meaning.proofs.Lifts.{occurs_lifted, bare_lifted}
+use Rattle.ol_law_meaning.proofs.Lifts.{occurs_lifted, bare_lifted, lifted_under}
 use Rattle.ol_law_meaning.specs.Contraction.{lift, lifted_wire, without, wire_without, put, subst_for}
 use Rattle.ol_law_meaning.proofs.Bare.{right_like}
 use Rattle.ol_law_meaning.specs.Sites.{Site, self, spot_in}
@@ -15,10 +15,6 @@ use Rattle.ol_term.specs.declared.translations.Translation.{Translation}
 use Rattle.ol_law_completeness.proofs.Jumps.{Reached, at_var, at_name, by_lam, by_fun, by_arg, reached_occurs}
 use Rattle.ol_law_completeness.proofs.Jumps.{Jump, to_body, to_var, to_fun, to_arg, from_body, from_var, from_fun}
 use Rattle.ol_law_completeness.proofs.Jumps.{from_arg, in_body, in_fun, in_arg}
-
-lifted_under : (d i : ℕ) (y : Wire) → lifted_wire (suc d) i (under y) ≡ under (lifted_wire d i y)
-lifted_under d i (bound y) = refl
-lifted_under d i (name f) = refl
 
 module _ {τ : Translation} where
   reached_lifted : {M : Tree} {y : Wire} {a : Level} {p : Site} (d i : ℕ) → Reached τ M y a p →

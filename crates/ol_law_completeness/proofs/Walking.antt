@@ -12,6 +12,7 @@ use Rattle.ol_net.specs.Parts.{arity}
 use Rattle.ol_net.specs.declared.parts.Kind.{Kind}
 use Rattle.ol_law_levels.specs.Unblocked.{Change, rise, fall, ComesOut}
 use Rattle.ol_law_completeness.specs.Walks.{ComesDown, leaves, rises, comes}
+use Rattle.ol_law_levels.proofs.Before.{alike_rise}
 
 -- the same contexts come out
 abbrev pub Alike : List Change → List Change → Type 0
@@ -20,11 +21,6 @@ Alike v w = (d : Context) → ComesOut v d ↔ ComesOut w d
 -- some context comes out
 abbrev pub Passes : List Change → Type 0
 Passes w = (d : Context) × ComesOut w d
-
-pub alike_rise : (k : Kind) (i s : ℕ) (v w : List Change) → Alike v w →
-    Alike (rise k i s ∷ v) (rise k i s ∷ w)
-alike_rise k i s v w h d =
-    (λ t. (t.0, (h t.0).0 t.1, t.2), λ t. (t.0, (h t.0).1 t.1, t.2))
 
 pub passes_rise : (k : Kind) (i s : ℕ) (w : List Change) → Passes w → Passes (rise k i s ∷ w)
 passes_rise k i s w t = (up k i s t.0, (t.0, t.1, refl))

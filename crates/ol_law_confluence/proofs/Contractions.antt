@@ -1,5 +1,5 @@
 -- Contraction is a parallel step, and a parallel step is a beta reduction.
-use Rattle.std.proofs.Common.{◌≡◌, ℕ, Bool, true, false, List, [], ◌∷◌, Option, Some, None, refl}
+use Rattle.std.proofs.Common.{◌≡◌, ℕ, Bool, true, false, List, [], ◌∷◌, Some, None, refl}
 use Rattle.std.proofs.Common.{subst}
 use Rattle.std.specs.Prelude.{◌==◌, if◌then◌else◌}
 use Rattle.std.specs.Option.{option_map}
@@ -11,17 +11,9 @@ use Rattle.ol_law_meaning.proofs.LeftmostRoads.{then_leads}
 use Rattle.ol_law_confluence.specs.Reductions.{Parallel, of_var, of_free, of_lam, of_app, of_redex}
 use Rattle.ol_law_confluence.proofs.Parallels.{parallel_same}
 use Rattle.ol_law_meaning.proofs.Filling.{lam_beta, fun_beta, arg_beta}
+use Rattle.ol_law_edges.proofs.Options.{mapped}
 
 -- ---- a contraction is a parallel step
-
-record Mapped (f : Tree → Tree) (o : Option Tree) (u : Tree) : Type 0 where
-  before : Tree
-  is : o ≡ Some before
-  gives : f before ≡ u
-
-mapped : (f : Tree → Tree) (o : Option Tree) (u : Tree) → option_map f o ≡ Some u → Mapped f o u
-mapped f None u e = absurd (cc)
-mapped f (Some t) u e = record { before = t; is = refl; gives = cc }
 
 -- a redex itself
 applied_step : (f c u : Tree) → beta_steps.applied f c ≡ Some u → Parallel (app f c) u
@@ -42,7 +34,7 @@ contraction_step (lam t) (m ∷ at) u e = go (contraction_step t at) (m == 0) e
         (if b then option_map lam (contracted t at) else None) ≡ Some u → Parallel (lam t) u
     go next true e =
         let r = mapped lam (contracted t at) u e in
-        subst (λ u. Parallel (lam t) u) r.gives (of_lam (next r.before r.is))
+        subst (λ u. Parallel (lam t) u) r.2 (of_lam (next r.0 r.1))
     go next false e = absurd (cc)
 contraction_step (app f c) [] u e = applied_step f c u e
 contraction_step (app f c) (m ∷ at) u e =
@@ -55,10 +47,10 @@ contraction_step (app f c) (m ∷ at) u e =
         (contracted c at) else None) ≡ Some u → Parallel (app f c) u
     go left right true b e =
         let r = mapped (λ g. app g c) (contracted f at) u e in
-        subst (λ u. Parallel (app f c) u) r.gives (of_app (left r.before r.is) (parallel_same c))
+        subst (λ u. Parallel (app f c) u) r.2 (of_app (left r.0 r.1) (parallel_same c))
     go left right false true e =
         let r = mapped (app f) (contracted c at) u e in
-        subst (λ u. Parallel (app f c) u) r.gives (of_app (parallel_same f) (right r.before r.is))
+        subst (λ u. Parallel (app f c) u) r.2 (of_app (parallel_same f) (right r.0 r.1))
     go left right false false e = absurd (cc)
 
 -- ---- a parallel step is a beta reduction

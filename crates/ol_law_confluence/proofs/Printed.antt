@@ -27,7 +27,7 @@ pub record IsApart (c : ℕ) : Type 0 where
   pub digit : (n : ℕ) → 48 ≤ n → n ≤ 57 → n ≡ c → ⊥
   pub blank : nat_eq 32 c ≡ false
 
-glyph_is : (d : ℕ) → d < 10 → digit_glyph false d ≡ 48 + d
+pub glyph_is : (d : ℕ) → d < 10 → digit_glyph false d ≡ 48 + d
 glyph_is d h = grind (arith, nat_tests)
 
 -- how many places have no head, and how many were cut
@@ -352,7 +352,7 @@ weight_cut (more u us) = let h = weight_cut u in let k = weight_cut us in omega 
 
 -- ---- holes
 
-heads_append : (ns ms : List ReadNode) → HasAllHeads ns → HasAllHeads ms → HasAllHeads (ns ++ ms)
+pub heads_append : (ns ms : List ReadNode) → HasAllHeads ns → HasAllHeads ms → HasAllHeads (ns ++ ms)
 heads_append [] ms h k = k
 heads_append (node.Head l v n ∷ ns) ms h k = heads_append ns ms h k
 heads_append (node.NoHead ∷ ns) ms h k = absurd h

@@ -83,7 +83,7 @@ says_always s = record {
 
 -- ---- the verdict of leftmost reduction
 
-road_beta : (road : List (List ℕ)) (t v : Tree) → RoadLeads t road v → BetaReduces t v
+pub road_beta : (road : List (List ℕ)) (t v : Tree) → RoadLeads t road v → BetaReduces t v
 road_beta [] t v e = subst (λ v. BetaReduces t v) e ready
 road_beta (at ∷ road) t v h = contract {at = at} tt h.2.1.0 (road_beta road h.2.0 v h.2.1.1)
 

@@ -18,14 +18,14 @@ ren ξ (free f) = free f
 ren ξ (lam t) = lam (ren (up_ren ξ) t)
 ren ξ (app t u) = app (ren ξ t) (ren ξ u)
 
-ren_like : {ξ ζ : ℕ → ℕ} → ((y : ℕ) → ξ y ≡ ζ y) → (t : Tree) → ren ξ t ≡ ren ζ t
+pub ren_like : {ξ ζ : ℕ → ℕ} → ((y : ℕ) → ξ y ≡ ζ y) → (t : Tree) → ren ξ t ≡ ren ζ t
 ren_like h t = λ i. ren (λ y. h y i) t
 
 pub up_ren_twice : (ζ ξ : ℕ → ℕ) (y : ℕ) → up_ren ζ (up_ren ξ y) ≡ up_ren (λ y. ζ (ξ y)) y
 up_ren_twice ζ ξ zero = refl
 up_ren_twice ζ ξ (suc y) = refl
 
-ren_ren : (t : Tree) (ζ ξ : ℕ → ℕ) → ren ζ (ren ξ t) ≡ ren (λ y. ζ (ξ y)) t
+pub ren_ren : (t : Tree) (ζ ξ : ℕ → ℕ) → ren ζ (ren ξ t) ≡ ren (λ y. ζ (ξ y)) t
 ren_ren (var y) ζ ξ = refl
 ren_ren (free f) ζ ξ = refl
 ren_ren (lam t) ζ ξ = ap lam (ren_ren t (up_ren ζ) (up_ren ξ) ∙ ren_like (up_ren_twice ζ ξ) t)
@@ -43,25 +43,25 @@ inst σ (free f) = free f
 inst σ (lam t) = lam (inst (up σ) t)
 inst σ (app t u) = app (inst σ t) (inst σ u)
 
-inst_like : {σ τ : ℕ → Tree} → ((y : ℕ) → σ y ≡ τ y) → (t : Tree) → inst σ t ≡ inst τ t
+pub inst_like : {σ τ : ℕ → Tree} → ((y : ℕ) → σ y ≡ τ y) → (t : Tree) → inst σ t ≡ inst τ t
 inst_like h t = λ i. inst (λ y. h y i) t
 
-up_after_ren : (σ : ℕ → Tree) (ξ : ℕ → ℕ) (y : ℕ) → up σ (up_ren ξ y) ≡ up (λ y. σ (ξ y)) y
+pub up_after_ren : (σ : ℕ → Tree) (ξ : ℕ → ℕ) (y : ℕ) → up σ (up_ren ξ y) ≡ up (λ y. σ (ξ y)) y
 up_after_ren σ ξ zero = refl
 up_after_ren σ ξ (suc y) = refl
 
-inst_ren : (t : Tree) (σ : ℕ → Tree) (ξ : ℕ → ℕ) → inst σ (ren ξ t) ≡ inst (λ y. σ (ξ y)) t
+pub inst_ren : (t : Tree) (σ : ℕ → Tree) (ξ : ℕ → ℕ) → inst σ (ren ξ t) ≡ inst (λ y. σ (ξ y)) t
 inst_ren (var y) σ ξ = refl
 inst_ren (free f) σ ξ = refl
 inst_ren (lam t) σ ξ = ap lam (inst_ren t (up σ) (up_ren ξ) ∙ inst_like (up_after_ren σ ξ) t)
 inst_ren (app t u) σ ξ = λ i. app (inst_ren t σ ξ i) (inst_ren u σ ξ i)
 
-ren_after_up : (ξ : ℕ → ℕ) (σ : ℕ → Tree) (y : ℕ) →
+pub ren_after_up : (ξ : ℕ → ℕ) (σ : ℕ → Tree) (y : ℕ) →
     ren (up_ren ξ) (up σ y) ≡ up (λ y. ren ξ (σ y)) y
 ren_after_up ξ σ zero = refl
 ren_after_up ξ σ (suc y) = ren_ren (σ y) (up_ren ξ) suc ∙ sym (ren_ren (σ y) suc ξ)
 
-ren_inst : (t : Tree) (ξ : ℕ → ℕ) (σ : ℕ → Tree) → ren ξ (inst σ t) ≡ inst (λ y. ren ξ (σ y)) t
+pub ren_inst : (t : Tree) (ξ : ℕ → ℕ) (σ : ℕ → Tree) → ren ξ (inst σ t) ≡ inst (λ y. ren ξ (σ y)) t
 ren_inst (var y) ξ σ = refl
 ren_inst (free f) ξ σ = refl
 ren_inst (lam t) ξ σ = ap lam (ren_inst t (up_ren ξ) (up σ) ∙ inst_like (ren_after_up ξ σ) t)

@@ -2,3 +2,4 @@ pub mod Lists
 pub mod Joining
 pub mod Contraction
 pub mod Composing
+pub mod Options

@@ -2,6 +2,7 @@
 use Rattle.std.proofs.Common.{◌≡◌, ℕ, zero, suc, ◌+◌, ◌<◌, ◌≤◌, List, [], ◌∷◌, ◌++◌, map, Some, ◌⊎◌}
 use Rattle.std.proofs.Common.{inl, inr, refl, sym, ap, arith, length, nat_lt, if◌then◌else◌}
 use Rattle.std.proofs.lemmas.Bool.{cond_below, cond_above}
+use Rattle.std.proofs.lemmas.Option.{none-some}
 use Rattle.std.specs.Prelude.{slice_get}
 use Rattle.ol_law_edges.specs.Edges.{IsIn}
 
@@ -43,6 +44,16 @@ pub get_there : {X : Type 0} (xs : List X) (i : ℕ) → i < length xs → (x : 
 get_there [] i lt = absurd (omega arith)
 get_there (x ∷ xs) zero lt = (x, refl)
 get_there (x ∷ xs) (suc i) lt = get_there xs i (omega arith)
+
+-- an element keeps its place before what is appended, and is the last in its own
+pub got_left : {X : Type 0} (xs ys : List X) (i : ℕ) (x : X) → slice_get xs i ≡ Some x → slice_get (xs ++ ys) i ≡ Some x
+got_left [] ys i x e = absurd (none-some x e)
+got_left (y ∷ xs) ys zero x e = e
+got_left (y ∷ xs) ys (suc i) x e = got_left xs ys i x e
+
+pub got_last : {X : Type 0} (xs : List X) (x : X) → slice_get (xs ++ x ∷ []) (length xs) ≡ Some x
+got_last [] x = refl
+got_last (y ∷ xs) x = got_last xs x
 
 -- where an element of two lists stands
 pub got_append : {X : Type 0} (xs ys : List X) (p : ℕ) (y : X) → slice_get (xs ++ ys) p ≡ Some y

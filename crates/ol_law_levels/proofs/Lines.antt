@@ -1,6 +1,7 @@
 -- Walks of patterns over a net, and lines: what is joined whatever stands on the stack.
 use Rattle.std.proofs.Common.{◌≡◌, ℕ, zero, suc, List, [], ◌∷◌, Bool, true, false, not, refl, sym, ap}
 use Rattle.std.proofs.Common.{◌∙◌, subst, arith}
+use Rattle.std.proofs.Math.Bool.{not-not}
 use Rattle.ol_law_edges.specs.Edges.{Joined, here, on, back}
 use Rattle.ol_law_levels.specs.Levels.{IsLevelled}
 use Rattle.ol_net.specs.Nets.{NamedPort, slot, NamedNet, HasNode, Linked, IsNet}
@@ -280,10 +281,6 @@ differ_right : (a b : Bool) → differ a (not b) ≡ not (differ a b)
 differ_right true b = refl
 differ_right false b = refl
 
-twice : (b : Bool) → not (not b) ≡ b
-twice true = refl
-twice false = refl
-
 no_fixed : (b : Bool) → b ≡ not b → ⊥
 no_fixed true e = absurd (cc)
 no_fixed false e = absurd (cc)
@@ -452,7 +449,7 @@ module _ {A : Type 0} (N : NamedNet A) (is_net : IsNet N) where
 
     link_flips : (p q : NamedPort A) (a r : Stack) → Linked N p q → side (q, a, r) ≡ not (side (p, a, r))
     link_flips p q a r l =
-        sym (twice (differ (L.is_out q) (odd r)))
+        sym (not-not (differ (L.is_out q) (odd r)))
         ∙ ap not (sym (differ_left (L.is_out q) (odd r)))
         ∙ ap (λ b. not (differ b (odd r))) (sym (L.links p q l).1)
 
@@ -460,7 +457,7 @@ module _ {A : Type 0} (N : NamedNet A) (is_net : IsNet N) where
     turned b b' y e = ap (λ b. differ b y) e ∙ differ_left b y
 
     kept : (b b' y : Bool) → b' ≡ b → differ b' y ≡ not (differ b (not y))
-    kept b b' y e = ap (λ b. differ b y) e ∙ sym (twice (differ b y)) ∙ ap not (sym (differ_right b y))
+    kept b b' y e = ap (λ b. differ b y) e ∙ sym (not-not (differ b y)) ∙ ap not (sym (differ_right b y))
 
     node_flips : {v w : At A} → Node N v w → side w ≡ not (side v)
     node_flips (node {x = x} i h (own {r = r} {u = u} is_lam)) =
@@ -487,9 +484,9 @@ module _ {A : Type 0} (N : NamedNet A) (is_net : IsNet N) where
     parity : {u : At A} {b : Bool} {v : At A} → Trail u b v → side v ≡ turned_by b (side u)
     parity none = refl
     parity {u} (by_link {p = p} {q = q} {a = a} {r = r} t l) = link_flips p q a r l ∙ ap not (parity t)
-    parity {u} (by_down t n) = node_flips n ∙ ap not (parity t) ∙ twice (side u)
+    parity {u} (by_down t n) = node_flips n ∙ ap not (parity t) ∙ not-not (side u)
     parity {u} (by_up {v = v} {w = w} t n) =
-        sym (twice (side w)) ∙ ap not (sym (node_flips n)) ∙ ap not (parity t) ∙ twice (side u)
+        sym (not-not (side w)) ∙ ap not (sym (node_flips n)) ∙ ap not (parity t) ∙ not-not (side u)
 
     out_one : (K : Kind) (x z : A) (i j : ℕ) → IsPole K → HasNode N x K i → HasNode N z K j →
         L.is_out (slot x 0) ≡ L.is_out (slot z 0)

@@ -8,6 +8,7 @@ use Rattle.ol_law_meaning.specs.Contraction.{Tree, var, free, lam, app, HeadStep
 use Rattle.ol_law_meaning.specs.Heads.{Steps, done, step}
 use Rattle.ol_law_meaning.specs.Shows.{ready, contract, IsHeadAddress, HeadReduces, HasHeadRedex}
 use Rattle.ol_law_meaning.proofs.LeftmostSteps.{subst_is}
+use Rattle.ol_law_edges.proofs.Options.{mapped}
 
 -- ---- a head step is contraction at a head address
 
@@ -30,11 +31,6 @@ contraction (before {P = P} e h) =
     (replicate (suc r.0) 1, (0, suc r.0, refl), ap (option_map (λ g. app g P)) r.1)
 
 -- ---- contraction at a head address is a head step
-
-mapped : (f : Tree → Tree) (o : Option Tree) (u : Tree) → option_map f o ≡ Some u →
-    (x : Tree) × (o ≡ Some x) × (f x ≡ u)
-mapped f None u e = absurd (cc)
-mapped f (Some x) u e = (x, refl, cc)
 
 -- moves into functions lead to no redex from an abstraction
 plain : (k : ℕ) (t u : Tree) → contracted t (replicate k 1) ≡ Some u → is_abstraction t ≡ false

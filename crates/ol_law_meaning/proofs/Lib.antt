@@ -37,3 +37,4 @@ pub mod Endings
 pub mod Grounds
 pub mod Based
 pub mod SmallTerms
+pub mod FileNames

@@ -22,7 +22,7 @@ up_same (suc d) i (suc v) (suc y) =
     let b : nat_eq (suc v) (suc y) ≡ nat_eq v y = grind (arith, nat_tests) in
     a ∙ up_same d i v y ∙ sym b
 
-lifted_under : (d i : ℕ) (y : Wire) → lifted_wire (suc d) i (under y) ≡ under (lifted_wire d i y)
+pub lifted_under : (d i : ℕ) (y : Wire) → lifted_wire (suc d) i (under y) ≡ under (lifted_wire d i y)
 lifted_under d i (bound y) = refl
 lifted_under d i (name f) = refl
 

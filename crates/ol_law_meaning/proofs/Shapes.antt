@@ -48,7 +48,7 @@ abbrev pub AreArgs : Tree → ℕ → List Tree → Type 0
 AreArgs u i [] = Unit {0}
 AreArgs u i (P ∷ Ps) = Arg u i P × AreArgs u (suc i) Ps
 
-applied_push : (h : Tree) (Ps : List Tree) (P : Tree) → applied h (Ps ++ P ∷ []) ≡ app (applied h Ps) P
+pub applied_push : (h : Tree) (Ps : List Tree) (P : Tree) → applied h (Ps ++ P ∷ []) ≡ app (applied h Ps) P
 applied_push h [] P = refl
 applied_push h (Q ∷ Ps) P = applied_push (app h Q) Ps P
 

@@ -62,7 +62,7 @@ module _ {A : Type 0} (N : NamedNet A) where
 cons_one : {X : Type 0} {c d : X} {w v : List X} → c ∷ w ≡ d ∷ v → (c ≡ d) × (w ≡ v)
 cons_one e = ((cc), (cc))
 
-not_nil : {X : Type 0} (w : List X) (c : X) (v : List X) → [] ≡ w ++ (c ∷ v) → ⊥
+pub not_nil : {X : Type 0} (w : List X) (c : X) (v : List X) → [] ≡ w ++ (c ∷ v) → ⊥
 not_nil [] c v e = absurd (cc)
 not_nil (d ∷ w) c v e = absurd (cc)
 

@@ -1,6 +1,7 @@
 -- A step of a family leaves the rest of it: no redex of the same degree comes to be.
 use Rattle.std.proofs.Common.{◌≡◌, ℕ, zero, suc, ◌⊎◌, inl, inr, List, Some, refl, sym, ap, ◌∙◌}
 use Rattle.std.proofs.Common.{subst}
+use Rattle.std.proofs.lemmas.Option.{none-some}
 use Rattle.ol_law_edges.specs.Edges.{IsIn}
 use Rattle.ol_law_optimality.specs.Labels.{Label, none, over, under, joined, Labelled, var, free, lam, app}
 use Rattle.ol_law_optimality.specs.Labels.{before, substituted, degree_of_abstraction}
@@ -8,7 +9,6 @@ use Rattle.ol_law_optimality.specs.LevysTheorem.{FamilyStepsDevelop}
 use Rattle.ol_law_optimality.specs.Reductions.{Contracts, ready, contract, Parallel, of_var, of_free, of_lam}
 use Rattle.ol_law_optimality.specs.Reductions.{of_app, of_redex, reduct, WholeFamily, all_var, all_free, all_lam}
 use Rattle.ol_law_optimality.specs.Reductions.{all_app, all_redex}
-use Rattle.ol_law_optimality.proofs.Firsts.{none_some}
 use Rattle.ol_law_optimality.proofs.Histories.{HasPart, part_left, part_right, not_own_part}
 use Rattle.ol_law_optimality.proofs.Histories.{before_degree, ren_degree, Bears}
 use Rattle.ol_law_optimality.proofs.Needed.{Of, contraction_step}
@@ -54,7 +54,7 @@ module _ (d : Label) where
       steps (suc y) = whole_ren suc (h.step y)
 
       bear : (y : ℕ) → Bears d (up σ y)
-      bear zero v e = absurd (none_some e)
+      bear zero v e = absurd (none-some _ e)
       bear (suc y) v e = h.bears y v (sym (ren_degree suc (σ y)) ∙ e)
 
   -- no redex of degree d comes to be
@@ -63,9 +63,9 @@ module _ (d : Label) where
   still_other σ τ h (var y x) n e =
       let r = before_degree x (σ y) d e in
       not_own_part d (subst (HasPart d) (sym r.1) (part_right d x r.0 (h.bears y r.0 r.2)))
-  still_other σ τ h (free k x) n e = none_some e
+  still_other σ τ h (free k x) n e = none-some _ e
   still_other σ τ h (lam b x) n e = n e
-  still_other σ τ h (app f a x) n e = none_some e
+  still_other σ τ h (app f a x) n e = none-some _ e
 
   whole_inst : {t u : Labelled} (σ τ : ℕ → Labelled) → Both σ τ → WholeFamily d t u →
       WholeFamily d (inst σ t) (inst τ u)
@@ -90,7 +90,7 @@ module _ (d : Label) where
       bear : (y : ℕ) → Bears d (point (before (under d none) N) y)
       bear zero v e =
           let r = before_degree (under d none) N v e in subst (HasPart d) (sym r.1) (inl refl)
-      bear (suc y) v e = absurd (none_some e)
+      bear (suc y) v e = absurd (none-some _ e)
 
   whole_reduct : {M M' N N' : Labelled} (w : Label) → WholeFamily d M M' → WholeFamily d N N' →
       WholeFamily d (reduct w d N M) (reduct w d N' M')
@@ -106,10 +106,10 @@ module _ (d : Label) where
 
   becomes : {t u : Labelled} → Parallel (Of d) t u → (v : Label) →
       degree_of_abstraction u ≡ Some v → (degree_of_abstraction t ≡ Some v) ⊎ HasPart d v
-  becomes of_var v e = absurd (none_some e)
-  becomes of_free v e = absurd (none_some e)
+  becomes of_var v e = absurd (none-some _ e)
+  becomes of_free v e = absurd (none-some _ e)
   becomes (of_lam p) v e = inl e
-  becomes (of_app p q) v e = absurd (none_some e)
+  becomes (of_app p q) v e = absurd (none-some _ e)
   becomes (of_redex {M' = M'} {N' = N'} {v = x} {w = w} i p q) v e =
       let r =
       before_degree (joined w (over x none)) (substituted (before (under x none) N') 0 M') v e in

@@ -9,7 +9,7 @@ use Rattle.ol_law_optimality.specs.Labels.{Label, Labelled, var, free, lam, app,
 use Rattle.ol_law_optimality.specs.Labels.{substituted, applied, contracted, joined, over, under, none}
 use Rattle.ol_law_optimality.specs.Labels.{LabelsErase}
 
-erased_before : (v : Label) (t : Labelled) → erased (before v t) ≡ erased t
+pub erased_before : (v : Label) (t : Labelled) → erased (before v t) ≡ erased t
 erased_before v (var k w) = refl
 erased_before v (free k w) = refl
 erased_before v (lam t w) = refl

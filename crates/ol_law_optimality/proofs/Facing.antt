@@ -2,6 +2,7 @@
 use Rattle.std.proofs.Common.{◌≡◌, ℕ, zero, suc, ◌+◌, Bool, true, false, not, List, [], ◌∷◌, ◌++◌, length}
 use Rattle.std.proofs.Common.{length-append, map, nat_eq, nat_lt, Option, None, Some, inl, inr, refl, sym, ap}
 use Rattle.std.proofs.Common.{◌∙◌, subst, arith}
+use Rattle.std.proofs.Math.Bool.{not-not}
 use Rattle.ol_net.specs.Nets.{NamedPort, free, slot, NamedNet, HasNode, Linked, IsNet}
 use Rattle.ol_net.specs.Numbered.{numbered_port}
 use Rattle.ol_net.specs.declared.parts.Kind.{Kind}
@@ -259,12 +260,8 @@ module _ (τ : Translation) (N : NamedNet ℕ) where
       subst (λ p. Opposite N p q) (sym a) (subst (λ q. Opposite N (numbered_port l.0) q) (sym b) h.0)
   in_links (l ∷ ls) h p q (inr i) = in_links ls h.1 p q i
 
-not_not : (b : Bool) → not (not b) ≡ b
-not_not true = refl
-not_not false = refl
-
 pub opposite_sym : {A : Type 0} (N : NamedNet A) (p q : NamedPort A) → Opposite N p q → Opposite N q p
-opposite_sym N p q (b, h, k) = (not b, k, subst (IsSide N p) (sym (not_not b)) h)
+opposite_sym N p q (b, h, k) = (not b, k, subst (IsSide N p) (sym (not-not b)) h)
 
 pub term_faces : (τ : Translation) (t : Tree) (names : ℕ) → HasNames t names → IsFacing (translation_of τ t names)
 term_faces τ t names h p q l = by l

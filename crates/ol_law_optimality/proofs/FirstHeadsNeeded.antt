@@ -149,17 +149,22 @@ row_app n (more {d = d} (of_app p q) r) =
     record { fun = x.fun; arg = x.arg; is = x.is; fun_row = more p x.fun_row; arg_row = more q x.arg_row }
 row_app n (more (of_redex i p q) r) = elim n [ ]
 
--- a row one by one
-record OneByOne (T : Labelled) (us : List Label) (V : Labelled) : Type 0 where
-  degrees : List Label
-  steps : Contracts T degrees V
+-- a row one by one, each step of a degree of the row
+pub record OneByOne (T : Labelled) (us : List Label) (V : Labelled) : Type 0 where
+  pub degrees : List Label
+  pub steps : Contracts T degrees V
+  pub known : (e : Label) → IsIn e degrees → IsIn e us
 
-one_by_one : {T V : Labelled} {us : List Label} → Row T us V → OneByOne T us V
-one_by_one done = record { degrees = []; steps = reductions.ready }
+pub one_by_one : {T V : Labelled} {us : List Label} → Row T us V → OneByOne T us V
+one_by_one done = record { degrees = []; steps = reductions.ready; known = λ e i. i }
 one_by_one (more {d = d} p r) =
     let s = at_once d p in
     let x = one_by_one r in
-    record { degrees = s.0 ++ x.degrees; steps = contracts_then s.1 x.steps }
+    record {
+      degrees = s.0 ++ x.degrees;
+      steps = contracts_then s.1 x.steps;
+      known = λ e i. elim (in_cases e s.0 x.degrees i) [ inl j ↦ inl (s.2 e j) | inr j ↦ inr (x.known e j) ];
+    }
 
 -- beside head reduction
 pub record BesideHeads (n m : ℕ) (U : Labelled) (us : List Label) : Type 0 where

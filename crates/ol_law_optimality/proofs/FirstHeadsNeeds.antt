@@ -1,37 +1,19 @@
 -- Call-by-need for the first heads.
 use Rattle.std.proofs.Common.{ℕ, inl, inr, List, [], ◌∷◌, ◌++◌, sym, subst}
 use Rattle.ol_law_edges.specs.Edges.{IsIn}
-use Rattle.ol_law_edges.proofs.Lists.{in_cases}
 use Rattle.ol_law_optimality.specs.Labels.{Label, Labelled, erased}
 use Rattle.ol_law_optimality.specs.FirstHeads.{ShowsHeads, HasFirstHeads}
 use Rattle.ol_law_optimality.specs.LevysTheorem.{IsNeededFor, NeededFamilies, ready, contract}
 use Rattle.ol_law_optimality.specs.NeededHeads.{NeedForHeadsGoesBack}
 use Rattle.ol_law_optimality.specs.NeededHeads.{CallByNeedIsFewestForHeads, CallByNeedGoesOnForHeads}
-use Rattle.ol_law_optimality.specs.Reductions.{Contracts, WholeFamilies}
+use Rattle.ol_law_optimality.specs.Reductions.{WholeFamilies}
 use Rattle.ol_law_optimality.specs.Reductions as reductions
 use Rattle.ol_law_optimality.proofs.CallByNeed.{whole}
-use Rattle.ol_law_optimality.proofs.FirstHeadsNeeded.{BesideHeads, shows_stay}
+use Rattle.ol_law_optimality.proofs.FirstHeadsNeeded.{BesideHeads, shows_stay, one_by_one}
 use Rattle.ol_law_optimality.proofs.FirstHeadsReached.{find, is_first, within_is_needed, none_is_shorter_than_needed, stands}
-use Rattle.ol_law_optimality.proofs.Needed.{Of, Row, done, more, beside, contracts_row, contracts_then}
+use Rattle.ol_law_optimality.proofs.Needed.{Of, Row, beside, contracts_row}
 use Rattle.ol_law_optimality.proofs.Once.{no_family_twice}
-use Rattle.ol_law_optimality.proofs.Steps.{at_once, whole_parallel}
-
--- a row one by one, each step of a degree of the row
-record OneByOne (T : Labelled) (us : List Label) (V : Labelled) : Type 0 where
-  degrees : List Label
-  steps : Contracts T degrees V
-  known : (e : Label) → IsIn e degrees → IsIn e us
-
-one_by_one : {T V : Labelled} {us : List Label} → Row T us V → OneByOne T us V
-one_by_one done = record { degrees = []; steps = reductions.ready; known = λ e i. i }
-one_by_one (more {d = d} p r) =
-    let s = at_once d p in
-    let x = one_by_one r in
-    record {
-      degrees = s.0 ++ x.degrees;
-      steps = contracts_then s.1 x.steps;
-      known = λ e i. elim (in_cases e s.0 x.degrees i) [ inl j ↦ inl (s.2 e j) | inr j ↦ inr (x.known e j) ];
-    }
+use Rattle.ol_law_optimality.proofs.Steps.{whole_parallel}
 
 -- beside whole families
 along : {T U V : Labelled} {ds us : List Label} {n m : ℕ} → WholeFamilies T ds U → Row T us V →

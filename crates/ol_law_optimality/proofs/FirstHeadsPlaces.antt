@@ -52,14 +52,10 @@ IsAt n P x v c (whole k e) = (m : ℕ) × (n ≡ suc m)
 IsAt n P y w d (part {Q = Q} {x = x} {v = v} {c = c} b s k a g f) =
     (m : ℕ) × (n ≡ suc m) × (l : ℕ) × Before m k l × IsAt l Q x v c a
 
-none_at : {τ : Translation} (P : Tree) (x : Place) (v : Level) (c : Context) (a : Asks τ P x v c) →
-    IsAt 0 P x v c a → ⊥
-none_at P x v c (whole k e) i = let q = i.1 in absurd (omega (arith, q))
-none_at P x v c (part b s k a g f) i = let q = i.1 in absurd (omega (arith, q))
-
 pub nothing_at : {τ : Translation} (P : Tree) (x : Place) (v : Level) (c : Context) (a : Asks τ P x v c) →
     IsAt 0 P x v c a → ⊥
-nothing_at P x v c a i = none_at P x v c a i
+nothing_at P x v c (whole k e) i = let q = i.1 in absurd (omega (arith, q))
+nothing_at P x v c (part b s k a g f) i = let q = i.1 in absurd (omega (arith, q))
 
 -- ---- with labels, and the degrees that head reduction contracts at the places that are asked
 

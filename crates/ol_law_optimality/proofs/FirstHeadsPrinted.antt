@@ -2,13 +2,13 @@
 use Rattle.std.proofs.Common.{◌⊎◌, inl, inr, ◌≡◌, ℕ, zero, suc, ◌+◌, ◌≤◌, Bool, true, false, if◌then◌else◌, List, [], ◌∷◌, ◌++◌, length, Some, None}
 use Rattle.std.proofs.Common.{append-nil, map, refl, sym, ap, ◌∙◌, subst, arith}
 use Rattle.std.proofs.lemmas.List.{append_assoc, length_push}
+use Rattle.std.proofs.lemmas.Option.{none-some}
 use Rattle.std.specs.Option.{option_or}
 use Rattle.ol_beta.specs.Leftmost.{leftmost, IsNormal, is_abstraction}
 use Rattle.ol_beta.specs.Leftmost as steps
 use Rattle.ol_demand.specs.Answers.{start_of}
 use Rattle.ol_demand.specs.Demands.{Asking, asks, next, place_of, Turn, rewrites, one_more, finds, Turns, begins, and_then, IsDemandRun}
 use Rattle.ol_beta.proofs.Redexes.{no_under, no_first}
-use Rattle.ol_context.specs.Paths.{HaveSamePaths}
 use Rattle.ol_demand.proofs.Onward.{is_start}
 use Rattle.ol_invariance.proofs.SameNets.{start_paths}
 use Rattle.ol_law_optimality.proofs.Exactly.{start_is_levelled}
@@ -31,8 +31,6 @@ use Rattle.ol_readback.specs.Frames.{Frame}
 use Rattle.ol_readback.specs.Heads.{Answer, head, no_head}
 use Rattle.ol_readback.specs.Heads as answers
 use Rattle.ol_readback.specs.ReadTrees.{Subterm, framed}
-use Rattle.ol_readback.specs.Sources.{HaveHeadsOf}
-use Rattle.ol_readback.specs.Sources as sources
 use Rattle.ol_readback.specs.Terms.{HasAllHeads, IsNoLam, abstracted, variable_of}
 use Rattle.ol_readback.specs.Whole.{Part, preorder}
 use Rattle.ol_readback.specs.Whole as whole
@@ -41,7 +39,7 @@ use Rattle.ol_readback.specs.declared.answers.HeadVar.TheVariants as var
 use Rattle.ol_readback.specs.declared.answers.ReadNode.{ReadNode}
 use Rattle.ol_readback.specs.declared.answers.ReadNode.TheVariants as node
 use Rattle.ol_readback.proofs.Forests.{heads_are_whole}
-use Rattle.ol_readback.proofs.Kept.{heads_are_kept}
+use Rattle.ol_readback.proofs.Kept.{heads_moved}
 use Rattle.ol_rules.specs.declared.journal.Entry.{Entry}
 use Rattle.ol_rules.specs.declared.journal.NodeName.{NodeName}
 use Rattle.ol_term.specs.Trees.{Tree}
@@ -55,7 +53,7 @@ use Rattle.ol_law_optimality.specs.Demand.{NeverMoreThanAnyReduction}
 use Rattle.ol_law_optimality.proofs.FirstHeadsNeeded.{shown_head, shown}
 use Rattle.ol_law_optimality.proofs.FirstHeadsPlaces.{Heads, heads_by}
 use Rattle.ol_law_optimality.proofs.FirstHeadsTurns.{run_heads}
-use Rattle.ol_law_optimality.proofs.FirstHeadsReached.{OfTurns, degrees_to, demand_is_as_short_for_heads}
+use Rattle.ol_law_optimality.proofs.FirstHeadsReached.{OfTurns, degrees_to, demand_is_as_short_for_heads, plain_no_lam}
 use Rattle.ol_law_confluence.specs.Reductions.{Convertible, turned, joined}
 use Rattle.ol_law_confluence.proofs.Meetings.{convertible}
 use Rattle.ol_law_optimality.proofs.FirstHeadsSame.{CutAfter, all_cut, fills_same}
@@ -117,26 +115,17 @@ filled_has_heads b P t f n h =
 clash : true ≡ false → ⊥
 clash e = absurd (cc)
 
-no_some : {X : Type 0} {x : X} → Some x ≡ None → ⊥
-no_some e = absurd (cc)
-
 record Parts (f a : Tree) : Type 0 where
   plain : IsNoLam f
   function : leftmost f ≡ None
   argument : leftmost a ≡ None
-
-plain_no_lam : (t : Tree) → is_abstraction t ≡ false → IsNoLam t
-plain_no_lam (trees.var k) e = tt
-plain_no_lam (trees.free k) e = tt
-plain_no_lam (trees.lam t) e = absurd (clash e)
-plain_no_lam (trees.app f a) e = tt
 
 parts : (f a : Tree) → leftmost (trees.app f a) ≡ None → Parts f a
 parts f a e = go (is_abstraction f) refl e
   where
     go : (b : Bool) → is_abstraction f ≡ b →
         (if b then Some [] else option_or (steps.under 1 (leftmost f)) (steps.under 2 (leftmost a))) ≡ None → Parts f a
-    go true h e = absurd (no_some e)
+    go true h e = absurd (none-some _ (sym e))
     go false h e =
         let r = no_first (steps.under 1 (leftmost f)) (steps.under 2 (leftmost a)) e in
         record {
@@ -208,22 +197,12 @@ never_more_than_any_reduction τ t v r n names h g k same heads =
 
 -- ---- what is printed
 
--- places of a net with the same paths
-places_moved : {A B : Type 0} (N : NamedNet A) (M : NamedNet B) → HaveSamePaths N M →
-    {F : List Frame} {ss : List Subterm} {ns : List ReadNode} → HaveHeadsOf N true F ss ns → HaveHeadsOf M true F ss ns
-places_moved N M p sources.end = sources.end
-places_moved N M p (sources.cut r) = sources.cut (places_moved N M p r)
-places_moved N M p (sources.lost {frames = F} {s = s} h r) =
-    sources.lost (λ e. heads_are_kept N M p (F ++ framed s 0 ∷ []) (length F) _ (h e)) (places_moved N M p r)
-places_moved N M p (sources.found {frames = F} {s = s} h r) =
-    sources.found (heads_are_kept N M p (F ++ framed s 0 ∷ []) (length F) _ h) (places_moved N M p r)
-
 -- and no more are asked than so many
 record Few (heads : ℕ) (places : List ReadNode) (a : Asking) : Type 0 where
   same : length a.frames ≡ length places
   few : length places ≤ heads
 
-next_frames : (F : List Frame) (s : Subterm) (ss : List Subterm) (a : Answer) →
+pub next_frames : (F : List Frame) (s : Subterm) (ss : List Subterm) (a : Answer) →
     length (next F s ss a).frames ≡ length F + 1
 next_frames F s ss (head n v k ls) = length_push F (framed s n)
 next_frames F s ss no_head = length_push F (framed s 0)
@@ -301,7 +280,7 @@ pub printed_heads_are_as_short : PrintedHeadsAreAsShort
 printed_heads_are_as_short τ T own names h g n same heads journal places M d all =
     let N = translation_of τ (erased T) names in
     let p = start_paths (net_of g) N n same in
-    let w = places_moved (start_of g) N (λ q c r X. ((p q c r X).1, (p q c r X).0))
+    let w = heads_moved (start_of g) N (λ q c r X. ((p q c r X).1, (p q c r X).0)) true
     (demand_places (start_of g) M heads journal places (is_start g n) (start_is_levelled τ T names h (net_of g) same) d) in
     let P = heads_are_whole N true places w in
     let says = places_say τ (erased T) names h true P.tree places P.is_list w in

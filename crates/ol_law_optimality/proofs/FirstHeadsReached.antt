@@ -10,8 +10,7 @@ use Rattle.ol_demand.specs.Laws.{IsStart}
 use Rattle.ol_demand.proofs.Onward.{is_start}
 use Rattle.ol_law_edges.specs.Edges.{IsIn}
 use Rattle.ol_law_optimality.specs.Families.{labels_in, IsLetter}
-use Rattle.ol_law_optimality.specs.Readings.{AreDifferent, HeadReduces}
-use Rattle.ol_law_optimality.specs.Readings as readings
+use Rattle.ol_law_optimality.specs.Readings.{AreDifferent}
 use Rattle.ol_law_meaning.specs.Heads.{head_app, Normal, flat, layer}
 use Rattle.ol_law_meaning.specs.Contraction.{Level, Place, wire}
 use Rattle.ol_law_optimality.specs.Labels.{Label, Labelled, var, free, lam, app, erased, degree}
@@ -44,11 +43,11 @@ use Rattle.ol_law_optimality.proofs.FirstHeadsPlaces as places
 use Rattle.ol_law_optimality.proofs.Counts.{no_more}
 use Rattle.ol_law_optimality.proofs.Firsts.{IsPlain, IsStill, IsFirst, first_is_none, stays, stays_plain, first_of, first_degree}
 use Rattle.ol_law_optimality.proofs.Firsts as firsts
-use Rattle.ol_law_optimality.proofs.HeadNeeded.{head_parallel}
 use Rattle.ol_law_optimality.proofs.Needed.{Of, Row, done, more, beside, contracts_row, spread}
 use Rattle.ol_law_optimality.proofs.Once.{History, at_first, is_new, one_more, no_family_twice}
 use Rattle.ol_law_optimality.proofs.Steps.{whole_family, whole_parallel, leftmost_families_are_whole, leftmost_families_are_families}
 use Rattle.ol_law_optimality.proofs.Together.{parallel_same, of_lam_view, OfApp, OfRedex, of_app_view}
+use Rattle.ol_law_optimality.proofs.HeadReached.{head_row}
 
 -- ---- the leftmost redex, where it is at one of the first places
 
@@ -70,7 +69,7 @@ no_lam_plain (trees.free k) e = refl
 no_lam_plain (trees.lam t) e = absurd e
 no_lam_plain (trees.app f a) e = refl
 
-plain_no_lam : (t : Tree) → is_abstraction t ≡ false → IsNoLam t
+pub plain_no_lam : (t : Tree) → is_abstraction t ≡ false → IsNoLam t
 plain_no_lam (trees.var k) e = tt
 plain_no_lam (trees.free k) e = tt
 plain_no_lam (trees.lam t) e = absurd (clash e)
@@ -231,10 +230,6 @@ fun_row a w (more {d = d} p r) = more (of_app p (parallel_same (Of d) a)) (fun_r
 arg_row : {t u : Labelled} {ds : List Label} (f : Labelled) (w : Label) → Row t ds u → Row (app f t w) ds (app f u w)
 arg_row f w done = done
 arg_row f w (more {d = d} p r) = more (of_app (parallel_same (Of d) f) p) (arg_row f w r)
-
-head_row : {T v : Labelled} {ds : List Label} → HeadReduces T ds v → Row T ds v
-head_row readings.ready = done
-head_row (readings.contract h r) = more (head_parallel h) (head_row r)
 
 pub record Ends (n m : ℕ) (T : Labelled) (ws : List Label) : Type 0 where
   pub term : Labelled

@@ -17,7 +17,6 @@ use Rattle.ol_readback.specs.ReadTrees.{Subterm, whole_term, framed, port_of, ar
 use Rattle.ol_readback.specs.declared.answers.HeadVar.{HeadVar}
 use Rattle.ol_readback.specs.Terms.{HasAllHeads}
 use Rattle.ol_readback.specs.declared.answers.ReadNode.{ReadNode}
-use Rattle.ol_readback.specs.declared.answers.ReadNode.TheVariants as node
 use Rattle.ol_readback.proofs.Forests.{frame_last}
 use Rattle.ol_readback.proofs.Kept.{heads_are_kept}
 use Rattle.ol_readback.proofs.One.{exit_is_one}
@@ -35,11 +34,9 @@ use Rattle.ol_law_levels.proofs.Runs.{run_keeps}
 use Rattle.ol_law_meaning.specs.Contraction.{Tree, Wire, Place, root}
 use Rattle.ol_law_meaning.specs.Heads.{Spine, head_var, head_free, head_app, Normal, flat, layer, Steps, done, step, SameAlong, Arg, last, earlier, inner, StandsAt}
 use Rattle.ol_law_meaning.specs.Seen.{ahead, Chain, IsChain, Seats, IsSeen, WholeSeats, ArgSeats}
-use Rattle.ol_law_meaning.specs.Shows.{HeadReduces}
-use Rattle.ol_law_meaning.specs.Shows as shows
 use Rattle.ol_law_meaning.proofs.Based.{term_seen}
 use Rattle.ol_law_meaning.proofs.Endless.{comes_to_none, normal_stops}
-use Rattle.ol_law_meaning.proofs.HeadSteps.{step_then}
+use Rattle.ol_law_meaning.proofs.HeadSteps.{reduces}
 use Rattle.ol_law_meaning.proofs.Matched.{chain_grows}
 use Rattle.ol_law_meaning.proofs.Seats.{spot_is}
 use Rattle.ol_law_meaning.proofs.Shapes.{normal_is}
@@ -55,10 +52,7 @@ use Rattle.ol_law_optimality.proofs.Wanted.{Asks, whole, part, one_step, arg_sto
 use Rattle.ol_law_optimality.proofs.Answering.{rest_of, port_of_place}
 use Rattle.ol_law_optimality.proofs.DegreesWanted.{Close, Reached}
 use Rattle.ol_law_optimality.proofs.FirstHeadsPlaces.{Heads, not_asked, is_asked, of_var, of_free, of_lam, of_app, same_form, one_left, Before, IsAt, nothing_at}
-
-pub steps_reduce : {t u : Tree} {m : ℕ} → Steps t u m → HeadReduces t u
-steps_reduce done = shows.ready
-steps_reduce (step h s) = step_then h (steps_reduce s)
+use Rattle.ol_law_confluence.proofs.Printed.{heads_append}
 
 -- ---- an argument at the end of some head steps is one of the head normal form
 
@@ -120,12 +114,6 @@ arg_heads j (of_app h x) (earlier s k) o = arg_heads j h k o
 arg_heads j (of_lam h) (inner k) o = arg_heads j h k o
 arg_heads j of_var k o = elim k [ ]
 arg_heads j of_free k o = elim k [ ]
-
-heads_append : (ps ns : List ReadNode) → HasAllHeads ps → HasAllHeads ns → HasAllHeads (ps ++ ns)
-heads_append [] ns h k = k
-heads_append (node.Head l v j ∷ ps) ns h k = heads_append ps ns h k
-heads_append (node.NoHead ∷ ps) ns h k = absurd h
-heads_append (node.Cut ∷ ps) ns h k = absurd h
 
 -- ---- what waits
 
@@ -452,7 +440,7 @@ module _ (τ : Translation) (t : Tree) (names : ℕ) (h : HasNames t names) (man
     where
       go : Heads true (suc b) w.part m → ⊥
       go (is_asked {u = u} r k g) =
-          comes_to_none w.part u (no_head_is F s w.seen w.is_chain x) (steps_reduce r) (normal_is k)
+          comes_to_none w.part u (no_head_is F s w.seen w.is_chain x) (reduces r) (normal_is k)
 
   -- the head of a place that is asked
   record HeadOf (F : List Frame) (s : Subterm) (n k : ℕ) (v : HeadVar) (ls : List Level) (b m : ℕ)

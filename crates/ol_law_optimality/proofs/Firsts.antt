@@ -2,7 +2,7 @@
 -- the leftmost one, of the same degree.
 use Rattle.std.proofs.Common.{◌≡◌, ℕ, Bool, true, false, if◌then◌else◌, ◌⊎◌, inl, inr, List, []}
 use Rattle.std.proofs.Common.{◌∷◌, Option, Some, None, refl, sym, ap, ◌∙◌, subst}
-use Rattle.std.proofs.lemmas.Option.{same_Some}
+use Rattle.std.proofs.lemmas.Option.{same_Some, none-some}
 use Rattle.std.specs.Option.{option_or}
 use Rattle.ol_beta.specs.Leftmost.{leftmost, is_abstraction}
 use Rattle.ol_beta.specs.Leftmost as beta_steps
@@ -31,12 +31,6 @@ pub data IsFirst : Label → Labelled → Type 0 where
 clash : true ≡ false → ⊥
 clash e = absurd (cc)
 
-no_some : {X : Type 0} {x : X} → Some x ≡ None → ⊥
-no_some e = absurd (cc)
-
-pub none_some : {X : Type 0} {x : X} → None ≡ Some x → ⊥
-none_some e = absurd (cc)
-
 pub record Parts (f a : Labelled) : Type 0 where
   pub plain : IsPlain f
   pub function : IsStill f
@@ -48,7 +42,7 @@ parts f a w e = go (is_abstraction (erased f)) refl e
     go : (b : Bool) → is_abstraction (erased f) ≡ b →
         (if b then Some [] else option_or (beta_steps.under 1 (leftmost (erased f)))
         (beta_steps.under 2 (leftmost (erased a)))) ≡ None → Parts f a
-    go true h e = absurd (no_some e)
+    go true h e = absurd (none-some _ (sym e))
     go false h e =
         let r =
         no_first (beta_steps.under 1 (leftmost (erased f)))
@@ -61,7 +55,7 @@ parts f a w e = go (is_abstraction (erased f)) refl e
         }
 
 pub first_is_none : {d : Label} {t : Labelled} → IsFirst d t → IsStill t → ⊥
-first_is_none at_redex e = no_some e
+first_is_none at_redex e = none-some _ (sym e)
 first_is_none (below_lam {t = t} h) e = first_is_none h (no_under 0 (leftmost (erased t)) e)
 first_is_none (in_function {f = f} {a = a} {w = w} n h) e = first_is_none h (parts f a w e).function
 first_is_none (in_argument {f = f} {a = a} {w = w} n s h) e =
@@ -78,7 +72,7 @@ module _ (P : Label → Type 0) where
   stays (of_app {M = M} {M' = M'} {N = N} {N' = N'} {w = w} p q) e =
       let r = parts M N w e in
       ap (λ f. app f N' w) (stays p r.function) ∙ ap (λ a. app M a w) (stays q r.argument)
-  stays (of_redex i p q) e = absurd (no_some e)
+  stays (of_redex i p q) e = absurd (none-some _ (sym e))
 
   -- and a function that has a redex doesn't become an abstraction, unless its leftmost redex goes
   pub stays_plain : {d : Label} {f u : Labelled} → IsFirst d f → IsPlain f → Parallel P f u →
@@ -152,7 +146,7 @@ record Within (m : ℕ) (o : Option (List ℕ)) (at : List ℕ) : Type 0 where
   leads : o ≡ Some rest
 
 within : (m : ℕ) (o : Option (List ℕ)) (at : List ℕ) → beta_steps.under m o ≡ Some at → Within m o at
-within m None at e = absurd (none_some e)
+within m None at e = absurd (none-some _ e)
 within m (Some rest) at e =
     record { rest = rest; is = sym (same_Some (m ∷ rest) at e); leads = refl }
 
@@ -175,8 +169,8 @@ first_of_app f a w at d n fun arg e g = go (leftmost (erased f)) refl e
 
 pub first_of : (t : Labelled) (at : List ℕ) (d : Label) → leftmost (erased t) ≡ Some at →
     degree t at ≡ Some d → IsFirst d t
-first_of (var k w) at d e g = absurd (none_some e)
-first_of (free k w) at d e g = absurd (none_some e)
+first_of (var k w) at d e g = absurd (none-some _ e)
+first_of (free k w) at d e g = absurd (none-some _ e)
 first_of (lam t w) at d e g =
     let x = within 0 (leftmost (erased t)) at e in
     below_lam (first_of t x.rest d x.leads (sym (ap (degree (lam t w)) x.is) ∙ g))
@@ -195,8 +189,8 @@ first_of (app (app f b v) a w) at d e g =
 -- the leftmost redex has a degree
 pub first_degree : (t : Labelled) (at : List ℕ) → leftmost (erased t) ≡ Some at →
     (d : Label) × (degree t at ≡ Some d)
-first_degree (var k w) at e = absurd (none_some e)
-first_degree (free k w) at e = absurd (none_some e)
+first_degree (var k w) at e = absurd (none-some _ e)
+first_degree (free k w) at e = absurd (none-some _ e)
 first_degree (lam t w) at e =
     let x = within 0 (leftmost (erased t)) at e in
     let r = first_degree t x.rest x.leads in

@@ -27,7 +27,7 @@ use Rattle.ol_law_optimality.proofs.Once.{History, at_first, is_new, one_more, n
 use Rattle.ol_law_optimality.proofs.Steps.{whole_family, whole_parallel, whole_families_are_families}
 
 -- head reduction is a row of steps
-head_row : {T v : Labelled} {ds : List Label} → HeadReduces T ds v → Row T ds v
+pub head_row : {T v : Labelled} {ds : List Label} → HeadReduces T ds v → Row T ds v
 head_row readings.ready = done
 head_row (readings.contract h r) = more (head_parallel h) (head_row r)
 

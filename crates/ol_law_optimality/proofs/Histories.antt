@@ -3,10 +3,9 @@
 use Rattle.std.proofs.Common.{◌≡◌, ◌≢◌, ℕ, zero, suc, ◌+◌, ◌<◌, ◌==◌, Bool, true, false, ◌⊎◌, inl}
 use Rattle.std.proofs.Common.{inr, List, [], ◌∷◌, Some, None, refl, sym, ap, ◌∙◌, subst, arith}
 use Rattle.std.specs.Prelude.{if◌then◌else◌}
-use Rattle.std.proofs.lemmas.Option.{same_Some}
+use Rattle.std.proofs.lemmas.Option.{same_Some, none-some}
 use Rattle.ol_law_optimality.specs.Labels.{Label, none, atom, over, under, joined, Labelled, var, free}
 use Rattle.ol_law_optimality.specs.Labels.{lam, app, before, substituted, degree_of_abstraction, degree}
-use Rattle.ol_law_optimality.proofs.Firsts.{none_some}
 use Rattle.ol_law_optimality.specs.Reductions.{Parallel, of_var, of_free, of_lam, of_app, of_redex, reduct}
 use Rattle.ol_law_optimality.specs.Reductions.{WholeFamily, all_var, all_free, all_lam, all_app, all_redex}
 use Rattle.ol_law_confluence.proofs.Substitutions.{up_ren}
@@ -154,10 +153,10 @@ any_degrees R h (app f a w) = ((λ v e. h v), any_degrees R h f, any_degrees R h
 pub before_degree : (x : Label) (t : Labelled) (v : Label) →
     degree_of_abstraction (before x t) ≡ Some v →
     (u : Label) × (v ≡ joined x u) × (degree_of_abstraction t ≡ Some u)
-before_degree x (var k w) v e = absurd (none_some e)
-before_degree x (free k w) v e = absurd (none_some e)
+before_degree x (var k w) v e = absurd (none-some _ e)
+before_degree x (free k w) v e = absurd (none-some _ e)
 before_degree x (lam t w) v e = (w, sym (same_Some (joined x w) v e), refl)
-before_degree x (app f a w) v e = absurd (none_some e)
+before_degree x (app f a w) v e = absurd (none-some _ e)
 
 pub ren_degree : (ξ : ℕ → ℕ) (t : Labelled) → degree_of_abstraction (ren ξ t) ≡ degree_of_abstraction t
 ren_degree ξ (var k w) = refl
@@ -196,7 +195,7 @@ module _ (R : Label → Type 0) (d : Label) (new : (v : Label) → HasPart d v �
       own (suc y) = degrees_ren suc (σ y) (h.degrees y)
 
       bear : (y : ℕ) → Bears d (up σ y)
-      bear zero v e = absurd (none_some e)
+      bear zero v e = absurd (none-some _ e)
       bear (suc y) v e = h.bears y v (sym (ren_degree suc (σ y)) ∙ e)
 
   degrees_inst : (σ : ℕ → Labelled) → Fit σ → (t : Labelled) → Degrees R t → Degrees R (inst σ t)
@@ -212,9 +211,9 @@ module _ (R : Label → Type 0) (d : Label) (new : (v : Label) → HasPart d v �
           let r = before_degree x (σ y) v e in
           new v
           (subst (HasPart d) (sym r.1) (part_right d x r.0 (h.bears y r.0 r.2)))
-      function (free k x) g v e = absurd (none_some e)
+      function (free k x) g v e = absurd (none-some _ e)
       function (lam b x) g v e = g v e
-      function (app k b x) g v e = absurd (none_some e)
+      function (app k b x) g v e = absurd (none-some _ e)
 
   degrees_reduct : (w : Label) (c b : Labelled) → Degrees R c → Degrees R b →
       Degrees R (reduct w d c b)
@@ -230,15 +229,15 @@ module _ (R : Label → Type 0) (d : Label) (new : (v : Label) → HasPart d v �
       bear : (y : ℕ) → Bears d (point (before (under d none) c) y)
       bear zero v e =
           let r = before_degree (under d none) c v e in subst (HasPart d) (sym r.1) (inl refl)
-      bear (suc y) v e = absurd (none_some e)
+      bear (suc y) v e = absurd (none-some _ e)
 
   -- what becomes an abstraction has d as a part of its label
   becomes : {t u : Labelled} → WholeFamily d t u → (v : Label) →
       degree_of_abstraction u ≡ Some v → (degree_of_abstraction t ≡ Some v) ⊎ HasPart d v
-  becomes all_var v e = absurd (none_some e)
-  becomes all_free v e = absurd (none_some e)
+  becomes all_var v e = absurd (none-some _ e)
+  becomes all_free v e = absurd (none-some _ e)
   becomes (all_lam p) v e = inl e
-  becomes (all_app n p q) v e = absurd (none_some e)
+  becomes (all_app n p q) v e = absurd (none-some _ e)
   becomes (all_redex {M' = M'} {N' = N'} {w = w} p q) v e =
       let r =
       before_degree (joined w (over d none)) (substituted (before (under d none) N') 0 M') v e in
@@ -268,19 +267,19 @@ module _ (R : Label → Type 0) (d : Label) (new : (v : Label) → HasPart d v �
 
 pub degree_made : (H : Label → Type 0) (t : Labelled) (at : List ℕ) (d : Label) →
     degree t at ≡ Some d → Made H t → PartsIn H d
-degree_made H (var k w) at d e m = absurd (none_some e)
-degree_made H (free k w) at d e m = absurd (none_some e)
-degree_made H (lam t w) [] d e m = absurd (none_some e)
+degree_made H (var k w) at d e m = absurd (none-some _ e)
+degree_made H (free k w) at d e m = absurd (none-some _ e)
+degree_made H (lam t w) [] d e m = absurd (none-some _ e)
 degree_made H (lam t w) (n ∷ at) d e m = go (degree_made H t at d) (n == 0) e
   where
     go : (degree t at ≡ Some d → Made H t → PartsIn H d) → (b : Bool) →
         (if b then degree t at else None) ≡ Some d → PartsIn H d
     go next true e = next e m.1
-    go next false e = absurd (none_some e)
-degree_made H (app (var k v) a w) [] d e m = absurd (none_some e)
-degree_made H (app (free k v) a w) [] d e m = absurd (none_some e)
+    go next false e = absurd (none-some _ e)
+degree_made H (app (var k v) a w) [] d e m = absurd (none-some _ e)
+degree_made H (app (free k v) a w) [] d e m = absurd (none-some _ e)
 degree_made H (app (lam b v) a w) [] d e m = subst (PartsIn H) (same_Some v d e) m.1.0
-degree_made H (app (app f b v) a w) [] d e m = absurd (none_some e)
+degree_made H (app (app f b v) a w) [] d e m = absurd (none-some _ e)
 degree_made H (app f a w) (n ∷ at) d e m =
     go (degree_made H f at d) (degree_made H a at d) (n == 1) (n == 2) e
   where
@@ -289,19 +288,19 @@ degree_made H (app f a w) (n ∷ at) d e m =
         (if b then degree f at else if c then degree a at else None) ≡ Some d → PartsIn H d
     go fun arg true c e = fun e m.1
     go fun arg false true e = arg e m.2
-    go fun arg false false e = absurd (none_some e)
+    go fun arg false false e = absurd (none-some _ e)
 
 pub degree_in : (R : Label → Type 0) (t : Labelled) (at : List ℕ) (d : Label) →
     degree t at ≡ Some d → Degrees R t → R d
-degree_in R (var k w) at d e g = absurd (none_some e)
-degree_in R (free k w) at d e g = absurd (none_some e)
-degree_in R (lam t w) [] d e g = absurd (none_some e)
+degree_in R (var k w) at d e g = absurd (none-some _ e)
+degree_in R (free k w) at d e g = absurd (none-some _ e)
+degree_in R (lam t w) [] d e g = absurd (none-some _ e)
 degree_in R (lam t w) (n ∷ at) d e g = go (degree_in R t at d) (n == 0) e
   where
     go : (degree t at ≡ Some d → Degrees R t → R d) → (b : Bool) →
         (if b then degree t at else None) ≡ Some d → R d
     go next true e = next e g
-    go next false e = absurd (none_some e)
+    go next false e = absurd (none-some _ e)
 degree_in R (app f a w) [] d e g = g.0 d e
 degree_in R (app f a w) (n ∷ at) d e g =
     go (degree_in R f at d) (degree_in R a at d) (n == 1) (n == 2) e
@@ -310,4 +309,4 @@ degree_in R (app f a w) (n ∷ at) d e g =
         (b c : Bool) → (if b then degree f at else if c then degree a at else None) ≡ Some d → R d
     go fun arg true c e = fun e g.1
     go fun arg false true e = arg e g.2
-    go fun arg false false e = absurd (none_some e)
+    go fun arg false false e = absurd (none-some _ e)

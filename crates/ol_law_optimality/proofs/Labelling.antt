@@ -1,12 +1,13 @@
 -- Each term can have its labels, and leftmost reduction goes on with them.
 use Rattle.std.proofs.Common.{◌≡◌, ℕ, suc, ◌+◌, ◌<◌, ◌≤◌, ◌==◌, Bool, true, false, if◌then◌else◌, ◌⊎◌, inl, inr}
 use Rattle.std.proofs.Common.{List, [], ◌∷◌, ◌++◌, length, Option, Some, None, refl, sym, ap, ◌∙◌, arith}
-use Rattle.std.proofs.lemmas.Option.{same_Some}
+use Rattle.std.proofs.lemmas.Option.{none-some}
 use Rattle.std.specs.Option.{option_map}
 use Rattle.ol_beta.specs.Beta as beta
 use Rattle.ol_beta.specs.Leftmost.{leftmost}
 use Rattle.ol_law_edges.specs.Edges.{IsIn}
 use Rattle.ol_law_edges.proofs.Lists.{in_cases}
+use Rattle.ol_law_edges.proofs.Options.{mapped}
 use Rattle.ol_law_optimality.specs.Steps.{steps_of}
 use Rattle.ol_law_meaning.specs.Shows.{BetaReduces, LeftmostReduces}
 use Rattle.ol_law_meaning.specs.Shows as shows
@@ -16,7 +17,7 @@ use Rattle.ol_law_optimality.specs.Labels as labels
 use Rattle.ol_law_optimality.proofs.Erasing.{labels_erase}
 use Rattle.ol_term.specs.Trees.{Tree, term_size}
 use Rattle.ol_term.specs.Trees as trees
-use Rattle.ol_law_optimality.specs.Families.{labels_in}
+use Rattle.ol_law_optimality.specs.Families.{labels_in, HaveOwnLetters}
 use Rattle.ol_law_optimality.specs.Labelling.{EachTermHasLetters, LeftmostIsLabelled, LabelledIsLeftmost}
 use Rattle.ol_law_optimality.specs.Readings.{AreDifferent}
 use Rattle.ol_law_optimality.specs.Reductions.{Contracts}
@@ -25,7 +26,7 @@ use Rattle.ol_law_optimality.specs.Reductions as reductions
 -- ---- letters
 
 -- the subterms have letters from n on, in preorder
-abbrev lettered : Tree → ℕ → Labelled
+abbrev pub lettered : Tree → ℕ → Labelled
 lettered (trees.var k) n = labels.var k (atom n none)
 lettered (trees.free k) n = labels.free k (atom n none)
 lettered (trees.lam t) n = labels.lam (lettered t (suc n)) (atom n none)
@@ -123,18 +124,17 @@ different_letters (trees.app f a) n = (
       (omega arith) (letters_between f (suc n) x h) (letters_between a (suc n + term_size f) x j)),
 )
 
-pub each_term_has_letters : EachTermHasLetters
-each_term_has_letters t = (
-  lettered t 0,
-  erased_lettered t 0,
-  (
-    different_letters t 0,
-    λ v h. (
-      (letters_between t 0 v h).letter,
-      (letters_between t 0 v h).is,
-    ),
+pub own_letters : (t : Tree) → HaveOwnLetters (lettered t 0)
+own_letters t = (
+  different_letters t 0,
+  λ v h. (
+    (letters_between t 0 v h).letter,
+    (letters_between t 0 v h).is,
   ),
 )
+
+pub each_term_has_letters : EachTermHasLetters
+each_term_has_letters t = (lettered t 0, erased_lettered t 0, own_letters t)
 
 -- ---- steps
 
@@ -142,11 +142,8 @@ each_term_has_letters t = (
 abbrev pub SomeToo : Option Labelled → Option Label → Type 0
 SomeToo o p = (U : Labelled) → o ≡ Some U → (w : Label) × (p ≡ Some w)
 
-none_some : {X : Type 0} {x : X} → None ≡ Some x → ⊥
-none_some e = absurd (cc)
-
 none_too : (p : Option Label) → SomeToo None p
-none_too p U e = absurd (none_some e)
+none_too p U e = absurd (none-some _ e)
 
 if_too : (b : Bool) (o o' : Option Labelled) (p p' : Option Label) → SomeToo o p → SomeToo o' p' →
     SomeToo (if b then o else o') (if b then p else p')
@@ -155,7 +152,7 @@ if_too false o o' p p' h h' = h'
 
 map_too : (f : Labelled → Labelled) (o : Option Labelled) (p : Option Label) → SomeToo o p →
     SomeToo (option_map f o) p
-map_too f None p h U e = absurd (none_some e)
+map_too f None p h U e = absurd (none-some _ e)
 map_too f (Some V) p h U e = h V refl
 
 applied_too : (f c : Labelled) (w : Label) → SomeToo (applied f c w) (degree_of_abstraction f)
@@ -181,16 +178,11 @@ has_degree (labels.app f c w) (m ∷ at) =
     (if_too (m == 2) (option_map (λ a. labels.app f a w) (contracted c at)) None (degree c at) None
     (map_too (λ a. labels.app f a w) (contracted c at) (degree c at) (has_degree c at)) (none_too None))
 
-erased_some : (o : Option Labelled) (u : Tree) → option_map erased o ≡ Some u →
-    (U : Labelled) × (o ≡ Some U) × (erased U ≡ u)
-erased_some None u e = absurd (none_some e)
-erased_some (Some U) u e = (U, refl, same_Some (erased U) u e)
-
 with_labels : {t v : Tree} (r : LeftmostReduces t v) (T : Labelled) → erased T ≡ t →
     (V : Labelled) × (ws : List Label) × LeftmostContracts T ws V × (erased V ≡ v) × (length ws ≡ steps_of r)
 with_labels shows.ready T q = (T, [], labels.ready, q, refl)
 with_labels (shows.contract {u = u} {at = at} c e r) T q =
-    let s = erased_some (contracted T at) u (labels_erase T at ∙ ap (λ t. beta.contracted t at) q ∙ e) in
+    let s = mapped erased (contracted T at) u (labels_erase T at ∙ ap (λ t. beta.contracted t at) q ∙ e) in
     let d = has_degree T at s.0 s.1 in
     let x = with_labels r s.0 s.2 in
     (x.0, d.0 ∷ x.1, labels.contract at (ap leftmost q ∙ c) d.1 s.1 x.2, x.3, ap suc x.4)
@@ -200,7 +192,7 @@ pub labelled : {t v : Tree} (r : BetaReduces t v) (T : Labelled) → erased T �
     (V : Labelled) × (us : List Label) × Contracts T us V × (erased V ≡ v) × (length us ≡ steps_of r)
 labelled shows.ready T q = (T, [], reductions.ready, q, refl)
 labelled (shows.contract {u = u} {at = at} c e r) T q =
-    let s = erased_some (contracted T at) u (labels_erase T at ∙ ap (λ t. beta.contracted t at) q ∙ e) in
+    let s = mapped erased (contracted T at) u (labels_erase T at ∙ ap (λ t. beta.contracted t at) q ∙ e) in
     let d = has_degree T at s.0 s.1 in
     let x = labelled r s.0 s.2 in
     (x.0, d.0 ∷ x.1, reductions.contract at d.1 s.1 x.2, x.3, ap suc x.4)

@@ -1,6 +1,6 @@
 -- Words of redexes that the root's walks meet, and the degrees of leftmost reduction.
 use Rattle.std.proofs.Common.{◌≡◌, ℕ, ◌⊎◌, inl, inr, List, [], ◌∷◌, Some, None, refl, sym, ap, ◌∙◌, subst}
-use Rattle.std.proofs.lemmas.Option.{same_Some}
+use Rattle.std.proofs.lemmas.Option.{same_Some, none-some}
 use Rattle.ol_beta.specs.Leftmost.{leftmost}
 use Rattle.ol_law_edges.specs.Edges.{IsIn}
 use Rattle.ol_law_optimality.specs.Met.{IsMet}
@@ -30,9 +30,6 @@ labelled_step (labels.app (labels.free f v) a w) (before e h) = elim h [ ]
 labelled_step (labels.app (labels.app f c v) a w) (before e h) =
     let r = labelled_step (labels.app f c v) h in (labels.app r.0 a w, r.1, before_argument a w e r.2)
 
-no_step : {X : Type 0} {a : X} → Some a ≡ None → ⊥
-no_step e = absurd (cc)
-
 -- the leftmost step is this head step
 pub record OneStep (T U : Labelled) (w : Label) (V : Labelled) (d : Label) : Type 0 where
   pub term : V ≡ U
@@ -54,7 +51,7 @@ module _ (τ : Translation) where
     where
       by : ((q : Place) × (a : Level) × (j : ℕ) × Normal (erased T) q a j) ⊎ ((t' : Tree) × HeadStep (erased T) t') → (w : Label) × IsIn w [] × AreAlike (word_of T p m.matched) (signs_of w)
       by (inl n) = absurd (none_met n.3 p m)
-      by (inr h) = let l = leftmost_step h.1 in absurd (no_step (sym l.1 ∙ z))
+      by (inr h) = let l = leftmost_step h.1 in absurd (none-some _ (sym z ∙ l.1))
   leftwards T v ws (labels.contract {u = U} {w = w} {ws = us} at e f g r) z p m =
       by (normal_or_step (erased T)) (λ q n. leftwards U v us r z q n)
     where

@@ -1,11 +1,12 @@
 -- Each degree that leftmost reduction contracts, every reduction to a normal form contracts.
 use Rattle.std.proofs.Common.{◌≡◌, ℕ, Bool, true, false, ◌⊎◌, inl, inr, List, [], ◌∷◌, ◌++◌}
-use Rattle.std.proofs.Common.{Option, Some, None, refl, sym, subst}
-use Rattle.std.proofs.lemmas.Option.{same_Some}
+use Rattle.std.proofs.Common.{Some, None, sym, subst}
+use Rattle.std.proofs.lemmas.Option.{same_Some, none-some}
 use Rattle.std.specs.Prelude.{◌==◌, if◌then◌else◌}
 use Rattle.std.specs.Option.{option_map}
 use Rattle.ol_law_edges.specs.Edges.{IsIn}
 use Rattle.ol_law_edges.proofs.Lists.{in_cases}
+use Rattle.ol_law_edges.proofs.Options.{mapped}
 use Rattle.ol_law_meaning.proofs.Endings.{no_redex}
 use Rattle.ol_law_optimality.specs.Labels.{Label, Labelled, var, free, lam, app, erased, contracted, degree}
 use Rattle.ol_law_optimality.specs.Labels.{applied, degree_of_abstraction, LeftmostContracts}
@@ -16,7 +17,6 @@ use Rattle.ol_law_optimality.specs.Reductions.{of_redex, reduct}
 use Rattle.ol_law_optimality.specs.Reductions as reductions
 use Rattle.ol_law_optimality.proofs.Together.{parallel_same, meet}
 use Rattle.ol_law_optimality.proofs.Firsts.{IsStill, IsFirst, first_is_none, stays, first_stays, first_of}
-use Rattle.ol_law_optimality.proofs.Firsts.{none_some}
 use Rattle.ol_law_optimality.proofs.Counts.{no_more}
 
 -- ---- a contraction is a parallel step of its degree
@@ -24,30 +24,20 @@ use Rattle.ol_law_optimality.proofs.Counts.{no_more}
 abbrev pub Of : Label → Label → Type 0
 Of d v = v ≡ d
 
-record Mapped (f : Labelled → Labelled) (o : Option Labelled) (u : Labelled) : Type 0 where
-  before : Labelled
-  is : o ≡ Some before
-  gives : f before ≡ u
-
-mapped : (f : Labelled → Labelled) (o : Option Labelled) (u : Labelled) →
-    option_map f o ≡ Some u → Mapped f o u
-mapped f None u e = absurd (none_some e)
-mapped f (Some t) u e = record { before = t; is = refl; gives = same_Some (f t) u e }
-
 applied_step : (f c : Labelled) (w d : Label) (u : Labelled) → degree_of_abstraction f ≡ Some d →
     applied f c w ≡ Some u → Parallel (Of d) (app f c w) u
-applied_step (var k v) c w d u g e = absurd (none_some e)
-applied_step (free k v) c w d u g e = absurd (none_some e)
+applied_step (var k v) c w d u g e = absurd (none-some _ e)
+applied_step (free k v) c w d u g e = absurd (none-some _ e)
 applied_step (lam b v) c w d u g e =
     subst (λ u. Parallel (Of d) (app (lam b v) c w) u) (same_Some (reduct w v c b) u e)
     (of_redex (same_Some v d g) (parallel_same (Of d) b) (parallel_same (Of d) c))
-applied_step (app f a v) c w d u g e = absurd (none_some e)
+applied_step (app f a v) c w d u g e = absurd (none-some _ e)
 
 pub contraction_step : (t : Labelled) (at : List ℕ) (d : Label) (u : Labelled) →
     degree t at ≡ Some d → contracted t at ≡ Some u → Parallel (Of d) t u
-contraction_step (var k w) at d u g e = absurd (none_some e)
-contraction_step (free k w) at d u g e = absurd (none_some e)
-contraction_step (lam t w) [] d u g e = absurd (none_some e)
+contraction_step (var k w) at d u g e = absurd (none-some _ e)
+contraction_step (free k w) at d u g e = absurd (none-some _ e)
+contraction_step (lam t w) [] d u g e = absurd (none-some _ e)
 contraction_step (lam t w) (m ∷ at) d u g e = go (contraction_step t at) (m == 0) g e
   where
     go : ((d : Label) (v : Labelled) → degree t at ≡ Some d → contracted t at ≡ Some v →
@@ -57,8 +47,8 @@ contraction_step (lam t w) (m ∷ at) d u g e = go (contraction_step t at) (m ==
         Parallel (Of d) (lam t w) u
     go next true g e =
         let r = mapped (λ t. lam t w) (contracted t at) u e in
-        subst (λ u. Parallel (Of d) (lam t w) u) r.gives (of_lam (next d r.before g r.is))
-    go next false g e = absurd (none_some e)
+        subst (λ u. Parallel (Of d) (lam t w) u) r.2 (of_lam (next d r.0 g r.1))
+    go next false g e = absurd (none-some _ e)
 contraction_step (app f c w) [] d u g e = applied_step f c w d u g e
 contraction_step (app f c w) (m ∷ at) d u g e =
     go (contraction_step f at) (contraction_step c at) (m == 1) (m == 2) g e
@@ -73,13 +63,13 @@ contraction_step (app f c w) (m ∷ at) d u g e =
         Parallel (Of d) (app f c w) u
     go left right true b g e =
         let r = mapped (λ g. app g c w) (contracted f at) u e in
-        subst (λ u. Parallel (Of d) (app f c w) u) r.gives
-        (of_app (left d r.before g r.is) (parallel_same (Of d) c))
+        subst (λ u. Parallel (Of d) (app f c w) u) r.2
+        (of_app (left d r.0 g r.1) (parallel_same (Of d) c))
     go left right false true g e =
         let r = mapped (λ a. app f a w) (contracted c at) u e in
-        subst (λ u. Parallel (Of d) (app f c w) u) r.gives
-        (of_app (parallel_same (Of d) f) (right d r.before g r.is))
-    go left right false false g e = absurd (none_some e)
+        subst (λ u. Parallel (Of d) (app f c w) u) r.2
+        (of_app (parallel_same (Of d) f) (right d r.0 g r.1))
+    go left right false false g e = absurd (none-some _ e)
 
 -- ---- parallel steps, one after another, with their degrees
 

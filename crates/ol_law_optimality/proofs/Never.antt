@@ -28,12 +28,11 @@ use Rattle.ol_readback.specs.Frames.{Frame}
 use Rattle.ol_readback.specs.Heads.{Answer, head, no_head}
 use Rattle.ol_readback.specs.Heads as heads
 use Rattle.ol_readback.specs.ReadTrees.{Subterm, whole_term, framed}
-use Rattle.ol_readback.specs.Sources.{HaveHeadsOf, HasHeadsOf}
-use Rattle.ol_readback.specs.Sources as sources
+use Rattle.ol_readback.specs.Sources.{HasHeadsOf}
 use Rattle.ol_readback.specs.Terms.{HasAllHeads, term_of}
 use Rattle.ol_readback.specs.declared.answers.ReadNode.{ReadNode}
 use Rattle.ol_readback.proofs.Forests.{heads_are_whole}
-use Rattle.ol_readback.proofs.Kept.{heads_are_kept}
+use Rattle.ol_readback.proofs.Kept.{heads_moved}
 use Rattle.ol_law_levels.proofs.DemandPlaces.{demand_places}
 use Rattle.ol_law_levels.proofs.Runs.{same_levelled, start_levelled}
 use Rattle.ol_law_levels.proofs.Terms.{term_is_levelled}
@@ -129,24 +128,14 @@ never_more_than_leftmost τ t v l z names h g n same many journal places M d = n
 
 -- ---- where each place has a head
 
--- places of a net with the same paths
-places_moved : {A B : Type 0} (N : NamedNet A) (M : NamedNet B) → HaveSamePaths N M →
-    {F : List Frame} {ss : List Subterm} {ns : List ReadNode} → HaveHeadsOf N true F ss ns → HaveHeadsOf M true F ss ns
-places_moved N M p sources.end = sources.end
-places_moved N M p (sources.cut r) = sources.cut (places_moved N M p r)
-places_moved N M p (sources.lost {frames = F} {s = s} h r) =
-    sources.lost (λ e. heads_are_kept N M p (F ++ framed s 0 ∷ []) (length F) _ (h e)) (places_moved N M p r)
-places_moved N M p (sources.found {frames = F} {s = s} h r) =
-    sources.found (heads_are_kept N M p (F ++ framed s 0 ∷ []) (length F) _ h) (places_moved N M p r)
-
 pub never_more_where_printed : NeverMoreWherePrinted
 never_more_where_printed τ t names h g n same many journal places M d all =
     let p = paths τ t names h (net_of g) n same (is_start g n) in
     let levels = start_levelled (net_of g)
     (same_levelled (translation_of τ t names) (net_of g)
     (same_sym (net_of g) (translation_of τ t names) same) (term_is_levelled τ t names h)) in
-    let w = places_moved (start_of g) (translation_of τ t names)
-    (λ q c r X. ((p q c r X).1, (p q c r X).0))
+    let w = heads_moved (start_of g) (translation_of τ t names)
+    (λ q c r X. ((p q c r X).1, (p q c r X).0)) true
     (demand_places (start_of g) M many journal places (is_start g n) levels d) in
     let T = heads_are_whole (translation_of τ t names) true places w in
     let shown = tree_shows τ t names h true T.tree

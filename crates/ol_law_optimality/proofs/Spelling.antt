@@ -7,6 +7,7 @@ use Rattle.ol_law_optimality.specs.Labels.{Label, none, atom, over, under, joine
 use Rattle.ol_law_optimality.specs.Signs.{Sign, letter_of, begins_over, ends_over, begins_under}
 use Rattle.ol_law_optimality.specs.Signs.{ends_under, Signs, reversed, signs_of}
 use Rattle.ol_law_optimality.specs.Readings.{Acting, moved, AreAlike}
+use Rattle.ol_law_optimality.proofs.Putting.{joined_joined, joined_none}
 
 -- ---- words without neighbours that cancel
 
@@ -311,18 +312,6 @@ read ((true, ends_over) ∷ s) u vs = read s none (u ∷ vs)
 read ((true, begins_under) ∷ s) u vs = read s (under u (first_of vs)) (rest_of vs)
 read ((true, ends_under) ∷ s) u vs = read s none (u ∷ vs)
 
-joined_none : (v : Label) → joined v none ≡ v
-joined_none none = refl
-joined_none (atom n v) = ap (atom n) (joined_none v)
-joined_none (over u v) = ap (over u) (joined_none v)
-joined_none (under u v) = ap (under u) (joined_none v)
-
-joined_group : (u v w : Label) → joined (joined u v) w ≡ joined u (joined v w)
-joined_group none v w = refl
-joined_group (atom n u) v w = ap (atom n) (joined_group u v w)
-joined_group (over t u) v w = ap (over t) (joined_group u v w)
-joined_group (under t u) v w = ap (under t) (joined_group u v w)
-
 abbrev ReadsOn : Label → Type 0
 ReadsOn v = (c : Signs) (u : Label) (vs : List Label) → read (signs_of v ++ c) u vs ≡ read c (joined u v) vs
 
@@ -338,7 +327,7 @@ reversed_round (q ∷ s) p t = ap (λ r. r ++ turn q ∷ []) (reversed_round s p
 reads : (v : Label) → ReadsOn v × ReadsBack v
 reads none = (λ c u vs. ap (λ u. read c u vs) (sym (joined_none u)), λ c u vs. refl)
 reads (atom n w) = let g = reads w in (
-  λ c u vs. g.0 c (joined u (atom n none)) vs ∙ ap (λ u. read c u vs) (joined_group u (atom n none) w),
+  λ c u vs. g.0 c (joined u (atom n none)) vs ∙ ap (λ u. read c u vs) (joined_joined u (atom n none) w),
   λ c u vs. ap (λ s. read s u vs) (append_assoc (reversed (signs_of w)) ((true, letter_of n) ∷ []) c)
       ∙ g.1 ((true, letter_of n) ∷ c) u vs,
 )
@@ -346,7 +335,7 @@ reads (over v w) = let f = reads v in let g = reads w in (
   λ c u vs.
       ap (λ s. read s none (u ∷ vs)) (append_assoc (signs_of v) ((false, ends_over) ∷ signs_of w) c)
       ∙ f.0 ((false, ends_over) ∷ (signs_of w ++ c)) none (u ∷ vs)
-      ∙ g.0 c (joined u (over v none)) vs ∙ ap (λ u. read c u vs) (joined_group u (over v none) w),
+      ∙ g.0 c (joined u (over v none)) vs ∙ ap (λ u. read c u vs) (joined_joined u (over v none) w),
   λ c u vs.
       ap (λ s. read s u vs) (append_assoc (reversed (signs_of v ++ (false, ends_over) ∷ signs_of w)) ((
         true,
@@ -363,7 +352,7 @@ reads (under v w) = let f = reads v in let g = reads w in (
       ap (λ s. read s none (u ∷ vs)) (append_assoc (reversed (signs_of v)) ((false, ends_under) ∷ signs_of w) c)
       ∙ f.1 ((false, ends_under) ∷ (signs_of w ++ c)) none (u ∷ vs)
       ∙ ap (λ v. read (signs_of w ++ c) (joined u (under v none)) vs) (joined_none v)
-      ∙ g.0 c (joined u (under v none)) vs ∙ ap (λ u. read c u vs) (joined_group u (under v none) w),
+      ∙ g.0 c (joined u (under v none)) vs ∙ ap (λ u. read c u vs) (joined_joined u (under v none) w),
   λ c u vs.
       ap (λ s. read s u vs) (append_assoc (reversed (reversed (signs_of v) ++ (
         false,

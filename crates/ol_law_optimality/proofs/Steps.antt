@@ -1,13 +1,12 @@
 -- A parallel step is a row of beta steps of the same degree, and so a family step.
-use Rattle.std.proofs.Common.{◌≡◌, ◌≢◌, ℕ, ◌==◌, Bool, true, false, ◌⊎◌, inl, inr, List, [], ◌∷◌}
+use Rattle.std.proofs.Common.{◌≡◌, ◌≢◌, ℕ, ◌==◌, ◌⊎◌, inl, inr, List, [], ◌∷◌}
 use Rattle.std.proofs.Common.{◌++◌, Some, refl, sym, ap, ◌∙◌, subst}
-use Rattle.std.proofs.lemmas.Bool.{eqb-true, eq-eqb}
-use Rattle.std.proofs.lemmas.Option.{same_Some}
+use Rattle.std.proofs.lemmas.Bool.{cases_eq}
+use Rattle.std.proofs.lemmas.Option.{same_Some, none-some}
 use Rattle.std.specs.Option.{option_map}
 use Rattle.ol_law_edges.proofs.Lists.{in_cases}
 use Rattle.ol_law_optimality.specs.Labels.{Label, none, atom, over, under, Labelled, var, free, lam, app}
 use Rattle.ol_law_optimality.specs.Labels.{degree_of_abstraction}
-use Rattle.ol_law_optimality.proofs.Firsts.{none_some}
 use Rattle.ol_law_optimality.specs.LevysTheorem.{AtOnceIsOneStep, WholeFamiliesAreFamilies, WholeFamilyIsOne}
 use Rattle.ol_law_optimality.specs.LevysTheorem.{LeftmostFamiliesAreWhole}
 use Rattle.ol_law_optimality.specs.Reductions.{Contracts, ready, contract, FamilyStep, FamilyReduces, Parallel}
@@ -102,16 +101,6 @@ leftmost_families_are_families T V ds r =
 
 -- ---- whether two labels are one
 
-same_number : (m n : ℕ) → (m ≡ n) ⊎ (m ≢ n)
-same_number m n = go (m == n) refl
-  where
-    clash : false ≡ true → ⊥
-    clash e = absurd (cc)
-
-    go : (b : Bool) → (m == n) ≡ b → (m ≡ n) ⊎ (m ≢ n)
-    go true e = inl (eqb-true m n e)
-    go false e = inr (λ k. clash (sym e ∙ eq-eqb m n k))
-
 atoms : (m n : ℕ) (v w : Label) → (m ≡ n) ⊎ (m ≢ n) → (v ≡ w) ⊎ (v ≢ w) →
     (atom m v ≡ atom n w) ⊎ (atom m v ≢ atom n w)
 atoms m n v w (inl e) (inl f) = inl (λ i. atom (e i) (f i))
@@ -136,7 +125,7 @@ same_label none (atom n w) = inr (λ e. absurd (cc))
 same_label none (over u w) = inr (λ e. absurd (cc))
 same_label none (under u w) = inr (λ e. absurd (cc))
 same_label (atom m v) none = inr (λ e. absurd (cc))
-same_label (atom m v) (atom n w) = atoms m n v w (same_number m n) (same_label v w)
+same_label (atom m v) (atom n w) = atoms m n v w (cases_eq m n) (same_label v w)
 same_label (atom m v) (over u w) = inr (λ e. absurd (cc))
 same_label (atom m v) (under u w) = inr (λ e. absurd (cc))
 same_label (over x v) none = inr (λ e. absurd (cc))
@@ -167,12 +156,12 @@ whole_family d (app (lam b v) a w) =
     go (inr n) x y =
         (app (lam x.0 v) y.0 w, all_app (λ e. n (same_Some v d e)) (all_lam x.1) y.1)
 whole_family d (app (var k v) a w) =
-    let y = whole_family d a in (app (var k v) y.0 w, all_app (λ e. none_some e) all_var y.1)
+    let y = whole_family d a in (app (var k v) y.0 w, all_app (λ e. none-some _ e) all_var y.1)
 whole_family d (app (free k v) a w) =
-    let y = whole_family d a in (app (free k v) y.0 w, all_app (λ e. none_some e) all_free y.1)
+    let y = whole_family d a in (app (free k v) y.0 w, all_app (λ e. none-some _ e) all_free y.1)
 whole_family d (app (app f b v) a w) =
     let x = whole_family d (app f b v) in
-    let y = whole_family d a in (app x.0 y.0 w, all_app (λ e. none_some e) x.1 y.1)
+    let y = whole_family d a in (app x.0 y.0 w, all_app (λ e. none-some _ e) x.1 y.1)
 
 -- ---- in one way
 

@@ -73,7 +73,7 @@ split (v ∷ w ∷ vs) (suc i) e =
     let r = split (w ∷ vs) i (omega (arith, e)) in
     record { front = v ∷ r.front; value = r.value; long = ap suc r.long; is = λ c. ap (cons v) (r.is c) }
 
-put_last : (vs : List Level) (v : Level) (c : Context) → put (vs ++ v ∷ []) c ≡ put vs (cons v c)
+pub put_last : (vs : List Level) (v : Level) (c : Context) → put (vs ++ v ∷ []) c ≡ put vs (cons v c)
 put_last [] v c = refl
 put_last (w ∷ vs) v c = ap (cons w) (put_last vs v c)
 

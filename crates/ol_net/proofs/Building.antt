@@ -1,7 +1,6 @@
 -- What is refused by places is what is refused by ports
-use Rattle.std.proofs.Common.{◌≡◌, ◌≢◌, ℕ, ◌<◌, ◌≤◌, ◌==◌, true, false, List, [], ◌∷◌, length}
-use Rattle.std.proofs.Common.{get_or, take, map, Option, Some, refl, sym, ap, ◌∙◌, inl, inr, ◌⊎◌}
-use Rattle.std.proofs.Common.{arith, zero, suc}
+use Rattle.std.proofs.Common.{◌≡◌, ◌≢◌, ℕ, ◌<◌, ◌≤◌, ◌==◌, true, false, List, [], ◌∷◌, length, get_or, take, map}
+use Rattle.std.proofs.Common.{Option, Some, refl, sym, ap, ◌∙◌, inl, inr, ◌⊎◌, arith, zero, suc}
 use Rattle.std.proofs.lemmas.Bool.{cases_eq, cases_lt, cases_Bool, both_ways}
 use Rattle.std.proofs.lemmas.Bool.Decides.{nat_tests}
 use Rattle.std.proofs.lemmas.List.{length-take-le, get_or-take}
@@ -284,7 +283,7 @@ IsLoose-from_alone free nodes links xs p none l has alone = (
       (omega (arith, lt, length-places free links)) (end-place free links j p h) (sym (l.same (place free p)) ∙ alone),
 )
 
-ComesBefore-places : (free : ℕ) (nodes : List (Option (Kind × ℕ))) (p q : Port) →
+pub ComesBefore-places : (free : ℕ) (nodes : List (Option (Kind × ℕ))) (p q : Port) →
     has_port free nodes p ≡ true → has_port free nodes q ≡ true → place free p < place free q → ComesBefore p q
 ComesBefore-places free nodes (Free k) (Free l) hp hq lt = lt
 ComesBefore-places free nodes (Free k) (Of m t) hp hq lt = tt

@@ -5,9 +5,8 @@ use Rattle.std.proofs.Common.{◌++◌, length, map, set, get_or, Option, Some, 
 use Rattle.std.proofs.Common.{◌∙◌, inl, inr, arith, subst, add-zero, is_some, count_by, sum_by}
 use Rattle.std.proofs.lemmas.Bool.{cases_eq, cases_lt, cases_Bool, false≢true}
 use Rattle.std.proofs.lemmas.Bool.Decides.{nat_tests}
-use Rattle.std.proofs.lemmas.List.{map-append, length-set, length-append, get_or-set_same}
-use Rattle.std.proofs.lemmas.List.{get_or-set_other, get_or_append_left, get_or-append_right}
-use Rattle.std.proofs.lemmas.List.{get_or_past}
+use Rattle.std.proofs.lemmas.List.{map-append, length-set, length-append, get_or-set_same, get_or-set_other}
+use Rattle.std.proofs.lemmas.List.{get_or_append_left, get_or-append_right, get_or_past}
 use Rattle.ol_net.specs.declared.parts.Kind.{Kind}
 use Rattle.ol_net.specs.declared.parts.JoinEnd.{JoinEnd}
 use Rattle.ol_net.specs.declared.parts.JoinEnd.TheVariants.{First, Second}
@@ -25,10 +24,9 @@ use Rattle.ol_net.proofs.Places.{kind_at-within, place-port_at}
 use Rattle.ol_net.proofs.Joining.{length-grown, other-grown, IsPaired-grown, length-joined}
 use Rattle.ol_net.proofs.Joining.{JoinStep-joined, IsPaired-joined}
 use Rattle.ol_net.proofs.Linking.{length-all_live, count_by-all_live}
-use Rattle.ol_net.proofs.Fitting.{bit, vertices, count, count-append, count-uses_up}
-use Rattle.ol_net.proofs.Fitting.{Within-from_count, AllTwo-from_count, alone-joined_all}
-use Rattle.ol_net.proofs.Fitting.{IsPaired-joined_all, length-joined_all, IsSlot, count-side_at}
-use Rattle.ol_net.proofs.Fitting.{count-side_low, count-born_low, count-born_at}
+use Rattle.ol_net.proofs.Fitting.{bit, vertices, count, count-append, count-uses_up, Within-from_count}
+use Rattle.ol_net.proofs.Fitting.{AllTwo-from_count, alone-joined_all, IsPaired-joined_all, length-joined_all, IsSlot}
+use Rattle.ol_net.proofs.Fitting.{count-side_at, count-side_low, count-born_low, count-born_at}
 
 -- all edges that are added, the one of the principal ports with them
 abbrev pub all_joins : ℕ → ℕ → ℕ → List (ℕ × ℕ) → List (ℕ × ℕ)

@@ -23,8 +23,7 @@ use Rattle.ol_net.proofs.Tables.{other-past}
 use Rattle.ol_netfile.specs.NetTexts.{Front, nothing, titled, so_far, title, free, node, link, Adds}
 use Rattle.ol_netfile.specs.NetTexts.{Lines, none, more, IsNetText, IsIndex, IsPortInFile}
 use Rattle.ol_netfile.specs.Written.{net_text}
-use Rattle.ol_netfile.specs.Writing.{live_kinds}
-use Rattle.ol_netfile.specs.Writing.{ranks_from, links_at}
+use Rattle.ol_netfile.specs.Writing.{live_kinds, ranks_from, links_at}
 use Rattle.ol_netfile.proofs.Rewritten.{pairs_from}
 use Rattle.ol_netfile.proofs.Spelled.{length-live, spelled-live}
 

@@ -1,7 +1,7 @@
 -- The active pairs of a net by numbers: how the list of them grows, and what a step leaves of them.
 use Rattle.std.proofs.Common.{◌≡◌, ◌≢◌, ℕ, suc, ◌+◌, ◌<◌, ◌≤◌, true, false, List, [], ◌∷◌, ◌++◌}
 use Rattle.std.proofs.Common.{length, ◌⊎◌, inl, inr, refl, sym, ap, ◌∙◌, subst, arith}
-use Rattle.std.proofs.lemmas.Bool.{cases_lt}
+use Rattle.std.proofs.lemmas.Bool.{cases_lt, cases_eq}
 use Rattle.std.specs.Ordering.{nat_cmp}
 use Rattle.std.specs.BTreeSet.{BTreeSet, contains, Updates, IsLowerBound, btree_set_len}
 use Rattle.ol_law_edges.specs.Edges.{IsIn}
@@ -18,7 +18,7 @@ use Rattle.ol_rules.specs.Waiting.{IsActiveIn, IsBeside}
 use Rattle.ol_rules.specs.Steps.{StepsAt}
 use Rattle.ol_rules.proofs.FreshPairs.{linked_sym, active_after, gone}
 use Rattle.ol_rules.proofs.OnTheWay.{node_below, the_pair}
-use Rattle.ol_rules.proofs.Waiting.{nat_is, differs, others_stay, lower, nothing_waits, active_node, active_below}
+use Rattle.ol_rules.proofs.Waiting.{differs, others_stay, lower, nothing_waits, active_node, active_below}
 use Rattle.ol_diamond.specs.Replaying.{AreIdle}
 use Rattle.ol_diamond.specs.Squares.{AreTogether}
 use Rattle.ol_diamond.proofs.Pairs.{one_partner, faces_after}
@@ -76,7 +76,7 @@ module _ (g : Graph) (old new : BTreeSet ℕ) (n : ℕ) (ps : List (ℕ × ℕ))
   one_more is_net y rule pair = record {
     each = λ p i. each p (in_cases p ps ((n, y) ∷ []) i);
     earlier = λ p i. earlier p (in_cases p ps ((n, y) ∷ []) i);
-    all = λ x z r p. all x z r p (h.all x z r p) (nat_is x n);
+    all = λ x z r p. all x z r p (h.all x z r p) (cases_eq x n);
     rising = rising_on ps (n, y) h.rising (λ q i. h.earlier q i n was);
   }
     where
@@ -103,7 +103,7 @@ module _ (g : Graph) (old new : BTreeSet ℕ) (n : ℕ) (ps : List (ℕ × ℕ))
   no_more never = record {
     each = h.each;
     earlier = λ p i z c. h.earlier p i z (waited z c);
-    all = λ x y r p. go x y r p (h.all x y r p) (nat_is x n);
+    all = λ x y r p. go x y r p (h.all x y r p) (cases_eq x n);
     rising = h.rising;
   }
     where
@@ -239,7 +239,7 @@ pub new_wait : (g g' : Graph) → IsNet (net_of g) → (x y : ℕ) (r : Rule) (s
     ((z : ℕ) → IsActiveIn g' (length g.nodes) (length g'.nodes) z → contains nat_cmp w z ≡ true) →
     NewWait g g' x y w
 new_wait g g' n x y r s l w beside_x beside_y born z t a =
-    go (active_after nat_is (net_of g) (net_of g') n
+    go (active_after cases_eq (net_of g) (net_of g') n
     (λ p. length g.nodes + p) s.f s.g s.step.active.k s.step.active.i s.step.active.l
     s.step.active.j (action_of r s.step.active.j) s.step.active.faces s.step.rewrites fresh z t a)
   where
@@ -252,7 +252,7 @@ new_wait g g' n x y r s l w beside_x beside_y born z t a =
     left : (z ≡ s.f) ⊎ (z ≡ s.g) → ⊥
     left e =
         let c = active_node g' z t a in
-        gone nat_is (net_of g) (net_of g') n
+        gone cases_eq (net_of g) (net_of g') n
         (λ p. length g.nodes + p) s.f s.g s.step.active.k s.step.active.i s.step.active.l
         s.step.active.j (action_of r s.step.active.j) s.step.active.faces s.step.rewrites fresh z c.0 c.1 c.2 e
 

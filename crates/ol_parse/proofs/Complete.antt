@@ -4,9 +4,8 @@ use Rattle.std.proofs.Common.{refl, sym, ap, ◌∙◌, append_assoc, append-nil
 use Rattle.ol_parse.specs.Grammar.{Named, Token, name, in_key, dot, close_bracket, lams, IsTerm}
 use Rattle.ol_parse.specs.Grammar.{term_body, term_spine, term_both, IsSpine, spine_one, spine_more}
 use Rattle.ol_parse.specs.Grammar.{IsAtom, atom_name, atom_brackets, IsBody, body_lambda, body_let}
-use Rattle.ol_parse.specs.Machine.{Frame, applied, abstracted, bound, bracket, defining, State, at}
-use Rattle.ol_parse.specs.Machine.{first_name, more_names, join, finish, at_close, at_in, at_end}
-use Rattle.ol_parse.specs.Machine.{accepts}
+use Rattle.ol_parse.specs.Machine.{Frame, applied, abstracted, bound, bracket, defining, State, at, first_name}
+use Rattle.ol_parse.specs.Machine.{more_names, join, finish, at_close, at_in, at_end, accepts}
 
 -- Reading a from these leads to a spine under frames that finish as given, whatever follows.
 pub record Leads (s : State) (a : List Token) (whole : Named × List Frame) : Type 0 where

@@ -46,7 +46,7 @@ within x (y ∷ ys) i k n e h = go (within x ys (i + 1) k n (omega arith)) (byte
 in_list : (x : List ℕ) (names : List (List ℕ)) (k : ℕ) → position_of x names ≡ Some k → k < length names
 in_list x names k h = within x names 0 k (length names) (omega arith) h
 
-free_below : (d : ℕ) (o : Option ℕ) → is_below d (free_at o) ≡ true
+pub free_below : (d : ℕ) (o : Option ℕ) → is_below d (free_at o) ≡ true
 free_below d (Some k) = refl
 free_below d None = refl
 
@@ -65,7 +65,7 @@ bound (app f a) names binders = ap (λ b. b && is_below (length binders) (number
 
 -- ---- each free name is in the list
 
-more_named : (m n : ℕ) (t : Tree) → m ≤ n → is_named_below m t ≡ true → is_named_below n t ≡ true
+pub more_named : (m n : ℕ) (t : Tree) → m ≤ n → is_named_below m t ≡ true → is_named_below n t ≡ true
 more_named m n (tree.var k) h b = refl
 more_named m n (tree.free k) h b = let l = ltb-true k m b in lt-ltb k n (omega arith)
 more_named m n (tree.lam t) h b = more_named m n t h b

@@ -1,11 +1,9 @@
 -- The flat state, a step at a time.
-use Rattle.std.proofs.Common.{◌≡◌, ℕ, List, [], ◌∷◌, ◌++◌, map, length, Bool, true, false, Option}
-use Rattle.std.proofs.Common.{Some, None, option_and_then, is_some, refl, sym, ap, ◌∙◌, subst}
-use Rattle.std.proofs.Common.{append-nil}
+use Rattle.std.proofs.Common.{◌≡◌, ℕ, List, [], ◌∷◌, ◌++◌, map, length, Bool, true, false, Option, Some, None}
+use Rattle.std.proofs.Common.{option_and_then, is_some, refl, sym, ap, ◌∙◌, subst, append-nil}
 use Rattle.ol_parse.specs.Grammar.{Named, var, lam, app, name, close_bracket}
-use Rattle.ol_parse.specs.Machine.{Frame, applied, abstracted, bound, bracket, defining, State, at}
-use Rattle.ol_parse.specs.Machine.{first_name, more_names, let_name, let_equals, join, finish}
-use Rattle.ol_parse.specs.Machine.{at_close, step}
+use Rattle.ol_parse.specs.Machine.{Frame, applied, abstracted, bound, bracket, defining, State, at, first_name}
+use Rattle.ol_parse.specs.Machine.{more_names, let_name, let_equals, join, finish, at_close, step}
 use Rattle.ol_parse.specs.Flat.{put, build, built, bare, without, withouts, Shows, one_of, held}
 use Rattle.ol_parse.specs.Flat.{waiting, around, Unwound, Ended, Holds, Next, applied_if}
 use Rattle.ol_parse.specs.declared.flat.Op.{Op}

@@ -1,11 +1,11 @@
 -- Names that grow from the left are those of first occurrences.
-use Rattle.std.proofs.Common.{◌≡◌, ℕ, ◌+◌, List, [], ◌∷◌, ◌++◌, reverse, Bool, true, false, not, ◌||◌}
-use Rattle.std.proofs.Common.{cond, filter, Option, Some, None, refl, sym, ap, ◌∙◌, append_assoc}
-use Rattle.std.proofs.Common.{append-nil}
+use Rattle.std.proofs.Common.{◌≡◌, ℕ, ◌+◌, List, [], ◌∷◌, ◌++◌, reverse, Bool, true, false, not, ◌||◌, cond, filter}
+use Rattle.std.proofs.Common.{Option, Some, None, refl, sym, ap, ◌∙◌, append_assoc, append-nil}
 use Rattle.std.specs.List.{position_from}
 use Rattle.std.specs.Borrow.{Bor}
 use Rattle.std.specs.Str.{bytes_eq}
 use Rattle.std.proofs.lemmas.Slice.Eq.{bytes_eq-Decides}
+use Rattle.std.proofs.Math.Bool.{or-false, or_assoc}
 use Rattle.ol_term.specs.Trees.{Tree}
 use Rattle.ol_term.specs.NameLists.{without}
 use Rattle.ol_parse.specs.Grammar.{Named, var, lam, app}
@@ -64,18 +64,10 @@ at_none x (y ∷ ys) i h = go (at_none x ys (i + 1)) (bytes_eq x y) h
     go each true h = absurd (cc)
     go each false h = each h
 
-or_assoc : (a b c : Bool) → (a || (b || c)) ≡ ((a || b) || c)
-or_assoc true b c = refl
-or_assoc false b c = refl
-
-or_false : (a : Bool) → (a || false) ≡ a
-or_false true = refl
-or_false false = refl
-
 has_more : (y x : List ℕ) (names : List (List ℕ)) → has y (names ++ (x ∷ [])) ≡ (has y names || bytes_eq y x)
-has_more y x [] = or_false (bytes_eq y x)
+has_more y x [] = or-false (bytes_eq y x)
 has_more y x (n ∷ names) = ap (λ b. bytes_eq y n || b) (has_more y x names)
-    ∙ or_assoc (bytes_eq y n) (has y names) (bytes_eq y x)
+    ∙ sym (or_assoc (bytes_eq y n) (has y names) (bytes_eq y x))
 
 -- ---- one more name
 
@@ -122,7 +114,7 @@ new_gone x names (y ∷ ys) = go (bytes_eq x y) refl (new_gone x names ys)
         (or_true (has y names) ∙ ap (λ b. has y names || b) (sym other))
     go false e each =
         ap (kept (has y names) y) each ∙ ap (λ b. kept b y (filter (is_new (names ++ (x ∷ []))) ys))
-        (sym (or_false (has y names)) ∙ ap (λ b. has y names || b) (sym (back (bytes_eq y x) refl e)))
+        (sym (or-false (has y names)) ∙ ap (λ b. has y names || b) (sym (back (bytes_eq y x) refl e)))
 
 behind : (xs names : List (List ℕ)) → add_all names xs ≡ names ++ filter (is_new names) (once xs)
 behind [] names = sym (append-nil names)

@@ -32,7 +32,7 @@ mutual
   of_body (body_let x {a = a} {b = b} i j) = let h = of_term i in let k = of_term j in
       omega (arith, length-append a (in_key ∷ b))
 
-some_byte : {k : Token} {a : List ℕ} → IsToken k a → 0 < length a
+pub some_byte : {k : Token} {a : List ℕ} → IsToken k a → 0 < length a
 some_byte (token_sign e) = omega arith
 some_byte (token_letter e) = omega arith
 some_byte (token_word e i) = omega arith

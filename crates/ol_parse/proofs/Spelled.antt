@@ -1,13 +1,11 @@
 -- Bytes that spell tokens bring the machine to where the tokens bring it.
-use Rattle.std.proofs.Common.{◌≡◌, ℕ, List, [], ◌∷◌, ◌++◌, Bool, true, false, cond, Option, Some}
-use Rattle.std.proofs.Common.{None, option_and_then, option_map, refl, sym, ap, ◌∙◌, subst}
-use Rattle.std.proofs.Common.{append_assoc, append-nil}
+use Rattle.std.proofs.Common.{◌≡◌, ℕ, List, [], ◌∷◌, ◌++◌, Bool, true, false, cond, Option, Some, None, option_and_then}
+use Rattle.std.proofs.Common.{option_map, refl, sym, ap, ◌∙◌, subst, append_assoc, append-nil}
 use Rattle.std.specs.Str.{bytes_eq}
 use Rattle.ol_parse.specs.Grammar.{Named, Token, name, let_key, in_key, lambda}
-use Rattle.ol_parse.specs.Texts.{class_of, in_word, token_of, is_word, IsLine, IsGap, gap_none}
-use Rattle.ol_parse.specs.Texts.{gap_blank, gap_comment, IsLastGap, last_gap, last_comment}
-use Rattle.ol_parse.specs.Texts.{AreInWord, IsToken, token_sign, token_letter, token_word, Spells}
-use Rattle.ol_parse.specs.Texts.{spells_none, spells_one}
+use Rattle.ol_parse.specs.Texts.{class_of, in_word, token_of, is_word, IsLine, IsGap, gap_none, gap_blank, gap_comment}
+use Rattle.ol_parse.specs.Texts.{IsLastGap, last_gap, last_comment, AreInWord, IsToken, token_sign, token_letter}
+use Rattle.ol_parse.specs.Texts.{token_word, Spells, spells_none, spells_one}
 use Rattle.ol_parse.specs.Machine.{State, let_equals, step, final, accepts}
 use Rattle.ol_parse.specs.Reading.{Reading, gap, comment, word, half, takes_name, gap_step, takes}
 use Rattle.ol_parse.proofs.Parts.{each_some}

@@ -3,10 +3,9 @@ use Rattle.std.proofs.Common.{◌≡◌, ℕ, List, [], ◌∷◌, ◌++◌, Boo
 use Rattle.std.proofs.Common.{eqb-true, Option, Some, None, option_and_then, option_map, ◌⊎◌, inl}
 use Rattle.std.proofs.Common.{inr, refl, sym, ap, ◌∙◌, subst, append_assoc, append-nil}
 use Rattle.ol_parse.specs.Grammar.{Named, Token, lambda}
-use Rattle.ol_parse.specs.Texts.{Class, blank, hash, letter, sign, lead, first_class, classes}
-use Rattle.ol_parse.specs.Texts.{class_of, in_word, token_of, is_word, IsLine, gap_none, gap_blank}
-use Rattle.ol_parse.specs.Texts.{gap_comment, last_gap, last_comment, AreInWord, token_sign}
-use Rattle.ol_parse.specs.Texts.{token_letter, token_word, Spells, spells_none, spells_one}
+use Rattle.ol_parse.specs.Texts.{Class, blank, hash, letter, sign, lead, first_class, classes, class_of, in_word}
+use Rattle.ol_parse.specs.Texts.{token_of, is_word, IsLine, gap_none, gap_blank, gap_comment, last_gap, last_comment}
+use Rattle.ol_parse.specs.Texts.{AreInWord, token_sign, token_letter, token_word, Spells, spells_none, spells_one}
 use Rattle.ol_parse.specs.Machine.{State, step, final, accepts}
 use Rattle.ol_parse.specs.Reading.{Reading, gap, comment, word, half, takes_name, gap_step, takes}
 use Rattle.ol_parse.proofs.Spelled.{IsApart, then_take, word_token}

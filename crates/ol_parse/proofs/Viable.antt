@@ -4,9 +4,8 @@ use Rattle.std.proofs.Common.{Option, Some, None, option_and_then, option_map, r
 use Rattle.std.specs.Str.{bytes_eq}
 use Rattle.ol_parse.specs.Grammar.{Named, var, lam, app, Token, name, let_key, in_key, lambda, dot}
 use Rattle.ol_parse.specs.Grammar.{equals, close_bracket}
-use Rattle.ol_parse.specs.Texts.{Class, blank, hash, letter, sign, lead, class_of, in_word}
-use Rattle.ol_parse.specs.Texts.{token_of, is_word, gap_none, gap_blank, last_gap, IsToken}
-use Rattle.ol_parse.specs.Texts.{token_sign, token_word, Spells, spells_none, spells_one}
+use Rattle.ol_parse.specs.Texts.{Class, blank, hash, letter, sign, lead, class_of, in_word, token_of, is_word, gap_none}
+use Rattle.ol_parse.specs.Texts.{gap_blank, last_gap, IsToken, token_sign, token_word, Spells, spells_none, spells_one}
 use Rattle.ol_parse.specs.Machine.{Frame, applied, abstracted, bound, bracket, defining, State, at}
 use Rattle.ol_parse.specs.Machine.{first_name, more_names, let_name, let_equals, join, finish}
 use Rattle.ol_parse.specs.Machine.{at_close, at_in, at_end, step, accepts}

@@ -15,11 +15,11 @@ use Rattle.ol_term.specs.NameLists.{without}
 
 -- ---- tokens
 
-abbrev IsGood : Token → Type 0
+abbrev pub IsGood : Token → Type 0
 IsGood (name x) = IsName x
 IsGood _ = Unit {0}
 
-abbrev AreGood : List Token → Type 0
+abbrev pub AreGood : List Token → Type 0
 AreGood [] = Unit {0}
 AreGood (k ∷ ks) = IsGood k × AreGood ks
 
@@ -57,15 +57,15 @@ token_good (token_sign {k = k} {b = b} e) = no_word_good k (sign_no_word b k e)
 token_good (token_letter e) = tt
 token_good (token_word {b = b} {w = w} e i) = word_good (b ∷ w) (token_of (b ∷ w)) refl (token_word e i)
 
-spelled_good : {after : Bool} {ks : List Token} {bs : List ℕ} → Spells after ks bs → AreGood ks
+pub spelled_good : {after : Bool} {ks : List Token} {bs : List ℕ} → Spells after ks bs → AreGood ks
 spelled_good (spells_none i) = tt
 spelled_good (spells_one i n t s) = (token_good t, spelled_good s)
 
-left : (a b : List Token) → AreGood (a ++ b) → AreGood a
+pub left : (a b : List Token) → AreGood (a ++ b) → AreGood a
 left [] b h = tt
 left (k ∷ a) b h = (h.0, left a b h.1)
 
-right : (a b : List Token) → AreGood (a ++ b) → AreGood b
+pub right : (a b : List Token) → AreGood (a ++ b) → AreGood b
 right [] b h = h
 right (k ∷ a) b h = right a b h.1
 
@@ -104,7 +104,7 @@ mutual
 
 -- ---- free names
 
-both : (xs ys : List (List ℕ)) → AreNames xs → AreNames ys → AreNames (xs ++ ys)
+pub both : (xs ys : List (List ℕ)) → AreNames xs → AreNames ys → AreNames (xs ++ ys)
 both [] ys h k = k
 both (x ∷ xs) ys h k = (h.0, both xs ys h.1 k)
 

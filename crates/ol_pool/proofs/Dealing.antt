@@ -1,10 +1,10 @@
 -- The deques of a new pool, the access that is lent to them, and the hands.
-use Rattle.std.proofs.Common.{◌≡◌, ◌∙◌, ℕ, zero, suc, ◌+◌, ◌-◌, ◌<◌, ◌≤◌, List, [], ◌∷◌, ◌++◌}
-use Rattle.std.proofs.Common.{length, map, reverse, Some, slice_get, slice_set, All, sym, refl, ap}
-use Rattle.std.proofs.Common.{subst, arith}
+use Rattle.std.proofs.Common.{◌≡◌, ◌∙◌, ℕ, zero, suc, ◌+◌, ◌-◌, ◌<◌, ◌≤◌, List, [], ◌∷◌, ◌++◌, length, map, reverse}
+use Rattle.std.proofs.Common.{Some, slice_get, slice_set, All, sym, refl, ap, subst, arith}
 use Rattle.std.specs.Option.{ForSome}
 use Rattle.std.proofs.lemmas.List.{reverse-append}
 use Rattle.std.proofs.lemmas.List.Elements.{All-head, All-tail, All-cons, All-nil, All-map, All-weaker}
+use Rattle.std.proofs.lemmas.Option.{same_Some}
 use Rattle.ol_pool.specs.declared.deques.Log.{Log}
 use Rattle.ol_pool.specs.Deques.{log, lends}
 use Rattle.ol_pool.specs.Looks.{part_at, new_part}
@@ -12,7 +12,7 @@ use Rattle.ol_pool.specs.Owned.{OwnState, ReachState, reach_part, own_part, IsRe
 use Rattle.ol_pool.specs.Owned.{row_of, AreOpen, lends_one}
 use Rattle.ol_pool.specs.Handed.{deques_of, pool_of, new_hand, IsHand}
 use Rattle.ol_pool.specs.Pools.{DequeId, PoolState, HandState, IsHandOf, IsNewHand, AreDealt}
-use Rattle.ol_pool.proofs.Places.{same_some, all_at, map_long}
+use Rattle.ol_pool.proofs.Places.{all_at, map_long}
 
 pub long_snoc : {X : Type 0} (xs : List X) (x : X) → length (xs ++ x ∷ []) ≡ length xs + 1
 long_snoc [] x = refl
@@ -32,7 +32,7 @@ done_at f (suc k) (x ∷ xs) = done_at f k xs
 pub done_more : {X : Type 0} (f : X → X) (k : ℕ) (xs : List X) (x : X) → slice_get xs k ≡ Some x →
     slice_set (done f k xs) k (f x) ≡ done f (suc k) xs
 done_more f zero [] x at = absurd (cc)
-done_more f zero (y ∷ xs) x at = ap (λ z. f z ∷ xs) (sym (same_some y x at))
+done_more f zero (y ∷ xs) x at = ap (λ z. f z ∷ xs) (sym (same_Some y x at))
 done_more f (suc k) [] x at = absurd (cc)
 done_more f (suc k) (y ∷ xs) x at = ap (λ l. f y ∷ l) (done_more f k xs x at)
 
@@ -56,7 +56,7 @@ firsts g (suc k) (x ∷ xs) = g x ∷ firsts g k xs
 pub firsts_more : {X Y : Type 0} (g : X → Y) (k : ℕ) (xs : List X) (x : X) →
     slice_get xs k ≡ Some x → firsts g k xs ++ g x ∷ [] ≡ firsts g (suc k) xs
 firsts_more g zero [] x at = absurd (cc)
-firsts_more g zero (y ∷ xs) x at = ap (λ z. g z ∷ []) (sym (same_some y x at))
+firsts_more g zero (y ∷ xs) x at = ap (λ z. g z ∷ []) (sym (same_Some y x at))
 firsts_more g (suc k) [] x at = absurd (cc)
 firsts_more g (suc k) (y ∷ xs) x at = ap (λ l. g y ∷ l) (firsts_more g k xs x at)
 
@@ -142,7 +142,7 @@ get_between (y ∷ xs) ys x = get_between xs ys x
 get_mapped : (xs : List OwnState) (i : ℕ) (x : OwnState) → slice_get xs i ≡ Some x →
     slice_get (map (λ (own : OwnState). own.deque) xs) i ≡ Some x.deque
 get_mapped [] i x at = absurd (cc)
-get_mapped (y ∷ xs) zero x at = ap (λ (z : OwnState). Some z.deque) (same_some y x at)
+get_mapped (y ∷ xs) zero x at = ap (λ (z : OwnState). Some z.deque) (same_Some y x at)
 get_mapped (y ∷ xs) (suc i) x at = get_mapped xs i x at
 
 pub hand_is : (pool : PoolState) (all owns rest : List OwnState) (own : OwnState) →
@@ -203,7 +203,7 @@ each_dealt pool j [] all long k h at = absurd (cc)
 each_dealt pool j (own ∷ owns) all long zero h at =
     let e : j ≡ j + 0 = omega arith in
     subst (λ n. IsNewHand pool n h) e
-    (subst (IsNewHand pool j) (same_some _ h at)
+    (subst (IsNewHand pool j) (same_Some _ h at)
     (new_hand_is pool j own (All-head (λ (own : OwnState).
     own.log ≡ log pool.cells (128 - pool.hands) [] []) own owns all) long))
 each_dealt pool j (own ∷ owns) all long (suc k) h at =

@@ -3,21 +3,18 @@ use Rattle.std.proofs.Common.{◌≡◌, ◌≢◌, ◌∙◌, ℕ, zero, suc, �
 use Rattle.std.proofs.Common.{slice_get, slice_set, All, sym, refl, ap, subst}
 use Rattle.std.proofs.lemmas.List.{get_or-set_same, get_or-set_other, length-set}
 use Rattle.std.proofs.lemmas.List.Elements.{All-head, All-tail}
-use Rattle.std.proofs.lemmas.Option.{slice_get_within}
+use Rattle.std.proofs.lemmas.Option.{slice_get_within, same_Some}
 use native.Mathlib.Decide.{ℕ_discrete}
 use mathlib.Core.Logic.{dite}
 use Rattle.ol_pool.specs.Looks.{Part, part_at, new_part}
 use Rattle.ol_pool.specs.Owned.{OwnState, ReachState, reach_part, own_part}
 use Rattle.ol_pool.specs.Handed.{deques_of, parts_of}
 
-pub same_some : {X : Type 0} (y x : X) → Some y ≡ Some x → y ≡ x
-same_some y x e = cc
-
 -- a list whose element at a place changes, but not its image
 pub map_set : {X Y : Type 0} (f : X → Y) (xs : List X) (i : ℕ) (x a : X) → slice_get xs i ≡ Some x →
     f a ≡ f x → map f (slice_set xs i a) ≡ map f xs
 map_set f [] i x a at e = absurd (cc)
-map_set f (y ∷ xs) zero x a at e = ap (λ z. z ∷ map f xs) (e ∙ ap f (sym (same_some y x at)))
+map_set f (y ∷ xs) zero x a at e = ap (λ z. z ∷ map f xs) (e ∙ ap f (sym (same_Some y x at)))
 map_set f (y ∷ xs) (suc i) x a at e = ap (λ l. f y ∷ l) (map_set f xs i x a at e)
 
 pub map_set_at : {X Y : Type 0} (f : X → Y) (xs : List X) (i : ℕ) (a : X) →
@@ -35,7 +32,7 @@ get_mapped f (y ∷ xs) (suc i) x at = get_mapped f xs i x at
 
 pub all_at : {X : Type 0} (P : X → Type 0) (xs : List X) (i : ℕ) (x : X) → slice_get xs i ≡ Some x → All P xs → P x
 all_at P [] i x at all = absurd (cc)
-all_at P (y ∷ xs) zero x at all = subst P (same_some y x at) (All-head P y xs all)
+all_at P (y ∷ xs) zero x at all = subst P (same_Some y x at) (All-head P y xs all)
 all_at P (y ∷ xs) (suc i) x at all = all_at P xs i x at (All-tail P y xs all)
 
 -- parts, of which one changes
@@ -66,7 +63,7 @@ reach_here others k r at = get_or-map_here others k r at where
   get_or-map_here : (others : List ReachState) (k : ℕ) (r : ReachState) →
       slice_get others k ≡ Some r → part_at (map reach_part others) k ≡ reach_part r
   get_or-map_here [] k r at = absurd (cc)
-  get_or-map_here (y ∷ others) zero r at = ap reach_part (same_some y r at)
+  get_or-map_here (y ∷ others) zero r at = ap reach_part (same_Some y r at)
   get_or-map_here (y ∷ others) (suc k) r at = get_or-map_here others k r at
 
 -- what holds of each part

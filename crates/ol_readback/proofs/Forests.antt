@@ -7,10 +7,9 @@ use Rattle.ol_net.specs.Nets.{NamedNet}
 use Rattle.ol_context.specs.Contexts.{Level, Context}
 use Rattle.ol_readback.specs.Frames.{Frame, frame_at, root}
 use Rattle.ol_readback.specs.Matching.{Matches, here, above, name}
-use Rattle.ol_readback.specs.Heads.{head, matched, IsHeadWithin, leaves}
+use Rattle.ol_readback.specs.Heads.{head, matched, IsHeadWithin, leaves, IsHead}
 use Rattle.ol_readback.specs.ReadTrees.{Subterm, framed, port_of, arguments, ReadsBack, end, past}
 use Rattle.ol_readback.specs.ReadTrees.{spent, lost, found, IsTree}
-use Rattle.ol_readback.specs.Heads.{IsHead}
 use Rattle.ol_readback.specs.Heads as heads
 use Rattle.ol_readback.specs.Sources.{HaveHeadsOf, HasHeadsOf}
 use Rattle.ol_readback.specs.Sources as sources

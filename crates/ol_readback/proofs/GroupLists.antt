@@ -8,9 +8,8 @@ use Rattle.ol_context.proofs.Shapes.{held_more, map_more, extends_refl}
 use Rattle.ol_context.proofs.ValueLists.{held_append}
 use Rattle.ol_readback.specs.Frames.{os}
 use Rattle.ol_readback.specs.ReadTrees.{Subterm, arguments}
-use Rattle.ol_readback.specs.Groups.{subterms_of, pending_of, IsHeldGroup, AreHeldGroups}
-use Rattle.ol_readback.specs.Groups.{IsPlacedGroup, ArePlacedGroups, subterm_of, IsNextFrame}
-use Rattle.ol_readback.specs.Groups.{IsNext, IsGroupOf}
+use Rattle.ol_readback.specs.Groups.{subterms_of, pending_of, IsHeldGroup, AreHeldGroups, IsPlacedGroup}
+use Rattle.ol_readback.specs.Groups.{ArePlacedGroups, subterm_of, IsNextFrame, IsNext, IsGroupOf}
 use Rattle.ol_readback.specs.declared.frames.Frame.{Frame}
 use Rattle.ol_readback.specs.declared.groups.Group.{Group}
 

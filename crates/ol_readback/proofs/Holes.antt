@@ -4,8 +4,7 @@ use Rattle.std.proofs.Common.{◌≡◌, ℕ, zero, suc, ◌<◌, refl, sym, ap,
 use Rattle.ol_net.specs.declared.parts.Kind.{Kind}
 use Rattle.ol_net.specs.declared.parts.Kind.TheVariants as kind
 use Rattle.ol_net.specs.Parts.{arity}
-use Rattle.ol_context.specs.Contexts.{Level, empty, o, star, pair, Context, cons, tail, marked}
-use Rattle.ol_context.specs.Contexts.{mark, change, up}
+use Rattle.ol_context.specs.Contexts.{Level, empty, o, star, pair, Context, cons, tail, marked, mark, change, up}
 use Rattle.ol_context.proofs.Contexts.{eta, cons_eq, head_eq, tail_eq}
 use Rattle.ol_context.proofs.LeafMoves.{marked_empty}
 

@@ -1,4 +1,3 @@
-pub mod Results
 pub mod Fits
 pub mod FrameLists
 pub mod Climbing

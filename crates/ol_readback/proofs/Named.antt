@@ -4,8 +4,7 @@ use Rattle.ol_net.specs.Nets.{NamedNet, IsNet}
 use Rattle.ol_context.specs.Contexts.{Level, Context}
 use Rattle.ol_readback.specs.Frames.{Frame}
 use Rattle.ol_readback.specs.Matching.{Matches, here, above, name}
-use Rattle.ol_readback.specs.Heads.{head, matched, IsHeadWithin, leaves}
-use Rattle.ol_readback.specs.Heads.{IsHead}
+use Rattle.ol_readback.specs.Heads.{head, matched, IsHeadWithin, leaves, IsHead}
 use Rattle.ol_readback.specs.Heads as heads
 use Rattle.ol_readback.specs.Sources.{HaveHeadsOf, HasHeadsOf}
 use Rattle.ol_readback.specs.Sources as sources

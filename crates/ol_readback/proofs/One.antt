@@ -9,9 +9,8 @@ use Rattle.ol_context.specs.Ways.{WalkStands}
 use Rattle.ol_context.proofs.Exits.{path_one, no_stand}
 use Rattle.ol_readback.specs.Frames.{Frame, frame_at, os, asked}
 use Rattle.ol_readback.specs.Matching.{Fits, Matches, here, above, name, MatchesNothing}
-use Rattle.ol_readback.specs.Heads.{Answer, head, no_head, budget, IsMatched, matched, unmatched}
-use Rattle.ol_readback.specs.Heads.{IsHead, IsHeadWithin, spends, live, Fails, FailsBelow}
-use Rattle.ol_readback.specs.Heads.{LeavesWithin, answer_of}
+use Rattle.ol_readback.specs.Heads.{Answer, head, no_head, budget, IsMatched, matched, unmatched, IsHead, IsHeadWithin}
+use Rattle.ol_readback.specs.Heads.{spends, live, Fails, FailsBelow, LeavesWithin, answer_of}
 use Rattle.ol_readback.specs.Heads as heads
 use Rattle.ol_readback.specs.ReadTrees.{Subterm, framed, port_of, arguments, ReadsBack, end, past, spent, lost, found}
 use Rattle.ol_readback.specs.Laws.{ExitIsOne, HeadIsOne, HeadWithinIsOne, TreeIsOne}

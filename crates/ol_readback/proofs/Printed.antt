@@ -1,7 +1,6 @@
 -- Printing one place.
-use Rattle.std.proofs.Common.{◌≡◌, ℕ, zero, suc, ◌+◌, ◌-◌, ◌≤◌, Bool, true, false, List, [], ◌∷◌}
-use Rattle.std.proofs.Common.{◌++◌, length, drop, get_or, Option, Some, None, refl, sym, ap, ◌∙◌}
-use Rattle.std.proofs.Common.{subst, arith, append_assoc}
+use Rattle.std.proofs.Common.{◌≡◌, ℕ, zero, suc, ◌+◌, ◌-◌, ◌≤◌, Bool, true, false, List, [], ◌∷◌, ◌++◌, length, drop}
+use Rattle.std.proofs.Common.{get_or, Option, Some, None, refl, sym, ap, ◌∙◌, subst, arith, append_assoc}
 use Rattle.std.specs.Prelude.{slice_get}
 use Rattle.std.proofs.lemmas.List.{append-nil, length_push, get_or_append_left, drop_all}
 use Rattle.ol_readback.specs.Whole.{Part, term, lost, cut, none, more, count, preorder, IsBound, IsWholeTree}
@@ -14,9 +13,8 @@ use Rattle.ol_readback.specs.declared.answers.HeadVar.TheVariants as var
 use Rattle.ol_readback.specs.declared.answers.ReadNode.{ReadNode}
 use Rattle.ol_readback.specs.declared.answers.ReadNode.TheVariants as node
 use Rattle.ol_readback.specs.declared.printing.Open.{Open}
-use Rattle.ol_readback.proofs.Layers.{Layer, opens_of, list_of, rounds_of, texts_of, IsBelow}
-use Rattle.ol_readback.proofs.Layers.{AreBound, below_more, bound_more, in_scope_below, Prints}
-use Rattle.ol_readback.proofs.Layers.{Ahead, Taken, take_ahead}
+use Rattle.ol_readback.proofs.Layers.{Layer, opens_of, list_of, rounds_of, texts_of, IsBelow, AreBound, below_more}
+use Rattle.ol_readback.proofs.Layers.{bound_more, in_scope_below, Prints, Ahead, Taken, take_ahead}
 
 variable_is : (names : List (List ℕ)) (rs zs R : List ℕ) (v : HeadVar) → rs ++ zs ≡ R →
     IsSeenVar (length rs) v → variable names rs v ≡ variable names R v

@@ -1,17 +1,15 @@
 -- The names of a tree's term with names stand for the places of its term.
-use Rattle.std.proofs.Common.{◌≡◌, ℕ, zero, suc, ◌+◌, ◌-◌, ◌<◌, ◌≤◌, ◌^◌, List, [], ◌∷◌, ◌++◌}
-use Rattle.std.proofs.Common.{length, get_or, Option, Some, None, Bool, true, false, cond, refl}
-use Rattle.std.proofs.Common.{sym, ap, ◌∙◌, subst, arith}
+use Rattle.std.proofs.Common.{◌≡◌, ℕ, zero, suc, ◌+◌, ◌-◌, ◌<◌, ◌≤◌, ◌^◌, List, [], ◌∷◌, ◌++◌, length, get_or, Option}
+use Rattle.std.proofs.Common.{Some, None, Bool, true, false, cond, refl, sym, ap, ◌∙◌, subst, arith}
 use Rattle.std.specs.Prelude.{slice_get, IsSome}
 use Rattle.std.specs.List.{position_from}
 use Rattle.std.specs.Str.{bytes_eq}
 use Rattle.std.proofs.lemmas.Slice.Eq.{bytes_eq-Decides}
 use Rattle.ol_term.specs.Trees as tree
 use Rattle.ol_term.specs.Trees.{Tree}
-use Rattle.ol_term.specs.NameLists.{NoNameTwice}
+use Rattle.ol_term.specs.NameLists.{NoNameTwice, without}
 use Rattle.ol_term.specs.BinderNames.{binder_name}
 use Rattle.ol_term.proofs.Binders.{binder_is_not_free, binders_differ}
-use Rattle.ol_term.specs.NameLists.{without}
 use Rattle.ol_term.proofs.BinderTexts.{not_same}
 use Rattle.ol_parse.specs.Grammar as grammar
 use Rattle.ol_parse.specs.Grammar.{Named, lams}
@@ -29,7 +27,7 @@ abbrev pub scope : List (List ℕ) → ℕ → List (List ℕ)
 scope names zero = []
 scope names (suc t) = binder_name names t ∷ scope names t
 
-abbrev is : List ℕ → List ℕ → Bool
+abbrev pub is : List ℕ → List ℕ → Bool
 is x = λ y. bytes_eq x y
 
 -- binder x of t
@@ -61,7 +59,7 @@ free_none names x k e h (suc t) i l =
     binder_is_not_free names t h (omega arith) k (e ∙ ap (λ (x : List ℕ). Some x) s)))
     ∙ free_none names x k e h t (i + 1) (omega arith)
 
-first_place : (ns : List (List ℕ)) (x : List ℕ) (k i : ℕ) → slice_get ns k ≡ Some x →
+pub first_place : (ns : List (List ℕ)) (x : List ℕ) (k i : ℕ) → slice_get ns k ≡ Some x →
     ((j : ℕ) → j < k → slice_get ns j ≡ Some x → ⊥) → position_from (is x) i ns ≡ Some (i + k)
 first_place [] x k i e h = absurd (cc)
 first_place (y ∷ ns) x zero i e h =

@@ -39,7 +39,7 @@ no_in b (c ∷ w) h =
     and_right (nat_eq b 105) (bytes_eq (c ∷ w) (110 ∷ []))
     (and_left (nat_eq c 110) (bytes_eq w []) (ne_eqb c 110 (λ e. absurd (omega arith))))
 
-no_keyword : (w : List ℕ) → bytes_eq w (108 ∷ 101 ∷ 116 ∷ []) ≡ false →
+pub no_keyword : (w : List ℕ) → bytes_eq w (108 ∷ 101 ∷ 116 ∷ []) ≡ false →
     bytes_eq w (105 ∷ 110 ∷ []) ≡ false → token_of w ≡ name w
 unfolding token_of
 no_keyword w h k =

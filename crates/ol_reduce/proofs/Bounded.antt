@@ -9,9 +9,8 @@ use Rattle.ol_net.specs.Nets.{NamedPort, NamedNet}
 use Rattle.ol_rules.specs.declared.journal.NodeName.{NodeName}
 use Rattle.ol_wire.specs.declared.layout.Parts.{Parts}
 use Rattle.ol_wire.specs.References.{wire_ref, place_in, IsWireRef, IsRef, IsWholeRef}
-use Rattle.ol_wire.specs.Layout.{WordPart, ticket, live_word, port, field, wire, between, left}
-use Rattle.ol_wire.specs.Layout.{right, entry, past, part_of_word, place_of, table_size, block}
-use Rattle.ol_wire.specs.Layout.{port_word}
+use Rattle.ol_wire.specs.Layout.{WordPart, ticket, live_word, port, field, wire, between, left, right, entry, past}
+use Rattle.ol_wire.specs.Layout.{part_of_word, place_of, table_size, block, port_word}
 use Rattle.ol_wire.specs.Edges.{edge_in, edges_in}
 use Rattle.ol_wire.specs.Stands.{IsEnd, of_port, principal, auxiliary, IsWireEnd}
 use Rattle.ol_wire.specs.Closed.{ClosedTable, events_in}

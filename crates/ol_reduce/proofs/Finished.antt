@@ -1,9 +1,8 @@
 -- Once all cells and all chains are walked, each port has its partner, and the table is the net
 -- that the words stand for.
-use Rattle.std.proofs.Common.{◌≡◌, ◌≢◌, ℕ, zero, suc, ◌+◌, ◌*◌, ◌%◌, ◌==◌, ◌<◌, ◌≤◌, Bool, true}
-use Rattle.std.proofs.Common.{false, not, nat_lt, eq-eqb, ne_eqb, lt-ltb, ltb-true, if◌then◌else◌}
-use Rattle.std.proofs.Common.{List, [], ◌∷◌, length, slice_index, Option, Some, None, ◌⊎◌, inl, inr}
-use Rattle.std.proofs.Common.{refl, sym, ap, ◌∙◌, subst, arith}
+use Rattle.std.proofs.Common.{◌≡◌, ◌≢◌, ℕ, zero, suc, ◌+◌, ◌*◌, ◌%◌, ◌==◌, ◌<◌, ◌≤◌, Bool, true, false, not, nat_lt}
+use Rattle.std.proofs.Common.{eq-eqb, ne_eqb, lt-ltb, ltb-true, if◌then◌else◌, List, [], ◌∷◌, length, slice_index}
+use Rattle.std.proofs.Common.{Option, Some, None, ◌⊎◌, inl, inr, refl, sym, ap, ◌∙◌, subst, arith}
 use Rattle.std.proofs.lemmas.Bool.{cases_eq, cases_lt, cases_Bool, false≢true}
 use Rattle.ol_net.specs.declared.parts.Kind.{Kind}
 use Rattle.ol_net.specs.Parts.{arity, slots_of, is_eraser}
@@ -28,9 +27,8 @@ use Rattle.ol_reduce.specs.Left.{ranks_in, AreLeft}
 use Rattle.ol_reduce.specs.Following.{OwnsWord, LeadsTo}
 use Rattle.ol_reduce.specs.Drafts.{frozen_top, IsFullDraft}
 use Rattle.ol_reduce.specs.Found.{name_of, port_of, kind_of, IsPartial, WaitsAt, AreMet, AreCelled, wire_word}
-use Rattle.ol_reduce.proofs.Forward.{IsSink, linked_goes, linked_meets, one_sink, owner_of}
-use Rattle.ol_reduce.proofs.Forward.{port_no_wire, owner_no_node, EdgeIs, owned, celled, edge_is}
-use Rattle.ol_reduce.proofs.Forward.{es}
+use Rattle.ol_reduce.proofs.Forward.{IsSink, linked_goes, linked_meets, one_sink, owner_of, port_no_wire, owner_no_node}
+use Rattle.ol_reduce.proofs.Forward.{EdgeIs, owned, celled, edge_is, es}
 use Rattle.ol_reduce.proofs.Bounded.{owner_behind, events_few}
 use Rattle.ol_reduce.proofs.WordOf.{word_of_port}
 use Rattle.ol_reduce.proofs.Wires.{wire_same}

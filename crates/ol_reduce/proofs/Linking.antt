@@ -1,8 +1,7 @@
 -- What a link and a reference add to what is known of the net.
-use Rattle.std.proofs.Common.{◌≡◌, ◌≢◌, ℕ, suc, ◌+◌, ◌*◌, ◌==◌, ◌<◌, Bool, nat_eq, eq-eqb, ne_eqb}
-use Rattle.std.proofs.Common.{if◌then◌else◌, List, length, length-set, get_or-set_same}
-use Rattle.std.proofs.Common.{get_or-set_other, slice_index, slice_set, ◌⊎◌, inl, inr, refl, sym}
-use Rattle.std.proofs.Common.{ap, ◌∙◌, subst, arith}
+use Rattle.std.proofs.Common.{◌≡◌, ◌≢◌, ℕ, suc, ◌+◌, ◌*◌, ◌==◌, ◌<◌, Bool, nat_eq, eq-eqb, ne_eqb, if◌then◌else◌, List}
+use Rattle.std.proofs.Common.{length, length-set, get_or-set_same, get_or-set_other, slice_index, slice_set, ◌⊎◌, inl}
+use Rattle.std.proofs.Common.{inr, refl, sym, ap, ◌∙◌, subst, arith}
 use Rattle.std.proofs.lemmas.Bool.{cases_eq, cases_lt}
 use Rattle.ol_net.specs.declared.parts.Kind.{Kind}
 use Rattle.ol_net.specs.declared.parts.Kind.TheVariants.{Eraser}

@@ -1,8 +1,7 @@
 -- What each port that owns a word does: it finds a partner, or it waits where its chain ends.
-use Rattle.std.proofs.Common.{◌≡◌, ◌≢◌, ℕ, suc, ◌+◌, ◌-◌, ◌*◌, ◌%◌, ◌<◌, ◌≤◌, Bool, true, ne_eqb}
-use Rattle.std.proofs.Common.{if◌then◌else◌, List, [], ◌∷◌, length, get_or-set_same}
-use Rattle.std.proofs.Common.{get_or-set_other, slice_index, slice_set, ◌⊎◌, inl, inr, refl, sym}
-use Rattle.std.proofs.Common.{ap, ◌∙◌, subst, arith}
+use Rattle.std.proofs.Common.{◌≡◌, ◌≢◌, ℕ, suc, ◌+◌, ◌-◌, ◌*◌, ◌%◌, ◌<◌, ◌≤◌, Bool, true, ne_eqb, if◌then◌else◌, List}
+use Rattle.std.proofs.Common.{[], ◌∷◌, length, get_or-set_same, get_or-set_other, slice_index, slice_set, ◌⊎◌, inl, inr}
+use Rattle.std.proofs.Common.{refl, sym, ap, ◌∙◌, subst, arith}
 use Rattle.std.proofs.lemmas.Bool.{cases_eq, cases_lt}
 use Rattle.ol_law_edges.specs.Edges.{IsIn, here, on}
 use Rattle.ol_net.specs.declared.parts.Kind.{Kind}

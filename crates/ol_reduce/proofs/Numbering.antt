@@ -1,9 +1,8 @@
 -- Numbers and ranks of the nodes that are left.
-use Rattle.std.proofs.Common.{◌≡◌, ◌≢◌, ℕ, zero, suc, ◌+◌, ◌-◌, ◌*◌, ◌/◌, ◌%◌, ◌<◌, ◌≤◌, Bool, true}
-use Rattle.std.proofs.Common.{false, not, nat_lt, lt-ltb, if◌then◌else◌, List, [], ◌∷◌, ◌++◌}
-use Rattle.std.proofs.Common.{length, length-set, get_or-set_same, get_or-set_other, slice_index}
-use Rattle.std.proofs.Common.{slice_set, get_or, Some, None, ◌⊎◌, inl, inr, ◌↔◌, refl, sym, ap, ◌∙◌}
-use Rattle.std.proofs.Common.{subst, arith}
+use Rattle.std.proofs.Common.{◌≡◌, ◌≢◌, ℕ, zero, suc, ◌+◌, ◌-◌, ◌*◌, ◌/◌, ◌%◌, ◌<◌, ◌≤◌, Bool, true, false, not, nat_lt}
+use Rattle.std.proofs.Common.{lt-ltb, if◌then◌else◌, List, [], ◌∷◌, ◌++◌, length, length-set, get_or-set_same}
+use Rattle.std.proofs.Common.{get_or-set_other, slice_index, slice_set, get_or, Some, None, ◌⊎◌, inl, inr, ◌↔◌, refl}
+use Rattle.std.proofs.Common.{sym, ap, ◌∙◌, subst, arith}
 use Rattle.std.specs.Prelude.{slice_get, replicate}
 use Rattle.std.proofs.lemmas.Bool.{cases_eq, cases_lt, false≢true, not-true, not-false}
 use Rattle.std.proofs.lemmas.Bool.Decides.{nat_tests}
@@ -20,6 +19,7 @@ use Rattle.ol_reduce.proofs.Births.{length_each}
 use Rattle.ol_reduce.proofs.Filled.{at_front, at_end}
 use Rattle.ol_wire.proofs.InWords.Claimed.{wider}
 use Rattle.ol_reduce.specs.Left.{rank_of, name_of_rank, ranks_in, IsLeft, IsNamedBefore, AreMarked, AreLeft}
+use Rattle.ol_reduce.specs.Left.{IsMarkedToo}
 
 pub name_of_start : (z : Parts) (r : ℕ) → r < z.nodes → name_of_rank z r ≡ Init r
 name_of_start z r lt = ap (λ b. if b then Init r else Born ((r - z.nodes) / 4) ((r - z.nodes) % 4))
@@ -216,18 +216,14 @@ get_replicate zero r h = let q : None ≡ Some true = h in cc
 get_replicate (suc n) zero h = let q : Some false ≡ Some true = h in absurd (false≢true (cc))
 get_replicate (suc n) (suc r) h = get_replicate n r h
 
-abbrev pub IsMarkedBy : Parts → ℕ → List Bool → NodeName → List Bool → Type 0
-IsMarkedBy z n old name new = (x : NodeName) → IsPlaced z n x →
-    (slice_get new (rank_of z x) ≡ Some true) ↔ ((slice_get old (rank_of z x) ≡ Some true) ⊎ (name ≡ x))
-
 abbrev pub IsMarkedWith : ClosedTable → List Bool → NodeName → List Bool → Type 0
-IsMarkedWith w old name new = IsMarkedBy w.plan.parts (events_in w.plan.parts w.words) old name new
+IsMarkedWith w old name new = IsMarkedToo w.plan.parts (events_in w.plan.parts w.words) old name new
 
 -- the parts and the number of events as the code has them
 pub marked_told : (w : ClosedTable) (z : Parts) (n : ℕ) (old new : List Bool) (name : NodeName) →
-    z ≡ w.plan.parts → n ≡ events_in w.plan.parts w.words → IsMarkedBy z n old name new → IsMarkedWith w old name new
+    z ≡ w.plan.parts → n ≡ events_in w.plan.parts w.words → IsMarkedToo z n old name new → IsMarkedWith w old name new
 marked_told w z n old new name e f h = subst
-    (λ z. IsMarkedBy z (events_in w.plan.parts w.words) old name new) e (subst (λ n. IsMarkedBy z n old name new) f h)
+    (λ z. IsMarkedToo z (events_in w.plan.parts w.words) old name new) e (subst (λ n. IsMarkedToo z n old name new) f h)
 
 pub more_marked : (w : ClosedTable) (t : ℕ) (marks one two : List Bool) (e : Entry) →
     AreMarked w t marks → slice_get (journal_in w.plan.parts w.words) t ≡ Some e

@@ -1,7 +1,6 @@
 -- The start cells, put by the hands one after the other.
-use Rattle.std.proofs.Common.{◌≡◌, ◌≢◌, ◌∙◌, ℕ, suc, ◌+◌, ◌%◌, ◌<◌, List, [], ◌∷◌, ◌++◌, All}
-use Rattle.std.proofs.Common.{length, get_or, slice_set, eq-eqb, ne_eqb, if◌then◌else◌}
-use Rattle.std.proofs.Common.{sym, ap, subst, arith, inl, inr, Bool}
+use Rattle.std.proofs.Common.{◌≡◌, ◌≢◌, ◌∙◌, ℕ, suc, ◌+◌, ◌%◌, ◌<◌, List, [], ◌∷◌, ◌++◌, All, length, get_or, slice_set}
+use Rattle.std.proofs.Common.{eq-eqb, ne_eqb, if◌then◌else◌, sym, ap, subst, arith, inl, inr, Bool}
 use Rattle.std.proofs.lemmas.Bool.{cases_eq}
 use Rattle.std.proofs.lemmas.List.{append-nil, length-append, length-set, get_or-set_same, get_or-set_other}
 use Rattle.std.proofs.lemmas.Option.{slice_get-get_or}

@@ -1,7 +1,6 @@
 -- The net that is built of the finished table is the net that the words stand for.
-use Rattle.std.proofs.Common.{◌≡◌, ◌≢◌, ℕ, ◌<◌, Bool, true, false, nat_lt, ltb-true, if◌then◌else◌}
-use Rattle.std.proofs.Common.{List, [], ◌∷◌, length, Some, is_some, count_by, inl, inr, refl, sym}
-use Rattle.std.proofs.Common.{ap, ◌∙◌, subst, arith}
+use Rattle.std.proofs.Common.{◌≡◌, ◌≢◌, ℕ, ◌<◌, Bool, true, false, nat_lt, ltb-true, if◌then◌else◌, List, [], ◌∷◌}
+use Rattle.std.proofs.Common.{length, Some, is_some, count_by, inl, inr, refl, sym, ap, ◌∙◌, subst, arith}
 use Rattle.std.proofs.lemmas.Bool.{cases_lt}
 use Rattle.ol_law_edges.specs.Edges.{IsIn}
 use Rattle.ol_net.specs.declared.parts.Kind.{Kind}

@@ -19,9 +19,8 @@ use Rattle.ol_reduce.specs.declared.chains.Goal.TheVariants.{Node, Port, Wire}
 use Rattle.ol_reduce.specs.Left.{ranks_in, AreLeft}
 use Rattle.ol_reduce.specs.Following.{IsStart, IsFirst, EndsAt}
 use Rattle.ol_reduce.specs.Used.{wires_used}
-use Rattle.ol_reduce.specs.Found.{port_of, IsKnown, IsPartial, AreMet, IsPartly, AreMetTo, IsNodeIn}
-use Rattle.ol_reduce.specs.Found.{IsSiteIn, IsWordAt, KeepsPartners, wire_word, IsStartWire}
-use Rattle.ol_reduce.specs.Found.{IsBornWire}
+use Rattle.ol_reduce.specs.Found.{port_of, IsKnown, IsPartial, AreMet, IsPartly, AreMetTo, IsNodeIn, IsSiteIn, IsWordAt}
+use Rattle.ol_reduce.specs.Found.{KeepsPartners, wire_word, IsStartWire, IsBornWire}
 use Rattle.ol_reduce.proofs.Arriving.{Told}
 use Rattle.ol_reduce.proofs.Bounded.{led_used}
 use Rattle.ol_reduce.proofs.Forward.{goes_linked}

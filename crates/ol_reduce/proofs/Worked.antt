@@ -2,6 +2,7 @@
 use Rattle.std.proofs.Common.{◌≡◌, ℕ, ◌+◌, ◌≤◌, [], ◌∷◌, ◌++◌, Bool, true, false, ◌||◌, Option}
 use Rattle.std.proofs.Common.{None, Some, refl, sym, ap, ◌∙◌, subst, arith}
 use Rattle.std.proofs.lemmas.List.{append-nil}
+use Rattle.std.proofs.Math.Bool.{or-true}
 use Rattle.ol_pool.specs.Pools.{HandState, PoolState, IsHandOf as IsOfPool}
 use Rattle.ol_pool.specs.Weights.{weigh_given, weigh_parts}
 use Rattle.ol_wire.specs.declared.layout.Parts.{Parts}
@@ -132,15 +133,11 @@ kept_asked b p v n r of hand same number a =
 
 -- ---- two workers that ended, joined
 
-or_true : (b : Bool) → (b || true) ≡ true
-or_true true = refl
-or_true false = refl
-
 pub any_settled : (a b : Bool) (v w n : View) → n ≡ joined v w → (a ≡ true → v.settled ≡ true) →
     (b ≡ true → w.settled ≡ true) → (a || b) ≡ true → n.settled ≡ true
 any_settled true b v w n e one other h = ap (λ (x : View). x.settled) e ∙ ap (λ x. x || w.settled) (one refl)
 any_settled false b v w n e one other h = ap (λ (x : View). x.settled) e
-    ∙ ap (λ x. v.settled || x) (other h) ∙ or_true v.settled
+    ∙ ap (λ x. v.settled || x) (other h) ∙ or-true v.settled
 
 pub all_over : (a b : Bool) (v w n : View) → n ≡ joined v w → (a ≡ false → v.over ≡ true) →
     (b ≡ false → w.over ≡ true) → (a || b) ≡ false → n.over ≡ true

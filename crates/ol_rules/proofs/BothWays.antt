@@ -1,7 +1,6 @@
 -- Where two nodes have a rule whichever of them acts, it is one rule, and both ways leave one net.
-use Rattle.std.proofs.Common.{◌≡◌, ℕ, suc, ◌<◌, Bool, true, false, if◌then◌else◌, nat_eq, nat_lt}
-use Rattle.std.proofs.Common.{eqb-true, ltb-true, eq-eqb, Some, None, ◌⊎◌, inl, inr, refl, sym, ap}
-use Rattle.std.proofs.Common.{◌∙◌, subst, arith}
+use Rattle.std.proofs.Common.{◌≡◌, ℕ, suc, ◌<◌, Bool, true, false, if◌then◌else◌, nat_eq, nat_lt, eqb-true, ltb-true}
+use Rattle.std.proofs.Common.{eq-eqb, Some, None, ◌⊎◌, inl, inr, refl, sym, ap, ◌∙◌, subst, arith}
 use Rattle.ol_law_edges.specs.Edges.{Joined, here, on, back, Edge, Contracted}
 use Rattle.ol_law_edges.proofs.Joining.{joined_map}
 use Rattle.ol_net.specs.declared.parts.Kind.{Kind}

@@ -1,7 +1,6 @@
 -- A run on its way is a one-thread run where it ends.
-use Rattle.std.proofs.Common.{◌≡◌, ◌≢◌, ℕ, ◌-◌, ◌<◌, ◌≤◌, List, [], ◌∷◌, ◌++◌, length}
-use Rattle.std.proofs.Common.{length-append, Option, Some, None, ◌⊎◌, inl, inr, refl, sym, subst, arith}
-use Rattle.std.proofs.Common.{MatchOption, Result, Ok, Err, OnErr, IsSome, ◌↔◌}
+use Rattle.std.proofs.Common.{◌≡◌, ◌≢◌, ℕ, ◌-◌, ◌<◌, ◌≤◌, List, [], ◌∷◌, ◌++◌, length, length-append, Option, Some}
+use Rattle.std.proofs.Common.{None, ◌⊎◌, inl, inr, refl, sym, subst, arith, MatchOption, IsSome, ◌↔◌}
 use Rattle.ol_net.specs.declared.parts.Rule.{Rule}
 use Rattle.ol_net.specs.declared.parts.NodeId.{NodeId}
 use Rattle.ol_net.specs.Graph.{Graph}
@@ -23,10 +22,6 @@ use Rattle.ol_rules.proofs.Waiting.{active_below}
 pub none_of : (o : Option ℕ) (n : ℕ) → o ≡ None → IsSome o ↔ (0 < n) → n ≡ 0
 none_of None n e h = let f : 0 < n → ⊥ = λ b. absurd (let q = h.1 b in cc) in omega arith
 none_of (Some x) n e h = absurd (cc)
-
-pub on_err : {T E : Type 0} {P : Type 0} (r : Result T E) → P → OnErr r P
-on_err (Ok x) p = tt
-on_err (Err e) p = p
 
 pub some_active : (g : Graph) (at partner : ℕ) → IsLeast g at partner → HasActive (net_of g)
 some_active g at partner l = go l.active

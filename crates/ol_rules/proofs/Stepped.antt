@@ -11,9 +11,8 @@ use Rattle.ol_rules.proofs.Built.{net_of, HasBorn, ready, built_rewrites, built_
 use Rattle.ol_rules.proofs.Joins.{meets, crosses}
 use Rattle.ol_law_edges.proofs.Lists.{in_left, in_right, in_cases}
 use Rattle.ol_rules.proofs.Lists.{in_each, in_each_of}
-use Rattle.ol_rules.specs.Contracting.{Vertex, old, f_copy, g_copy, vertex_same, links_left}
-use Rattle.ol_rules.specs.Contracting.{meeting_joins, crossing_joins, gone, born_nodes, rewritten}
-use Rattle.ol_rules.specs.Contracting.{rewrite, IsCounted}
+use Rattle.ol_rules.specs.Contracting.{Vertex, old, f_copy, g_copy, vertex_same, links_left, meeting_joins}
+use Rattle.ol_rules.specs.Contracting.{crossing_joins, gone, born_nodes, rewritten, rewrite, IsCounted}
 use Rattle.ol_rules.proofs.Wires.{Join}
 use Rattle.ol_rules.proofs.Alike.{meeting_alike}
 use Rattle.ol_rules.specs.Laws.{IsFresh}

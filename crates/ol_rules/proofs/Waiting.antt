@@ -1,7 +1,7 @@
 -- The nodes that wait for their turn: sets of numbers, and what has to wait after a step.
 use Rattle.std.proofs.Common.{◌≡◌, ◌≢◌, ℕ, suc, ◌+◌, ◌-◌, ◌<◌, ◌≤◌, Bool, true, false, nat_lt, nat_eq}
 use Rattle.std.proofs.Common.{List, [], ◌∷◌, length, ◌⊎◌, inl, inr, refl, sym, ◌∙◌, subst, arith}
-use Rattle.std.proofs.lemmas.Bool.{cases_lt}
+use Rattle.std.proofs.lemmas.Bool.{cases_lt, cases_eq}
 use Rattle.std.proofs.lemmas.Bool.Decides.{nat_tests}
 use Rattle.std.specs.Ordering.{nat_cmp, is_eq, is_gt}
 use Rattle.std.specs.BTreeSet.{BTreeSet, contains, Updates, IsLowerBound, btree_set_len}
@@ -22,9 +22,6 @@ use Rattle.ol_rules.specs.Waiting.{AreAdded}
 use Rattle.ol_rules.proofs.FreshPairs.{active_after, gone}
 use Rattle.ol_rules.proofs.OnTheWay.{node_below, the_pair}
 
-pub nat_is : (m n : ℕ) → (m ≡ n) ⊎ (m ≢ n)
-nat_is m n = grind arith
-
 pub differs : (k q : ℕ) → q ≢ k → is_eq (nat_cmp k q) ≡ false
 differs k q h = go (cases_lt k q) (cases_lt q k)
   where
@@ -41,7 +38,7 @@ others_stay s n k b u x h c = u.2 x (differs k x h) ∙ c
 
 pub stays_after_insert : (s n : BTreeSet ℕ) (k : ℕ) → Updates nat_cmp s n k true → (x : ℕ) →
     contains nat_cmp s x ≡ true → contains nat_cmp n x ≡ true
-stays_after_insert s n k u x c = go (nat_is x k)
+stays_after_insert s n k u x c = go (cases_eq x k)
   where
     go : (x ≡ k) ⊎ (x ≢ k) → contains nat_cmp n x ≡ true
     go (inl e) = let P : ℕ → Type 0 = λ z. contains nat_cmp n z ≡ true in subst P (sym e) u.1
@@ -87,7 +84,7 @@ none_added A w never x = (inl, go)
 -- one number, if no other is so
 pub one_added : (A : ℕ → Type 0) (s n : BTreeSet ℕ) (k : ℕ) → Updates nat_cmp s n k true → A k →
     ((x : ℕ) → A x → x ≡ k) → AreAdded A s n
-one_added A s n k u a one x = (go (nat_is x k), back)
+one_added A s n k u a one x = (go (cases_eq x k), back)
   where
     go : (x ≡ k) ⊎ (x ≢ k) → contains nat_cmp n x ≡ true → (contains nat_cmp s x ≡ true) ⊎ A x
     go (inl e) h = inr (subst A (sym e) a)
@@ -200,7 +197,7 @@ pub all_wait_on : (g g' : Graph) → IsNet (net_of g) →
     contains nat_cmp w x ≡ true) →
     AllWait g' w
 all_wait_on g g' n at partner r s least w others beside_at beside_partner born x t a =
-    go (active_after nat_is (net_of g) (net_of g') n
+    go (active_after cases_eq (net_of g) (net_of g') n
     (λ p. length g.nodes + p) s.f s.g s.step.active.k s.step.active.i s.step.active.l
     s.step.active.j (action_of r s.step.active.j) s.step.active.faces s.step.rewrites fresh x t a)
   where
@@ -210,7 +207,7 @@ all_wait_on g g' n at partner r s least w others beside_at beside_partner born x
     stays : (x ≡ at → ⊥)
     stays e =
         let c = active_node g' x t a in
-        gone nat_is (net_of g) (net_of g') n
+        gone cases_eq (net_of g) (net_of g') n
         (λ p. length g.nodes + p) s.f s.g s.step.active.k s.step.active.i s.step.active.l
         s.step.active.j (action_of r s.step.active.j) s.step.active.faces s.step.rewrites fresh
         x c.0 c.1 c.2 (side s.one_of)

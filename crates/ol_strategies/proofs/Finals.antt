@@ -3,7 +3,7 @@ use Rattle.std.proofs.Common.{◌≡◌, ℕ, zero, suc, ◌<◌, ◌⊎◌, inl
 use Rattle.std.proofs.Common.{Option, Some, None, IsSome, refl, sym, ap, ◌∙◌, subst, arith}
 use Rattle.std.specs.Prelude.{◌&&◌, if◌then◌else◌, nat_lt}
 use Rattle.std.specs.Option.{option_or}
-use Rattle.std.proofs.lemmas.Bool.{ltb-true}
+use Rattle.std.proofs.lemmas.Bool.{ltb-true, and_parts}
 use Rattle.ol_term.specs.Trees.{Tree, var, free, lam, app, is_below}
 use Rattle.ol_beta.specs.Leftmost.{is_abstraction, under, leftmost, IsNormal}
 use Rattle.ol_beta.proofs.Redexes.{no_under, no_leftmost, leftmost_first}
@@ -18,6 +18,7 @@ use Rattle.ol_strategies.specs.declared.orders.Order.TheVariants as order
 use Rattle.ol_strategies.specs.declared.orders.Reached as words
 use Rattle.ol_strategies.specs.declared.orders.Reached.TheVariants as word
 use Rattle.ol_strategies.proofs.Nexts.{spine_head, spine_weak, strict_applicative, no_sides, no_strict}
+use Rattle.ol_law_meaning.proofs.Shapes.{applied_push}
 
 -- ---- normal forms
 
@@ -55,10 +56,6 @@ applicative_none (app f a) e =
     (applicative_none f n.1) (applicative_none a n.2) n.0
 
 -- ---- head normal and weak head normal forms
-
-applied_push : (h : Tree) (Ps : List Tree) (P : Tree) → applied h (Ps ++ P ∷ []) ≡ app (applied h Ps) P
-applied_push h [] P = refl
-applied_push h (Q ∷ Ps) P = applied_push (app h Q) Ps P
 
 one_argument : (f a : Tree) → IsNeutral f → IsNeutral (app f a)
 one_argument f a n = record {
@@ -217,11 +214,7 @@ stuck_none (free k) s = absurd s
 stuck_none (lam t) s = absurd s
 stuck_none (app f a) s = stuck_parts f a (stuck_none f) (stuck_none a) s
 
-and_both : (x y : Bool) → (x && y) ≡ true → (x ≡ true) × (y ≡ true)
-and_both true y e = (refl, e)
-and_both false y e = absurd (cc)
-
-no_less : (k : ℕ) → nat_lt k 0 ≡ true → ⊥
+pub no_less : (k : ℕ) → nat_lt k 0 ≡ true → ⊥
 no_less k e = let l : k < 0 = ltb-true k 0 e in omega arith
 
 free_head : (f a : Tree) → (IsStuck f → is_below 0 f ≡ true → HasFreeHead f) →
@@ -239,7 +232,7 @@ stuck_at_free_name (var k) s e = absurd s
 stuck_at_free_name (free k) s e = absurd s
 stuck_at_free_name (lam t) s e = absurd s
 stuck_at_free_name (app f a) s e = free_head f a (stuck_at_free_name f) (stuck_at_free_name a) s
-    (and_both (is_below 0 f) (is_below 0 a) e)
+    (and_parts (is_below 0 f) (is_below 0 a) e)
 
 -- ---- the words
 

@@ -3,7 +3,7 @@ use Rattle.std.proofs.Common.{◌≡◌, ℕ, ◌⊎◌, inl, inr, Bool, true, f
 use Rattle.std.proofs.Common.{Some, None, IsSome, refl, sym, ap, ◌∙◌, subst, arith}
 use Rattle.std.specs.Prelude.{◌==◌, ◌&&◌, if◌then◌else◌}
 use Rattle.std.specs.Option.{option_map, option_or}
-use Rattle.std.proofs.lemmas.Bool.{eqb-true}
+use Rattle.std.proofs.lemmas.Bool.{eqb-true, and_parts}
 use Rattle.ol_term.specs.Trees.{Tree, var, free, lam, app}
 use Rattle.ol_beta.specs.Beta.{contracted}
 use Rattle.ol_beta.specs.Leftmost.{is_abstraction, under, IsBefore}
@@ -45,7 +45,7 @@ root_first at (m ∷ b) i =
 
 -- ---- innermost redexes
 
-none_is : (o : Option Tree) → IsSome o → o ≡ None → ⊥
+pub none_is : (o : Option Tree) → IsSome o → o ≡ None → ⊥
 none_is o h e = let k : IsSome {T = Tree} None = subst (λ (o : Option Tree). IsSome o) e h in absurd (cc)
 
 no_map : (f : Tree → Tree) (o : Option Tree) → option_map f o ≡ None → o ≡ None
@@ -184,10 +184,6 @@ value_before (lam t) at b e h = absurd h
 value_before (app f a) at b e h = by_value f a at b (value_before f) (value_before a)
     (firsts (value_redex f) (value_redex a) (is_abstraction f && is_value a) at e) h
 
-both_are : (x y : Bool) → (x && y) ≡ true → (x ≡ true) × (y ≡ true)
-both_are true y e = (refl, e)
-both_are false y e = absurd (cc)
-
 at_side : (f a : Tree) (at : List ℕ) → ((c : List ℕ) → value_redex f ≡ Some c → IsValueRedex f c) →
     ((c : List ℕ) → value_redex a ≡ Some c → IsValueRedex a c) →
     First (value_redex f) (value_redex a) (is_abstraction f && is_value a) at → IsValueRedex (app f a) at
@@ -198,7 +194,7 @@ at_side f a at F A (inr (inl (c, n, y, i))) =
     let h : IsValueRedex (app f a) (2 ∷ c) = inr (refl, A c y) in
     subst (λ (at : List ℕ). IsValueRedex (app f a) at) (sym i) h
 at_side f a at F A (inr (inr (z, i))) =
-    let h : IsValueRedex (app f a) [] = both_are (is_abstraction f) (is_value a) z in
+    let h : IsValueRedex (app f a) [] = and_parts (is_abstraction f) (is_value a) z in
     subst (λ (at : List ℕ). IsValueRedex (app f a) at) (sym i) h
 
 value_is_there : (t : Tree) (at : List ℕ) → value_redex t ≡ Some at → IsValueRedex t at

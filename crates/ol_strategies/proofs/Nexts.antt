@@ -1,6 +1,7 @@
 -- The next redex of each order is a redex; head steps are leftmost steps.
 use Rattle.std.proofs.Common.{◌≡◌, ℕ, zero, suc, ◌⊎◌, inl, inr, Bool, true, false, List, [], ◌∷◌, ◌++◌}
 use Rattle.std.proofs.Common.{replicate, Option, Some, None, IsSome, refl, sym, ap, ◌∙◌, subst}
+use Rattle.std.proofs.Math.Bool.{and-true}
 use Rattle.std.specs.Prelude.{◌==◌, ◌&&◌, if◌then◌else◌}
 use Rattle.std.specs.Option.{option_map, option_or}
 use Rattle.ol_term.specs.Trees.{Tree, var, free, lam, app}
@@ -15,10 +16,6 @@ use Rattle.ol_strategies.specs.Laws.{ApplicativeIsInnermost}
 use Rattle.ol_strategies.specs.declared.orders.Order.TheVariants as order
 
 -- ---- the searches are of the orders
-
-and_true : (b : Bool) → (b && true) ≡ b
-and_true true = refl
-and_true false = refl
 
 if_same : (b : Bool) (x y : Option (List ℕ)) → x ≡ y → (if b then Some [] else under 1 x) ≡ (if b then Some [] else under 1 y)
 if_same b x y e = ap (λ (o : Option (List ℕ)). if b then Some [] else under 1 o) e
@@ -48,7 +45,7 @@ strict_applicative (free k) = refl
 strict_applicative (lam t) = ap (λ (o : Option (List ℕ)). under 0 o) (strict_applicative t)
 strict_applicative (app f a) = three_same (strict_redex true f) (strict_redex true a) (applicative_redex f)
     (applicative_redex a) (is_ready true f a) (is_abstraction f) (strict_applicative f) (strict_applicative a)
-    (and_true (is_abstraction f))
+    (and-true (is_abstraction f))
 
 pub strict_value : (t : Tree) → strict_redex false t ≡ value_redex t
 strict_value (var k) = refl
@@ -169,7 +166,7 @@ no_strict (free k) e = refl
 no_strict (lam t) e = ap (λ (o : Option (List ℕ)). under 0 o) (no_strict t (no_under 0 (strict_redex true t) e))
 no_strict (app f a) e =
     let n = no_sides (strict_redex true f) (strict_redex true a) (is_ready true f a) e in
-    left_none (is_abstraction f) (leftmost f) (leftmost a) (sym (and_true (is_abstraction f)) ∙ n.2)
+    left_none (is_abstraction f) (leftmost f) (leftmost a) (sym (and-true (is_abstraction f)) ∙ n.2)
     (no_strict f n.0) (no_strict a n.1)
 
 -- no redex stands within the parts

@@ -1,7 +1,6 @@
 -- The names of binders.
-use Rattle.std.proofs.Common.{◌≡◌, ℕ, zero, suc, ◌+◌, ◌*◌, ◌/◌, ◌%◌, ◌==◌, ◌<◌, ◌≤◌, ◌^◌, inl, inr}
-use Rattle.std.proofs.Common.{List, [], ◌∷◌, length, Bool, true, false, ◌||◌, cond, refl, sym, ap}
-use Rattle.std.proofs.Common.{◌∙◌, arith}
+use Rattle.std.proofs.Common.{◌≡◌, ℕ, zero, suc, ◌+◌, ◌*◌, ◌/◌, ◌%◌, ◌==◌, ◌<◌, ◌≤◌, ◌^◌, inl, inr, List, [], ◌∷◌}
+use Rattle.std.proofs.Common.{length, Bool, true, false, ◌||◌, cond, refl, sym, ap, ◌∙◌, arith}
 use Rattle.std.specs.Fmt.{decimal}
 use Rattle.std.specs.Str.Parse.{AllDigits, digits_value}
 use Rattle.std.proofs.Math.Nat.{div-add-mod, mul-le-mul}
@@ -64,7 +63,7 @@ letter_with_digits m h =
 
 -- ---- all but one name
 
-without_short : (x : List ℕ) (ns : List (List ℕ)) → length (without x ns) ≤ length ns
+pub without_short : (x : List ℕ) (ns : List (List ℕ)) → length (without x ns) ≤ length ns
 without_short x [] = omega arith
 without_short x (n ∷ ns) = go (bytes_eq x n) (without_short x ns)
   where

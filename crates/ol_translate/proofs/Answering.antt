@@ -1,8 +1,7 @@
 -- When a refusal comes.
 use Rattle.std.proofs.Common.{◌≡◌, true, length, ◌≢◌, ◌<◌, ◌≤◌, ◌↔◌, ℕ, Result, Ok, Err, refl, arith}
 use Rattle.ol_term.specs.declared.term_file.TermFile.{TermFile}
-use Rattle.ol_term.specs.Trees.{tree_of}
-use Rattle.ol_term.specs.Trees.{has_name}
+use Rattle.ol_term.specs.Trees.{tree_of, has_name}
 use Rattle.ol_translate.specs.Names.{HasNames}
 use Rattle.ol_translate.specs.declared.faults.TransFault.{TransFault}
 use Rattle.ol_translate.specs.declared.faults.TransFault.TheVariants.{TooMany, NoMemory}

@@ -9,10 +9,9 @@ use Rattle.ol_net.specs.declared.parts.Port.{Port}
 use Rattle.ol_net.specs.declared.parts.Port.TheVariants.{Free}
 use Rattle.ol_net.specs.declared.parts.Kind.{Kind}
 use Rattle.ol_net.specs.declared.parts.Kind.TheVariants as kind
-use Rattle.ol_translate.specs.Translation.{Subnet, subnet_of, abstraction, application}
-use Rattle.ol_translate.specs.Translation.{application_to, applied, bare_variable, outside, erasers}
-use Rattle.ol_translate.specs.Translation.{bound_port, bracket_nodes, bracket_links, past_brackets}
-use Rattle.ol_translate.specs.Translation.{fans, fan_nodes, fan_links, merged, wire_of, reconnected}
+use Rattle.ol_translate.specs.Translation.{Subnet, subnet_of, abstraction, application, application_to, applied}
+use Rattle.ol_translate.specs.Translation.{bare_variable, outside, erasers, bound_port, bracket_nodes, bracket_links}
+use Rattle.ol_translate.specs.Translation.{past_brackets, fans, fan_nodes, fan_links, merged, wire_of, reconnected}
 use Rattle.ol_translate.specs.Translation.{slot_port, name_links, nodes_of, links_of}
 use Rattle.ol_translate.proofs.Counts.{times}
 use Rattle.ol_translate.specs.Names.{HasNames}

@@ -10,12 +10,11 @@ use Rattle.ol_net.specs.declared.parts.Port.TheVariants.{Free, Of}
 use Rattle.ol_net.specs.declared.parts.BuildFault.{BuildFault}
 use Rattle.ol_net.specs.declared.parts.BuildFault.TheVariants.{BadIndex, BadPort, Twice, Loose, NoMemory}
 use Rattle.ol_net.specs.Graph.{has_port}
-use Rattle.ol_net.specs.Build.{link_at}
+use Rattle.ol_net.specs.Build.{link_at, HasEnd, FaultIs, build_top}
 use Rattle.ol_net.specs.Nets.{NamedNet, SameNet}
 use Rattle.ol_net.specs.Numbered.{net_of_parts, all_live}
 use Rattle.ol_translate.specs.Translation.{nodes_of, links_of, translation_of}
 use Rattle.ol_translate.specs.Names.{HasNames}
-use Rattle.ol_net.specs.Build.{HasEnd, FaultIs, build_top}
 use Rattle.ol_translate.proofs.Counts.{port_eq, hit, uses}
 use Rattle.ol_translate.proofs.Ports.{bit, each_port_once}
 use Rattle.ol_translate.proofs.Indexes.{good_indexes}

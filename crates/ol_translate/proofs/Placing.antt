@@ -1,8 +1,7 @@
 -- The index of wires by their variables.
-use Rattle.std.proofs.Common.{◌≡◌, ◌≢◌, ℕ, zero, suc, ◌<◌, ◌≤◌, ◌+◌, List, [], ◌∷◌, ◌++◌, length}
-use Rattle.std.proofs.Common.{drop, take, get_or, set, true, false, nat_eq, nat_lt, Option, None}
-use Rattle.std.proofs.Common.{Some, slice_get, refl, ap, sym, ◌∙◌, arith, subst, length-append}
-use Rattle.std.proofs.Common.{eq-eqb, ne_eqb}
+use Rattle.std.proofs.Common.{◌≡◌, ◌≢◌, ℕ, zero, suc, ◌<◌, ◌≤◌, ◌+◌, List, [], ◌∷◌, ◌++◌, length, drop, take, get_or}
+use Rattle.std.proofs.Common.{set, true, false, nat_eq, nat_lt, Option, None, Some, slice_get, refl, ap, sym, ◌∙◌}
+use Rattle.std.proofs.Common.{arith, subst, length-append, eq-eqb, ne_eqb}
 use Rattle.std.proofs.lemmas.Bool.Decides.{nat_tests}
 use Rattle.std.proofs.lemmas.List.{get_or-set_same, get_or-set_other, length-set}
 use Rattle.std.proofs.Math.ListN.{get_or-append}

@@ -1,7 +1,6 @@
 -- A port of the whole net stands in one link, and no other port does.
-use Rattle.std.proofs.Common.{◌≡◌, ◌≢◌, ℕ, zero, suc, ◌<◌, ◌≤◌, ◌+◌, List, [], ◌∷◌, true, false}
-use Rattle.std.proofs.Common.{Bool, nat_eq, nat_lt, refl, ap, arith, ne_eqb, eq-eqb, if◌then◌else◌}
-use Rattle.std.proofs.Common.{zero-add}
+use Rattle.std.proofs.Common.{◌≡◌, ◌≢◌, ℕ, zero, suc, ◌<◌, ◌≤◌, ◌+◌, List, [], ◌∷◌, true, false, Bool, nat_eq, nat_lt}
+use Rattle.std.proofs.Common.{refl, ap, arith, ne_eqb, eq-eqb, if◌then◌else◌, zero-add}
 use Rattle.std.proofs.lemmas.Bool.Decides.{nat_tests}
 use Rattle.ol_term.specs.declared.translations.Translation.{Translation}
 use Rattle.ol_term.specs.Trees.{Tree}

@@ -1,17 +1,15 @@
 -- A term's part has as many nodes as its size, and its wires are those of its variables.
-use Rattle.std.proofs.Common.{◌≡◌, ℕ, suc, ◌≤◌, ◌+◌, ◌-◌, List, [], ◌∷◌, ◌++◌, length, map, filter}
-use Rattle.std.proofs.Common.{true, false, Bool, not, ◌||◌, cond, nat_eq, nat_lt, Option, None}
-use Rattle.std.proofs.Common.{Some, is_some, refl, ap, sym, ◌∙◌, arith, length-append, zero-add}
-use Rattle.std.proofs.Common.{eq-eqb, append_assoc, append-nil, if◌then◌else◌}
+use Rattle.std.proofs.Common.{◌≡◌, ℕ, suc, ◌≤◌, ◌+◌, ◌-◌, List, [], ◌∷◌, ◌++◌, length, map, filter, true, false, Bool}
+use Rattle.std.proofs.Common.{not, ◌||◌, cond, nat_eq, nat_lt, Option, None, Some, is_some, refl, ap, sym, ◌∙◌, arith}
+use Rattle.std.proofs.Common.{length-append, zero-add, eq-eqb, append_assoc, append-nil, if◌then◌else◌}
 use Rattle.std.proofs.lemmas.Bool.Decides.{nat_tests}
 use Rattle.std.proofs.lemmas.List.Folds.{list_any-append}
 use Rattle.ol_term.specs.declared.translations.Translation.{Translation}
 use Rattle.ol_term.specs.Trees.{Tree, var, free, lam, app}
 use Rattle.ol_net.specs.declared.parts.Kind.TheVariants as kind
 use Rattle.ol_net.specs.declared.parts.Port.{Port}
-use Rattle.ol_translate.specs.Translation.{Subnet, Wires, subnet_of, application, applied}
-use Rattle.ol_translate.specs.Translation.{bare_variable, outside, erasers, bracket_nodes}
-use Rattle.ol_translate.specs.Translation.{past_brackets, fans, fan_nodes, merged, wire_of}
+use Rattle.ol_translate.specs.Translation.{Subnet, Wires, subnet_of, application, applied, bare_variable, outside}
+use Rattle.ol_translate.specs.Translation.{erasers, bracket_nodes, past_brackets, fans, fan_nodes, merged, wire_of}
 use Rattle.ol_translate.specs.Translation.{reconnected, slot_port, nodes_of}
 use Rattle.ol_translate.specs.Sizes.{is_listed, variables, size_of_argument, size_under, size_of_translation}
 use Rattle.ol_translate.proofs.Counts.{times}

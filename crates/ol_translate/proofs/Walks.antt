@@ -1,7 +1,6 @@
 -- What is laid down so far, and what is left.
-use Rattle.std.proofs.Common.{◌≡◌, ℕ, zero, suc, ◌<◌, ◌≤◌, ◌+◌, List, [], ◌∷◌, ◌++◌, length, drop}
-use Rattle.std.proofs.Common.{take, get_or, set, true, false, nat_eq, Some, refl, ap, arith, subst}
-use Rattle.std.proofs.Common.{length-append, length-drop, drop-cons}
+use Rattle.std.proofs.Common.{◌≡◌, ℕ, zero, suc, ◌<◌, ◌≤◌, ◌+◌, List, [], ◌∷◌, ◌++◌, length, drop, take, get_or, set}
+use Rattle.std.proofs.Common.{true, false, nat_eq, Some, refl, ap, arith, subst, length-append, length-drop, drop-cons}
 use Rattle.std.proofs.lemmas.List.{length-map}
 use Rattle.ol_net.specs.declared.parts.Kind.{Kind}
 use Rattle.ol_net.specs.declared.parts.Kind.TheVariants as kind

@@ -256,7 +256,7 @@ rule_alone rule.CrossCroissant = refl
 rule_alone rule.CrossBracket = refl
 rule_alone rule.Erase = refl
 
-rule_before : (r : Rule) (c : ℕ) (rest : List ℕ) → front_rule (rule_text r ++ c ∷ rest) ≡ Some (r, c ∷ rest)
+pub rule_before : (r : Rule) (c : ℕ) (rest : List ℕ) → front_rule (rule_text r ++ c ∷ rest) ≡ Some (r, c ∷ rest)
 rule_before rule.Beta c rest = refl
 rule_before rule.Fan c rest = refl
 rule_before rule.Croissant c rest = refl

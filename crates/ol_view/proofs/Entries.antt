@@ -1,7 +1,6 @@
 -- A line of either form that is read stands there, and one that stands there is read.
-use Rattle.std.proofs.Common.{◌≡◌, ℕ, ◌≤◌, Bool, true, false, if◌then◌else◌, eqb, List, [], ◌∷◌}
-use Rattle.std.proofs.Common.{◌++◌, append_assoc, length, drop, Option, None, Some, refl, sym, ap}
-use Rattle.std.proofs.Common.{◌∙◌, subst, arith}
+use Rattle.std.proofs.Common.{◌≡◌, ℕ, ◌≤◌, Bool, true, false, if◌then◌else◌, eqb, List, [], ◌∷◌, ◌++◌, append_assoc}
+use Rattle.std.proofs.Common.{length, drop, Option, None, Some, refl, sym, ap, ◌∙◌, subst, arith}
 use Rattle.std.specs.List.{starts_with}
 use Rattle.std.specs.Prelude.{option_and_then, option_map}
 use Rattle.std.specs.Fmt.{decimal}
@@ -19,9 +18,8 @@ use Rattle.ol_view.specs.EachForm.{BeginsWithLine}
 use Rattle.ol_view.specs.Forms.{line_of, BeginsWithEntry}
 use Rattle.ol_view.specs.Checks.{HasNoLine}
 use Rattle.ol_view.specs.Standing.{told_of}
-use Rattle.ol_view.specs.LineReading.{front_number, behind, front_line, word_behind, first_of}
-use Rattle.ol_view.specs.LineReading.{front_rule_of, all_rules, front_rule, told_end, told_on}
-use Rattle.ol_view.specs.LineReading.{front_told, told_with, front_entry, TellsOf}
+use Rattle.ol_view.specs.LineReading.{front_number, behind, front_line, word_behind, first_of, front_rule_of, all_rules}
+use Rattle.ol_view.specs.LineReading.{front_rule, told_end, told_on, front_told, told_with, front_entry, TellsOf}
 use Rattle.ol_view.proofs.Numerals.{number_complete, front_sound, behind_sound, line_sound, line_complete}
 
 abbrev pub Read : Type 0

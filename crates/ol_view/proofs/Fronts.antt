@@ -131,7 +131,7 @@ nothing_behind form line told rest h b = sym (cut_whole line [] (line_of form b.
 
 -- ---- lines that were replayed
 
-header_long : (form : Form) → length (header_of form) ≡ 11
+pub header_long : (form : Form) → length (header_of form) ≡ 11
 header_long One = refl
 header_long Two = refl
 

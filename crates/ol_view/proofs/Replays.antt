@@ -8,10 +8,9 @@ use Rattle.ol_rules.specs.declared.journal.NodeName.{NodeName}
 use Rattle.ol_rules.proofs.NameOrder.{Names, names_apart}
 use Rattle.ol_rules.proofs.Renaming.{active_from}
 use Rattle.ol_rules.proofs.OnTheWay.{node_below}
-use Rattle.ol_diamond.specs.Replaying.{AreIdle}
+use Rattle.ol_diamond.specs.Replaying.{AreIdle, AreIdleNumbers}
 use Rattle.ol_rules.specs.UnderWay.{node_number}
 use Rattle.ol_diamond.proofs.Replays.{Index}
-use Rattle.ol_diamond.specs.Replaying.{AreIdleNumbers}
 
 -- the pair of two names that have no active numbers
 pub idle_names : (g : Graph) (bases : List ℕ) (start ticket : ℕ) (m : ℕ → NodeName)

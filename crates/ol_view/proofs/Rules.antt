@@ -1,7 +1,6 @@
 -- The names of rules, as they are read and written.
-use Rattle.std.proofs.Common.{◌≡◌, ℕ, suc, ◌+◌, ◌<◌, ◌≤◌, Bool, true, false, if◌then◌else◌, eqb}
-use Rattle.std.proofs.Common.{List, ◌++◌, length, drop, get_or, Option, None, Some, sym, ap, ◌∙◌}
-use Rattle.std.proofs.Common.{arith}
+use Rattle.std.proofs.Common.{◌≡◌, ℕ, suc, ◌+◌, ◌<◌, ◌≤◌, Bool, true, false, if◌then◌else◌, eqb, List, ◌++◌, length}
+use Rattle.std.proofs.Common.{drop, get_or, Option, None, Some, sym, ap, ◌∙◌, arith}
 use Rattle.std.specs.List.{starts_with, slice_range}
 use Rattle.std.proofs.lemmas.List.{append-nil, drop-drop}
 use Rattle.std.proofs.lemmas.List.Folds.{drop_split}

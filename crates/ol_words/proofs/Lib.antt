@@ -2,7 +2,7 @@ mod SoFar
 mod Folds
 mod Digits
 mod Rows
-mod Shapes
+pub mod Shapes
 mod Subcommands
 mod Agreed
 mod FixedRules

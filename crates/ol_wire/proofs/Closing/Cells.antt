@@ -6,10 +6,9 @@ use Rattle.std.proofs.lemmas.Bool.{cases_eq, cases_lt}
 use Rattle.std.proofs.lemmas.Bool.Decides.{nat_tests}
 use Rattle.ol_rules.specs.declared.journal.NodeName.TheVariants.{Init, Born}
 use Rattle.ol_wire.specs.declared.layout.Parts.{Parts}
-use Rattle.ol_wire.specs.Layout.{WordPart, ticket, live_word, port, field, wire, between, left}
-use Rattle.ol_wire.specs.Layout.{right, entry, part_of_word, port_word, start_node, start_wire}
-use Rattle.ol_wire.specs.Layout.{start_cell, block, table_size, place_of, born_wire, born_cell}
-use Rattle.ol_wire.specs.Layout.{left_word, cells_of}
+use Rattle.ol_wire.specs.Layout.{WordPart, ticket, live_word, port, field, wire, between, left, right, entry}
+use Rattle.ol_wire.specs.Layout.{part_of_word, port_word, start_node, start_wire, start_cell, block, table_size}
+use Rattle.ol_wire.specs.Layout.{place_of, born_wire, born_cell, left_word, cells_of}
 use Rattle.ol_wire.proofs.InWords.Places.{part_port, part_field, part_wire, part_between}
 use Rattle.ol_wire.proofs.InWords.Places.{part_entry, part_start_cell, part_born_cell, is_left}
 

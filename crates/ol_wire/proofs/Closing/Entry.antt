@@ -1,11 +1,9 @@
 -- The entry that the first two words of a block tell is that of the event that wrote them.
 -- Used in Nodes, Stands, Start, Table and `entry`.
 use Rattle.std.specs.Prelude.{not}
-use Rattle.std.proofs.Common.{◌≡◌, ◌⊎◌, ◌&&◌, ℕ, ◌+◌, ◌<◌, ◌≤◌, Bool, true, false, nat_lt}
-use Rattle.std.proofs.Common.{if◌then◌else◌, lt-ltb, Option, Some, None, inl, inr, refl, sym, ap}
-use Rattle.std.proofs.Common.{◌∙◌, arith}
-use Rattle.std.proofs.lemmas.Bool.{cases_lt}
-use Rattle.std.proofs.lemmas.Bool.Decides.{nat_tests}
+use Rattle.std.proofs.Common.{◌≡◌, ◌⊎◌, ◌&&◌, ℕ, ◌+◌, ◌<◌, ◌≤◌, Bool, true, false, nat_lt, if◌then◌else◌, lt-ltb}
+use Rattle.std.proofs.Common.{Option, Some, None, inl, inr, refl, sym, ap, ◌∙◌, arith}
+use Rattle.std.proofs.lemmas.Bool.{cases_lt, le-ltb}
 use Rattle.ol_net.specs.declared.parts.Rule.{Rule}
 use Rattle.ol_rules.specs.declared.journal.Entry.{Entry}
 use Rattle.ol_rules.specs.declared.journal.NodeName.{NodeName}
@@ -46,13 +44,10 @@ picked f g lt = (
   ap (λ b. if b then g else f) (lt-ltb (place_in f) (place_in g) lt),
 )
 
-not_less : (m n : ℕ) → n ≤ m → nat_lt m n ≡ false
-not_less m n le = grind (arith, nat_tests)
-
 pub turned : (f g : ℕ) → place_in g ≤ place_in f → (earlier f g ≡ g) × (later f g ≡ f)
 turned f g le = (
-  ap (λ b. if b then f else g) (not_less (place_in f) (place_in g) le),
-  ap (λ b. if b then g else f) (not_less (place_in f) (place_in g) le),
+  ap (λ b. if b then f else g) (le-ltb (place_in f) (place_in g) le),
+  ap (λ b. if b then g else f) (le-ltb (place_in f) (place_in g) le),
 )
 
 -- the entry of f and g, whichever of them comes first in the event

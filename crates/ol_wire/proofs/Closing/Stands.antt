@@ -1,9 +1,8 @@
 -- What closed words stand for.
 -- Used in `settled`, `stands`, `swept` and `undrawn`.
 use Rattle.std.specs.Prelude.{slice_get}
-use Rattle.std.proofs.Common.{◌≡◌, ◌≢◌, ℕ, zero, suc, ◌<◌, ◌≤◌, Bool, true, nat_eq, ◌&&◌, List, []}
-use Rattle.std.proofs.Common.{◌∷◌, ◌++◌, length, map, Some, ◌⊎◌, inl, inr, ◌↔◌, slice_index, refl}
-use Rattle.std.proofs.Common.{sym, ap, ◌∙◌, subst, arith}
+use Rattle.std.proofs.Common.{◌≡◌, ◌≢◌, ℕ, zero, suc, ◌<◌, ◌≤◌, Bool, true, nat_eq, ◌&&◌, List, [], ◌∷◌, ◌++◌, length}
+use Rattle.std.proofs.Common.{map, Some, ◌⊎◌, inl, inr, ◌↔◌, slice_index, refl, sym, ap, ◌∙◌, subst, arith}
 use Rattle.std.proofs.lemmas.Bool.{false≢true, and_parts}
 use Rattle.ol_net.specs.declared.parts.Kind.{Kind}
 use Rattle.ol_net.specs.Nets.{NamedNet, HasNode}
@@ -12,9 +11,8 @@ use Rattle.ol_net.specs.Pairs.{IsComplete}
 use Rattle.ol_rules.proofs.Same.{complete_same}
 use Rattle.ol_wire.specs.declared.view.View.{View}
 use Rattle.ol_wire.specs.References.{place_in, IsNodeRef, IsRef, IsWholeRef}
-use Rattle.ol_wire.specs.Layout.{WordPart, ticket, live_word, port, field, wire, between, left}
-use Rattle.ol_wire.specs.Layout.{right, entry, past, part_of_word, left_word, cells_of, block}
-use Rattle.ol_wire.specs.Layout.{table_size, IsPlaced}
+use Rattle.ol_wire.specs.Layout.{WordPart, ticket, live_word, port, field, wire, between, left, right, entry, past}
+use Rattle.ol_wire.specs.Layout.{part_of_word, left_word, cells_of, block, table_size, IsPlaced}
 use Rattle.ol_wire.specs.Events.{Event, IsStuckPair}
 use Rattle.ol_wire.specs.Edges.{edges_in, edges_of, is_reached, is_made, is_wire_made, crosses_at, times_in, deaths}
 use Rattle.ol_wire.specs.Stands.{StandsForNet}

@@ -1,8 +1,7 @@
 -- The nodes of the net at the start, and those of the net that closed words stand for.
 -- Used in Stands.
-use Rattle.std.proofs.Common.{◌≡◌, ◌≢◌, ℕ, suc, ◌+◌, ◌<◌, ◌≤◌, List, [], ◌∷◌, length, max, Option}
-use Rattle.std.proofs.Common.{Some, None, is_some, count_by, cond, ◌⊎◌, inl, inr, ◌↔◌, sym, ap, ◌∙◌}
-use Rattle.std.proofs.Common.{subst, arith}
+use Rattle.std.proofs.Common.{◌≡◌, ◌≢◌, ℕ, suc, ◌+◌, ◌<◌, ◌≤◌, List, [], ◌∷◌, length, max, Option, Some, None, is_some}
+use Rattle.std.proofs.Common.{count_by, cond, ◌⊎◌, inl, inr, ◌↔◌, sym, ap, ◌∙◌, subst, arith}
 use Rattle.std.specs.Prelude.{slice_get}
 use Rattle.std.proofs.lemmas.Bool.{cases_eq, cases_lt}
 use Rattle.std.proofs.lemmas.List.Sums.{count_by-le-length, sum_by-cons}
@@ -18,10 +17,9 @@ use Rattle.ol_rules.specs.declared.journal.Entry.{Entry}
 use Rattle.ol_rules.proofs.Renaming.{node_to, node_from}
 use Rattle.ol_wire.specs.declared.plan.Plan.{Plan}
 use Rattle.ol_wire.specs.Events.{Event, entry_of}
-use Rattle.ol_wire.specs.Rule.{PlanKeeps}
+use Rattle.ol_wire.specs.Rule.{PlanKeeps, IsStarted}
 use Rattle.ol_wire.specs.Closed.{ClosedTable, events_in, event_at, journal_in}
 use Rattle.ol_wire.specs.Standing.{IsMadeNode, IsUntouched}
-use Rattle.ol_wire.specs.Rule.{IsStarted}
 use Rattle.ol_wire.specs.Layout.{IsPlaced}
 use Rattle.ol_wire.specs.Starts.{start_net_of_plan}
 use Rattle.ol_wire.specs.ClosedRule.{IsClosed}

@@ -1,8 +1,7 @@
 -- Each kind of step keeps the credit.
 -- Used in LinkSteps.Allowed, Steps.Allowed and Steps.LiveAllowed.
-use Rattle.std.proofs.Common.{◌≡◌, ◌≢◌, ℕ, zero, suc, ◌+◌, ◌-◌, ◌<◌, ◌≤◌, List, [], ◌∷◌, length}
-use Rattle.std.proofs.Common.{get_or, set, refl, sym, ap, ◌∙◌, subst, arith, inl, inr}
-use Rattle.std.proofs.Common.{get_or-set_other, get_or-set_same, length-append}
+use Rattle.std.proofs.Common.{◌≡◌, ◌≢◌, ℕ, zero, suc, ◌+◌, ◌-◌, ◌<◌, ◌≤◌, List, [], ◌∷◌, length, get_or, set, refl, sym}
+use Rattle.std.proofs.Common.{ap, ◌∙◌, subst, arith, inl, inr, get_or-set_other, get_or-set_same, length-append}
 use Rattle.std.proofs.lemmas.Bool.{cases_eq}
 use mathlib.Core.Option.{some}
 use lib.ListN.{get_elem?}
@@ -17,9 +16,8 @@ use Rattle.ol_wire.specs.Idle.{IsIdle}
 use Rattle.ol_wire.specs.LinkLists.{joins_in, link_of}
 use Rattle.ol_wire.specs.Events.{entry_of}
 use Rattle.ol_wire.specs.Plays.{event_in}
-use Rattle.ol_wire.specs.StepPlays.{known_at, missing, holding, ticketed, late, wrote, returned}
-use Rattle.ol_wire.specs.StepPlays.{linked, moved, relinked, knowing, publishing, owing, repaid}
-use Rattle.ol_wire.specs.StepPlays.{rest, first_active}
+use Rattle.ol_wire.specs.StepPlays.{known_at, missing, holding, ticketed, late, wrote, returned, linked, moved}
+use Rattle.ol_wire.specs.StepPlays.{relinked, knowing, publishing, owing, repaid, rest, first_active}
 use Rattle.ol_wire.specs.Credit.{active_in, active_claims, Credited}
 use Rattle.ol_wire.specs.Hands.{IsActiveLast}
 use Rattle.ol_wire.specs.Rule.{Table, Kept, IsView, IsOwn}

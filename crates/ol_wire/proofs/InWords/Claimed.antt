@@ -1,8 +1,7 @@
 -- What a cell holds that isn't empty: two nodes that face each other, whose fields are written.
 -- Used in Closing, Credit, InWords, LinkSteps, Steps and Ticket.
-use Rattle.std.proofs.Common.{◌≡◌, ◌≢◌, ℕ, suc, ◌+◌, ◌<◌, ◌≤◌, Bool, true, false, if◌then◌else◌}
-use Rattle.std.proofs.Common.{nat_eq, eq-eqb, ne_eqb, List, [], ◌∷◌, length, get_or, ◌⊎◌, inl, inr}
-use Rattle.std.proofs.Common.{refl, sym, ap, ◌∙◌, subst, arith}
+use Rattle.std.proofs.Common.{◌≡◌, ◌≢◌, ℕ, suc, ◌+◌, ◌<◌, ◌≤◌, Bool, true, false, if◌then◌else◌, nat_eq, eq-eqb, ne_eqb}
+use Rattle.std.proofs.Common.{List, [], ◌∷◌, length, get_or, ◌⊎◌, inl, inr, refl, sym, ap, ◌∙◌, subst, arith}
 use Rattle.std.proofs.lemmas.Bool.{cases_eq}
 use Rattle.ol_law_edges.specs.Edges.{IsIn, here, on, ends, bit}
 use Rattle.ol_net.specs.declared.parts.Kind.{Kind}

@@ -17,9 +17,8 @@ use Rattle.ol_wire.specs.Layout.{right, entry, part_of_word, table_size, place_o
 use Rattle.ol_wire.specs.Weights.{total, pairs}
 use Rattle.ol_wire.specs.EvenWeights.{Even}
 use Rattle.ol_wire.specs.Edges.{is_live, edge_to, edge_in, edges_in}
-use Rattle.ol_wire.proofs.InWords.Places.{part_field, is_left, place_before, place_same, At}
-use Rattle.ol_wire.proofs.InWords.Places.{at_ticket, at_live, at_port, at_field, at_wire}
-use Rattle.ol_wire.proofs.InWords.Places.{at_between, at_left, at_right, at_entry, at_past}
+use Rattle.ol_wire.proofs.InWords.Places.{part_field, is_left, place_before, place_same, At, at_ticket, at_live}
+use Rattle.ol_wire.proofs.InWords.Places.{at_port, at_field, at_wire, at_between, at_left, at_right, at_entry, at_past}
 use Rattle.ol_wire.proofs.InWords.Places.{where_is}
 use Rattle.ol_wire.proofs.InWords.Alike.{Alike, pairs_append}
 use Rattle.ol_wire.proofs.Ticket.Event.{field_edges, old_edges}

@@ -1,9 +1,8 @@
 -- One exchange that finds a reference takes one wire out: the two edges at it become one, and the
 -- edges stand for the same net.
 -- Used in LinkSteps.Exchange.
-use Rattle.std.proofs.Common.{◌≡◌, ◌≢◌, ℕ, ◌<◌, ◌≤◌, ◌==◌, Bool, true, if◌then◌else◌, nat_eq}
-use Rattle.std.proofs.Common.{eq-eqb, ne_eqb, List, ◌∷◌, ◌⊎◌, inl, inr, ◌↔◌, refl, sym, ap, ◌∙◌}
-use Rattle.std.proofs.Common.{subst, arith}
+use Rattle.std.proofs.Common.{◌≡◌, ◌≢◌, ℕ, ◌<◌, ◌≤◌, ◌==◌, Bool, true, if◌then◌else◌, nat_eq, eq-eqb, ne_eqb, List, ◌∷◌}
+use Rattle.std.proofs.Common.{◌⊎◌, inl, inr, ◌↔◌, refl, sym, ap, ◌∙◌, subst, arith}
 use Rattle.std.proofs.lemmas.Bool.{cases_eq}
 use Rattle.ol_law_edges.specs.Edges.{IsIn, EdgeOf, Joined, here, on, back, ends}
 use Rattle.ol_law_edges.proofs.Joining.{joined_map, joined_image}

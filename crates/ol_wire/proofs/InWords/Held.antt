@@ -1,8 +1,7 @@
 -- A word that a view holds is empty and becomes what the view holds; a word that isn't empty stays as it is.
 -- Used in Closing, Credit, InWords, LinkSteps, Steps and Ticket.
-use Rattle.std.proofs.Common.{◌≡◌, ◌≢◌, ℕ, zero, suc, ◌+◌, ◌<◌, ◌≤◌, ◌==◌, if◌then◌else◌, nat_eq}
-use Rattle.std.proofs.Common.{eq-eqb, ne_eqb, List, [], ◌∷◌, get_or, ◌⊎◌, inl, inr, refl, sym, ap}
-use Rattle.std.proofs.Common.{◌∙◌, subst, arith}
+use Rattle.std.proofs.Common.{◌≡◌, ◌≢◌, ℕ, zero, suc, ◌+◌, ◌<◌, ◌≤◌, ◌==◌, if◌then◌else◌, nat_eq, eq-eqb, ne_eqb, List}
+use Rattle.std.proofs.Common.{[], ◌∷◌, get_or, ◌⊎◌, inl, inr, refl, sym, ap, ◌∙◌, subst, arith}
 use Rattle.std.proofs.lemmas.Bool.{cases_eq, cases_lt}
 use mathlib.Core.Option.{some}
 use lib.ListN.{get_elem?}

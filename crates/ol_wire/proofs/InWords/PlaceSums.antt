@@ -1,8 +1,7 @@
 -- Sums over the numbers below n, of functions that differ at few places.
 -- Used in Edges, LinkSteps.Edges and Ticket.Edges.
-use Rattle.std.proofs.Common.{◌≡◌, ◌≢◌, ℕ, zero, suc, ◌+◌, ◌-◌, ◌==◌, ◌<◌, ◌≤◌, if◌then◌else◌}
-use Rattle.std.proofs.Common.{eq-eqb, ne_eqb, List, [], ◌∷◌, inl, inr, refl, sym, ap, ◌∙◌, subst}
-use Rattle.std.proofs.Common.{arith}
+use Rattle.std.proofs.Common.{◌≡◌, ◌≢◌, ℕ, zero, suc, ◌+◌, ◌-◌, ◌==◌, ◌<◌, ◌≤◌, if◌then◌else◌, eq-eqb, ne_eqb, List, []}
+use Rattle.std.proofs.Common.{◌∷◌, inl, inr, refl, sym, ap, ◌∙◌, subst, arith}
 use Rattle.std.proofs.lemmas.Bool.{cases_eq}
 use Rattle.ol_law_edges.specs.Edges.{IsIn}
 use Rattle.ol_rules.specs.Listed.{each}

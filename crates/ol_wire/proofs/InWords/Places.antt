@@ -1,18 +1,16 @@
 -- Each word is one part, and each part has its words.
 -- Used in Closing, Credit, Degrees, InWords, LinkSteps, Links, Opening, Steps, Ticket and the answers of calls.
-use Rattle.std.proofs.Common.{◌≡◌, ◌≢◌, ℕ, suc, ◌+◌, ◌-◌, ◌*◌, ◌/◌, ◌%◌, ◌==◌, ◌<◌, ◌≤◌, true}
-use Rattle.std.proofs.Common.{false, if◌then◌else◌, nat_eq, lt-ltb, ltb-true, eq-eqb, ne_eqb, inl}
-use Rattle.std.proofs.Common.{inr, ◌↔◌, refl, sym, ap, ◌∙◌, subst, arith}
+use Rattle.std.proofs.Common.{◌≡◌, ◌≢◌, ℕ, suc, ◌+◌, ◌-◌, ◌*◌, ◌/◌, ◌%◌, ◌==◌, ◌<◌, ◌≤◌, true, false, if◌then◌else◌}
+use Rattle.std.proofs.Common.{nat_eq, lt-ltb, ltb-true, eq-eqb, ne_eqb, inl, inr, ◌↔◌, refl, sym, ap, ◌∙◌, subst, arith}
 use Rattle.std.proofs.lemmas.Bool.{cases_eq, cases_lt}
 use Rattle.std.proofs.lemmas.Bool.Decides.{nat_tests}
 use Rattle.ol_rules.specs.declared.journal.NodeName.{NodeName}
 use Rattle.ol_rules.specs.declared.journal.NodeName.TheVariants.{Init, Born}
 use Rattle.ol_rules.specs.Names.{comes_before}
 use Rattle.ol_wire.specs.declared.layout.Parts.{Parts}
-use Rattle.ol_wire.specs.Layout.{WordPart, ticket, live_word, port, field, wire, between, left}
-use Rattle.ol_wire.specs.Layout.{right, entry, past, part_in_block, part_of_word, port_word}
-use Rattle.ol_wire.specs.Layout.{start_node, start_wire, start_cell, block, table_size, place_of}
-use Rattle.ol_wire.specs.Layout.{born_wire, born_cell, left_word, cells_of, IsPlaced}
+use Rattle.ol_wire.specs.Layout.{WordPart, ticket, live_word, port, field, wire, between, left, right, entry, past}
+use Rattle.ol_wire.specs.Layout.{part_in_block, part_of_word, port_word, start_node, start_wire, start_cell, block}
+use Rattle.ol_wire.specs.Layout.{table_size, place_of, born_wire, born_cell, left_word, cells_of, IsPlaced}
 use Rattle.ol_wire.specs.Events.{name_at, name_in_part}
 use Rattle.ol_wire.specs.Plays.{cell_at}
 use Rattle.ol_law_edges.proofs.Lists.{if_below, if_above}

@@ -1,8 +1,7 @@
 -- What each kind of step that makes links asks of its seat.
 -- Used in `exchange`, `merge` and `publish`.
-use Rattle.std.proofs.Common.{◌≡◌, ◌≢◌, ℕ, suc, ◌+◌, ◌<◌, ◌≤◌, Some, slice_get, List, [], ◌∷◌, ◌++◌}
-use Rattle.std.proofs.Common.{get_or, set, sym, refl, ap, ◌∙◌, subst, inl, inr, arith}
-use Rattle.std.proofs.Common.{get_or-set_other}
+use Rattle.std.proofs.Common.{◌≡◌, ◌≢◌, ℕ, suc, ◌+◌, ◌<◌, ◌≤◌, Some, slice_get, List, [], ◌∷◌, ◌++◌, get_or, set, sym}
+use Rattle.std.proofs.Common.{refl, ap, ◌∙◌, subst, inl, inr, arith, get_or-set_other}
 use Rattle.std.proofs.lemmas.Bool.{cases_eq}
 use Rattle.std.proofs.lemmas.List.{set-get_or}
 use mathlib.Core.Option.{none}
@@ -14,19 +13,17 @@ use Rattle.ol_wire.specs.declared.plan.Plan.{Plan}
 use Rattle.ol_wire.specs.declared.view.Link.{Link}
 use Rattle.ol_wire.specs.declared.view.View.{View}
 use Rattle.ol_wire.specs.References.{wire_ref, place_in, IsNodeRef, IsWireRef}
-use Rattle.ol_wire.specs.Layout.{left, right, table_size}
+use Rattle.ol_wire.specs.Layout.{left, right, table_size, part_of_word}
 use Rattle.ol_wire.specs.StepPlays.{Seated, linked, moved, knowing, publishing, IsRefOf}
 use Rattle.ol_wire.specs.LinkSteps.{IsBetween, spread, links, places, publishes, reads_tickets_joined}
 use Rattle.ol_wire.specs.Rule.{IsMadeRef, IsRightOf}
-use Rattle.ol_wire.proofs.LinkSteps.Sites.{wire_whole, ref_of_end}
+use Rattle.ol_wire.proofs.LinkSteps.Sites.{wire_whole, ref_of_end, IsLinked}
 use Rattle.ol_wire.proofs.LinkSteps.Exchange.{other_made, other_end, is_linked, empty_keeps}
 use Rattle.ol_wire.proofs.LinkSteps.Exchange.{found_keeps, found_made, found_end, found_spread}
 use Rattle.ol_wire.proofs.LinkSteps.Cells.{ends_made}
 use Rattle.ol_wire.proofs.LinkSteps.Publish.{place_keeps, publish_keeps}
 use Rattle.ol_wire.proofs.Steps.Join.{holds_within, drawn_once}
 use Rattle.ol_wire.specs.Credit.{IsRuled}
-use Rattle.ol_wire.specs.Layout.{part_of_word}
-use Rattle.ol_wire.proofs.LinkSteps.Sites.{IsLinked}
 use Rattle.ol_wire.proofs.Credit.Steps.{linked_pays, moved_pays, place_pays, publish_pays}
 use Rattle.ol_wire.proofs.Credit.Steps.{linked_not_left, linked_not_right, cell_empty}
 use Rattle.ol_wire.proofs.Steps.Remembering.{PartStays, plain_recalls, same_recalls, off_part}

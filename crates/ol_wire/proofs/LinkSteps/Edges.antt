@@ -1,8 +1,7 @@
 -- Edges that weigh the same stand for the same net, and the edges where one word is set.
 -- Used in Exchange and Publish.
-use Rattle.std.proofs.Common.{◌≡◌, ◌≢◌, ℕ, suc, ◌+◌, ◌==◌, ◌<◌, Bool, if◌then◌else◌, nat_eq, List}
-use Rattle.std.proofs.Common.{[], ◌∷◌, slice_index, slice_set, inl, inr, refl, sym, ap, ◌∙◌, arith}
-use Rattle.std.proofs.Common.{get_or-set_other}
+use Rattle.std.proofs.Common.{◌≡◌, ◌≢◌, ℕ, suc, ◌+◌, ◌==◌, ◌<◌, Bool, if◌then◌else◌, nat_eq, List, [], ◌∷◌, slice_index}
+use Rattle.std.proofs.Common.{slice_set, inl, inr, refl, sym, ap, ◌∙◌, arith, get_or-set_other}
 use Rattle.std.proofs.lemmas.Bool.{cases_eq}
 use Rattle.ol_law_edges.specs.Edges.{ends}
 use Rattle.ol_net.specs.Nets.{NamedNet}

@@ -1,10 +1,9 @@
 -- An exchange at the word of a wire or of a free port keeps the rule: where the word was empty the
 -- link is made, and else one wire is taken out.
 -- Used in Allowed, Cells and Publish.
-use Rattle.std.proofs.Common.{◌≡◌, ◌≢◌, ℕ, suc, ◌+◌, ◌-◌, ◌/◌, ◌%◌, ◌<◌, ◌≤◌, ◌⊎◌, Bool, true}
-use Rattle.std.proofs.Common.{false, ◌&&◌, if◌then◌else◌, nat_eq, nat_lt, eqb-true, ne_eqb, List}
-use Rattle.std.proofs.Common.{[], ◌∷◌, ◌++◌, get_or, set, sym, refl, ap, ◌∙◌, subst, inl, inr}
-use Rattle.std.proofs.Common.{arith, get_or-set_same, get_or-set_other}
+use Rattle.std.proofs.Common.{◌≡◌, ◌≢◌, ℕ, suc, ◌+◌, ◌-◌, ◌/◌, ◌%◌, ◌<◌, ◌≤◌, ◌⊎◌, Bool, true, false, ◌&&◌}
+use Rattle.std.proofs.Common.{if◌then◌else◌, nat_eq, nat_lt, eqb-true, ne_eqb, List, [], ◌∷◌, ◌++◌, get_or, set, sym}
+use Rattle.std.proofs.Common.{refl, ap, ◌∙◌, subst, inl, inr, arith, get_or-set_same, get_or-set_other}
 use Rattle.std.proofs.lemmas.Bool.{cases_eq, cases_lt, and_parts}
 use Rattle.std.proofs.lemmas.Bool.Decides.{nat_tests}
 use mathlib.Core.Bool.{false≢true}
@@ -40,9 +39,8 @@ use Rattle.ol_wire.proofs.Steps.Lists.{total_set, one_below}
 use Rattle.ol_wire.proofs.LinkSteps.Keep.{LinkStep, linking, link_keeps}
 use Rattle.ol_wire.proofs.LinkSteps.Edges.{stands_alike, edges_set}
 use Rattle.ol_wire.proofs.LinkSteps.Spread.{one_if, one_same, one_other, times_more, spread_more, spread_few}
-use Rattle.ol_wire.proofs.LinkSteps.Sites.{IsLinked, linked_not_own, linked_not_lasting, IsSite}
-use Rattle.ol_wire.proofs.LinkSteps.Sites.{port_or_reached, site, dead_edge, word_written}
-use Rattle.ol_wire.proofs.LinkSteps.Sites.{link_ends}
+use Rattle.ol_wire.proofs.LinkSteps.Sites.{IsLinked, linked_not_own, linked_not_lasting, IsSite, port_or_reached, site}
+use Rattle.ol_wire.proofs.LinkSteps.Sites.{dead_edge, word_written, link_ends}
 use Rattle.ol_rules.proofs.EndCounts.{ends_append}
 
 -- the cells from the last on aren't words of the table

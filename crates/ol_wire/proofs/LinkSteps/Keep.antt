@@ -28,9 +28,8 @@ use Rattle.ol_wire.specs.Edges.{is_reached, is_made, deaths, times_in, edges_of}
 use Rattle.ol_wire.specs.Stands.{StandsForNet}
 use Rattle.ol_wire.specs.Views.{past_fuel, IsSpentView}
 use Rattle.ol_wire.specs.Plays.{cell_at}
-use Rattle.ol_wire.specs.Rule.{KnowsPlan, Table, Kept, Drawn, WordsKeep, CellsKeep, SeatsKeep}
-use Rattle.ol_wire.specs.Rule.{IsView, IsLasting, IsOwn, IsMadeRef, IsRightOf, IsInOwnBlock}
-use Rattle.ol_wire.specs.Rule.{links_at, filled, IsLinkedField}
+use Rattle.ol_wire.specs.Rule.{KnowsPlan, Table, Kept, Drawn, WordsKeep, CellsKeep, SeatsKeep, IsView, IsLasting, IsOwn}
+use Rattle.ol_wire.specs.Rule.{IsMadeRef, IsRightOf, IsInOwnBlock, links_at, filled, IsLinkedField}
 use Rattle.ol_wire.proofs.InWords.Places.{part_field, part_entry}
 use Rattle.ol_wire.proofs.Steps.Keep.{after}
 use Rattle.ol_wire.proofs.Steps.Lists.{total_set, weigh_set}

@@ -1,8 +1,7 @@
 -- Sums over views and over pending links of which one changes, by place.
 -- Used in Cells, Keep and Steps.Join.
-use Rattle.std.proofs.Common.{◌≡◌, ◌≢◌, ℕ, suc, ◌+◌, ◌<◌, ◌≤◌, ◌⊎◌, nat_eq, eq-eqb, ne_eqb}
-use Rattle.std.proofs.Common.{if◌then◌else◌, List, [], ◌∷◌, length, set, sym, refl, ap, ◌∙◌, subst}
-use Rattle.std.proofs.Common.{inl, inr, arith}
+use Rattle.std.proofs.Common.{◌≡◌, ◌≢◌, ℕ, suc, ◌+◌, ◌<◌, ◌≤◌, ◌⊎◌, nat_eq, eq-eqb, ne_eqb, if◌then◌else◌, List, []}
+use Rattle.std.proofs.Common.{◌∷◌, length, set, sym, refl, ap, ◌∙◌, subst, inl, inr, arith}
 use Rattle.std.proofs.lemmas.Bool.{cases_eq}
 use mathlib.Core.Option.{some}
 use lib.ListN.{get_elem?}

@@ -14,9 +14,8 @@ use Rattle.ol_wire.specs.declared.plan.Plan.{Plan}
 use Rattle.ol_wire.specs.declared.view.Link.{Link}
 use Rattle.ol_wire.specs.declared.view.View.{View}
 use Rattle.ol_wire.specs.References.{node_ref, wire_ref, kind_in, index_in, place_in, IsWireRef, IsRef}
-use Rattle.ol_wire.specs.Layout.{WordPart, ticket, live_word, port, field, wire, between, left}
-use Rattle.ol_wire.specs.Layout.{right, entry, past, part_of_word, place_of, port_word, start_cell}
-use Rattle.ol_wire.specs.Layout.{block, table_size}
+use Rattle.ol_wire.specs.Layout.{WordPart, ticket, live_word, port, field, wire, between, left, right, entry, past}
+use Rattle.ol_wire.specs.Layout.{part_of_word, place_of, port_word, start_cell, block, table_size}
 use Rattle.ol_wire.specs.Events.{Event}
 use Rattle.ol_wire.specs.Edges.{crosses_at, is_reached, is_made, is_wire_made, deaths, edge_to}
 use Rattle.ol_wire.specs.Edges.{edges_of, edges_in, pending_in, links_in}

@@ -1,8 +1,7 @@
 -- The ends of the ports of the nets before and after a ticket: a port has one end, an end one port.
 -- Used in After, Joins and Moved.
-use Rattle.std.proofs.Common.{◌≡◌, ◌≢◌, ℕ, zero, suc, ◌+◌, ◌<◌, ◌≤◌, Bool, false}
-use Rattle.std.proofs.Common.{nat_eq, ◌⊎◌, inl, inr, List, refl, sym, ap, ◌∙◌, subst}
-use Rattle.std.proofs.Common.{arith}
+use Rattle.std.proofs.Common.{◌≡◌, ◌≢◌, ℕ, zero, suc, ◌+◌, ◌<◌, ◌≤◌, Bool, false, nat_eq, ◌⊎◌, inl, inr, List, refl}
+use Rattle.std.proofs.Common.{sym, ap, ◌∙◌, subst, arith}
 use Rattle.std.proofs.lemmas.Bool.{cases_eq}
 use Rattle.ol_law_edges.specs.Edges.{Joined, EdgeOf, ends}
 use Rattle.ol_law_edges.proofs.Contraction.{ends_in}
@@ -14,8 +13,7 @@ use Rattle.ol_net.specs.Parts.{arity}
 use Rattle.ol_net.specs.Nets.{NamedNet, NamedPort, free, slot, HasNode, Linked, IsPort, IsSlotOf}
 use Rattle.ol_rules.specs.declared.journal.NodeName.{NodeName}
 use Rattle.ol_rules.specs.declared.journal.NodeName.TheVariants.{Init, Born}
-use Rattle.ol_rules.specs.Rewriting.{is_meeting, index_after, action_of, NodeOf}
-use Rattle.ol_rules.specs.Rewriting.{left, of_f, of_g, Rewrites}
+use Rattle.ol_rules.specs.Rewriting.{is_meeting, index_after, action_of, NodeOf, left, of_f, of_g, Rewrites}
 use Rattle.ol_rules.proofs.Tests.{nat_test}
 use Rattle.ol_wire.specs.declared.layout.Parts.{Parts}
 use Rattle.ol_wire.specs.References.{node_ref, wire_ref, slot_ref}

@@ -17,8 +17,7 @@ use Rattle.ol_wire.specs.Layout.{place_of}
 use Rattle.ol_wire.proofs.Ticket.Event.{Rewritten}
 use Rattle.ol_wire.proofs.Links.Walk.{to_ends, from_ends}
 use Rattle.ol_rules.proofs.Actions.{crosses, meets}
-use Rattle.ol_wire.proofs.Links.Ends.{IsKnown, StandsAt, one_end, born_not_x}
-use Rattle.ol_wire.proofs.Links.Ends.{born_not_y, ended, linked, met}
+use Rattle.ol_wire.proofs.Links.Ends.{IsKnown, StandsAt, one_end, born_not_x, born_not_y, ended, linked, met}
 
 -- slots of one number; each copy with a slot; each copy of x with each of y
 pub data JoinEnds (z : Parts) (x y : NodeName) (k l : Kind) (i j t : ℕ) (r : Rule) : ℕ → ℕ → Type 0 where

@@ -1,8 +1,7 @@
 -- What a ticket writes: its links and its fields, in a meeting and in a crossing.
 -- Used in Moved and Ticket.Fields.
-use Rattle.std.proofs.Common.{◌≡◌, ◌≢◌, ℕ, ◌+◌, ◌-◌, ◌<◌, ◌≤◌, Bool, true, false, if◌then◌else◌}
-use Rattle.std.proofs.Common.{nat_lt, eq-eqb, ne_eqb, ◌⊎◌, inl, inr, List, [], ◌∷◌, refl, sym, ap}
-use Rattle.std.proofs.Common.{◌∙◌, subst, arith}
+use Rattle.std.proofs.Common.{◌≡◌, ◌≢◌, ℕ, ◌+◌, ◌-◌, ◌<◌, ◌≤◌, Bool, true, false, if◌then◌else◌, nat_lt, eq-eqb, ne_eqb}
+use Rattle.std.proofs.Common.{◌⊎◌, inl, inr, List, [], ◌∷◌, refl, sym, ap, ◌∙◌, subst, arith}
 use Rattle.std.proofs.lemmas.Bool.{cases_eq, cases_lt}
 use Rattle.ol_law_edges.specs.Edges.{IsIn}
 use Rattle.ol_net.specs.declared.parts.Kind.{Kind}
@@ -11,9 +10,8 @@ use Rattle.ol_net.specs.Parts.{arity}
 use Rattle.ol_rules.specs.declared.journal.NodeName.TheVariants.{Born}
 use Rattle.ol_rules.specs.Rewriting.{is_meeting, index_after}
 use Rattle.ol_rules.specs.Listed.{each}
-use Rattle.ol_law_edges.proofs.Lists.{in_left, in_right, in_cases, only}
+use Rattle.ol_law_edges.proofs.Lists.{in_left, in_right, in_cases, only, in_map, in_map_of, if_below, if_above}
 use Rattle.ol_rules.proofs.Lists.{in_each, in_each_of}
-use Rattle.ol_law_edges.proofs.Lists.{in_map, in_map_of}
 use Rattle.ol_wire.specs.declared.layout.Parts.{Parts}
 use Rattle.ol_wire.specs.declared.view.Link.{Link}
 use Rattle.ol_wire.specs.References.{node_ref, wire_ref, slot_ref, kind_in, index_in}
@@ -25,7 +23,6 @@ use Rattle.ol_wire.specs.Edges.{edge_to, links_in}
 use Rattle.ol_wire.proofs.InWords.References.{kind_of_ref, index_of_ref}
 use Rattle.ol_wire.proofs.Ticket.Event.{born_edges, new_edges}
 use Rattle.ol_rules.proofs.Born.{at_most_two}
-use Rattle.ol_law_edges.proofs.Lists.{if_below, if_above}
 
 -- an edge of a list, by its ends
 abbrev pub Has : ℕ → ℕ → List (ℕ × ℕ) → Type 0

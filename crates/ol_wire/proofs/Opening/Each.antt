@@ -13,13 +13,7 @@ use Rattle.ol_rules.specs.Listed.{each}
 use Rattle.ol_wire.specs.Starts.{wire_with, pair_with, facing_pairs, aux_links, wire_at, pair_at}
 use Rattle.ol_wire.specs.Laid.{wires_before}
 use Rattle.std.proofs.lemmas.Option.{none-some, same_Some}
-use Rattle.ol_law_edges.proofs.Lists.{got_append}
-use Rattle.ol_law_edges.proofs.Lists.{get_there}
-
-get_left : {X : Type 0} (xs ys : List X) (i : ℕ) (x : X) → slice_get xs i ≡ Some x → slice_get (xs ++ ys) i ≡ Some x
-get_left [] ys i x e = absurd (none-some x e)
-get_left (y ∷ xs) ys zero x e = e
-get_left (y ∷ xs) ys (suc i) x e = get_left xs ys i x e
+use Rattle.ol_law_edges.proofs.Lists.{got_append, got_left, get_there}
 
 get_right : {X : Type 0} (xs ys : List X) (i : ℕ) (x : X) → slice_get ys i ≡ Some x →
     slice_get (xs ++ ys) (length xs + i) ≡ Some x
@@ -31,7 +25,7 @@ each_at : {X : Type 0} (rows : ℕ → List X) (n m i : ℕ) (x : X) → m < n �
     slice_get (rows m) i ≡ Some x → slice_get (each n rows) (length (each m rows) + i) ≡ Some x
 each_at rows zero m i x lt e = absurd (omega (arith, lt))
 each_at rows (suc n) m i x lt e = elim (cases_lt m n) [
-  | inl less ↦ get_left (each n rows) (rows n) (length (each m rows) + i) x (each_at rows n m i x less e)
+  | inl less ↦ got_left (each n rows) (rows n) (length (each m rows) + i) x (each_at rows n m i x less e)
   | inr le ↦
       let q : m ≡ n = omega (arith, le, lt) in
       ap (λ k. slice_get (each n rows ++ rows n) (length (each k rows) + i)) q

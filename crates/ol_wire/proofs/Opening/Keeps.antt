@@ -1,8 +1,7 @@
 -- The words of a start net meet the rule.
 -- Used in `lay`.
-use Rattle.std.proofs.Common.{is_some, count_by, length, ◌≡◌, ℕ, zero, suc, ◌+◌, ◌<◌, ◌≤◌, ◌&&◌}
-use Rattle.std.proofs.Common.{nat_eq, true, false, Bool, List, [], ◌∷◌, ◌++◌, slice_index, refl}
-use Rattle.std.proofs.Common.{sym, ap, ◌∙◌, subst, arith, inr}
+use Rattle.std.proofs.Common.{is_some, count_by, length, ◌≡◌, ℕ, zero, suc, ◌+◌, ◌<◌, ◌≤◌, ◌&&◌, nat_eq, true, false}
+use Rattle.std.proofs.Common.{Bool, List, [], ◌∷◌, ◌++◌, slice_index, refl, sym, ap, ◌∙◌, subst, arith, inr}
 use Rattle.std.proofs.lemmas.List.{append-nil}
 use mathlib.Core.Option as option
 use lib.ListN.{get_elem?}

@@ -18,9 +18,8 @@ use Rattle.ol_wire.specs.Weights.{total}
 use Rattle.ol_wire.specs.Layout.{left, part_of_word, place_of, table_size, left_word, cells_of}
 use Rattle.ol_wire.specs.Views.{past_fuel}
 use Rattle.ol_wire.specs.Idle.{IsIdle}
-use Rattle.ol_wire.specs.StepPlays.{Seated, cell_in_hand, returned, missing, holding, paired}
-use Rattle.ol_wire.specs.StepPlays.{knowing, ticketed, late, wrote, IsNodeOf, IsRefOf, IsLookedUp}
-use Rattle.ol_wire.specs.StepPlays.{claims, reads_right, draws, writes}
+use Rattle.ol_wire.specs.StepPlays.{Seated, cell_in_hand, returned, missing, holding, paired, knowing, ticketed, late}
+use Rattle.ol_wire.specs.StepPlays.{wrote, IsNodeOf, IsRefOf, IsLookedUp, claims, reads_right, draws, writes}
 use Rattle.ol_wire.specs.TurnPlays.{reads_field, returns}
 use Rattle.ol_wire.specs.Rule.{Table, Kept, IsLasting}
 use Rattle.ol_wire.proofs.InWords.References.{kind_of_ref, place_of_ref}
@@ -40,9 +39,8 @@ use Rattle.atomic_table.proofs.Lists.{set_here}
 use Rattle.ol_wire.proofs.Credit.Keep.{read_keeps}
 use Rattle.ol_wire.proofs.Credit.Steps.{miss_pays, claim_pays, return_pays, write_pays, ticket_pays}
 use Rattle.ol_wire.proofs.Credit.Steps.{late_pays, own_not_left, own_not_right}
-use Rattle.ol_wire.proofs.Steps.Remembering.{miss_recalls, claim_recalls, pair_recalls}
-use Rattle.ol_wire.proofs.Steps.Remembering.{read_recalls, plain_recalls, return_recalls}
-use Rattle.ol_wire.proofs.Steps.Remembering.{ticket_recalls}
+use Rattle.ol_wire.proofs.Steps.Remembering.{miss_recalls, claim_recalls, pair_recalls, read_recalls, plain_recalls}
+use Rattle.ol_wire.proofs.Steps.Remembering.{return_recalls, ticket_recalls}
 use Rattle.ol_wire.proofs.Steps.Pair.{node_of_ref, ref_of_field, ticket_stands, due_past}
 use Rattle.ol_wire.proofs.Steps.Pair.{full_of_claimed, right_of_claimed, pair_active, small_index}
 use Rattle.ol_rules.proofs.Born.{at_most_two}

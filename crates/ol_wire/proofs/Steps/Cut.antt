@@ -1,8 +1,7 @@
 -- Cutting a seat off keeps the rule.
 -- Used in `cut`.
-use Rattle.std.proofs.Common.{◌≡◌, ◌≢◌, ℕ, suc, ◌+◌, ◌-◌, ◌<◌, ◌≤◌, Bool, true, false, ◌&&◌, nat_eq}
-use Rattle.std.proofs.Common.{if◌then◌else◌, Some, List, [], ◌∷◌, ◌++◌, get_or, set, sym, refl, ap}
-use Rattle.std.proofs.Common.{◌∙◌, subst, arith}
+use Rattle.std.proofs.Common.{◌≡◌, ◌≢◌, ℕ, suc, ◌+◌, ◌-◌, ◌<◌, ◌≤◌, Bool, true, false, ◌&&◌, nat_eq, if◌then◌else◌}
+use Rattle.std.proofs.Common.{Some, List, [], ◌∷◌, ◌++◌, get_or, set, sym, refl, ap, ◌∙◌, subst, arith}
 use mathlib.Core.Bool.{false≢true}
 use mathlib.Core.Option.{some}
 use lib.ListN.{get_elem?}
@@ -19,9 +18,8 @@ use Rattle.ol_wire.specs.Stands.{StandsForNet}
 use Rattle.ol_wire.specs.Views.{past_fuel, IsSpentView}
 use Rattle.ol_wire.specs.Plays.{cell_at}
 use Rattle.ol_wire.specs.StepPlays.{fewer, one_seat}
-use Rattle.ol_wire.specs.Rule.{KnowsPlan, Table, Kept, WordsKeep, CellsKeep, SeatsKeep, IsView}
-use Rattle.ol_wire.specs.Rule.{IsLasting, IsOwn, IsRightOf, IsMadeRef, IsInOwnBlock, links_at}
-use Rattle.ol_wire.specs.Rule.{IsLinkedField}
+use Rattle.ol_wire.specs.Rule.{KnowsPlan, Table, Kept, WordsKeep, CellsKeep, SeatsKeep, IsView, IsLasting, IsOwn}
+use Rattle.ol_wire.specs.Rule.{IsRightOf, IsMadeRef, IsInOwnBlock, links_at, IsLinkedField}
 use Rattle.ol_wire.proofs.Steps.Keep.{IsSwept}
 use Rattle.ol_wire.specs.Idle.{IsIdle}
 use Rattle.ol_wire.specs.Credit.{IsRuled}

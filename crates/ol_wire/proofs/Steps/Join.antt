@@ -1,8 +1,7 @@
 -- Two seats that hold nothing are joined: what one has done goes to the other, and the rule is kept.
 -- Used in LinkSteps.Allowed and `merge`.
-use Rattle.std.proofs.Common.{◌≡◌, ◌≢◌, ℕ, suc, ◌+◌, ◌<◌, ◌≤◌, ◌⊎◌, Bool, true, false, ◌&&◌, ◌||◌}
-use Rattle.std.proofs.Common.{if◌then◌else◌, nat_eq, Some, List, [], ◌++◌, get_or, set, sym, refl}
-use Rattle.std.proofs.Common.{ap, ◌∙◌, subst, arith}
+use Rattle.std.proofs.Common.{◌≡◌, ◌≢◌, ℕ, suc, ◌+◌, ◌<◌, ◌≤◌, ◌⊎◌, Bool, true, false, ◌&&◌, ◌||◌, if◌then◌else◌}
+use Rattle.std.proofs.Common.{nat_eq, Some, List, [], ◌++◌, get_or, set, sym, refl, ap, ◌∙◌, subst, arith}
 use mathlib.Core.Bool.{false≢true}
 use mathlib.Core.Option.{some}
 use lib.ListN.{get_elem?}
@@ -25,9 +24,8 @@ use Rattle.ol_wire.specs.Idle.{IsIdle}
 use Rattle.ol_wire.specs.Plays.{joined, cell_at}
 use Rattle.ol_wire.specs.LinkPlays.{times_drawn}
 use Rattle.ol_wire.specs.LinkSteps.{spent_view}
-use Rattle.ol_wire.specs.Rule.{KnowsPlan, Table, Kept, WordsKeep, CellsKeep, SeatsKeep, IsView}
-use Rattle.ol_wire.specs.Rule.{IsLasting, IsOwn, IsMadeRef, IsRightOf, IsInOwnBlock, links_at}
-use Rattle.ol_wire.specs.Rule.{IsLinkedField, entries_of}
+use Rattle.ol_wire.specs.Rule.{KnowsPlan, Table, Kept, WordsKeep, CellsKeep, SeatsKeep, IsView, IsLasting, IsOwn}
+use Rattle.ol_wire.specs.Rule.{IsMadeRef, IsRightOf, IsInOwnBlock, links_at, IsLinkedField, entries_of}
 use Rattle.ol_wire.proofs.InWords.Alike.{total_append}
 use Rattle.ol_wire.proofs.Steps.Lists.{total_set, each_set, pending_set, one_below}
 use Rattle.ol_wire.specs.Credit.{IsRuled}

@@ -1,9 +1,8 @@
 -- A step that changes one word and one view, and neither the journal nor the net, keeps the rule.
 -- Used in Credit, LinkSteps and Steps.
-use Rattle.std.proofs.Common.{◌≡◌, ◌≢◌, ℕ, zero, suc, ◌+◌, ◌-◌, ◌/◌, ◌%◌, ◌<◌, ◌≤◌, ◌⊎◌, Bool, true}
-use Rattle.std.proofs.Common.{false, ◌&&◌, nat_eq, nat_lt, if◌then◌else◌, Some, List, [], ◌∷◌, ◌++◌}
-use Rattle.std.proofs.Common.{length, get_or, set, sym, refl, ap, ◌∙◌, subst, inl, inr, arith}
-use Rattle.std.proofs.Common.{length-set}
+use Rattle.std.proofs.Common.{◌≡◌, ◌≢◌, ℕ, zero, suc, ◌+◌, ◌-◌, ◌/◌, ◌%◌, ◌<◌, ◌≤◌, ◌⊎◌, Bool, true, false, ◌&&◌}
+use Rattle.std.proofs.Common.{nat_eq, nat_lt, if◌then◌else◌, Some, List, [], ◌∷◌, ◌++◌, length, get_or, set, sym, refl}
+use Rattle.std.proofs.Common.{ap, ◌∙◌, subst, inl, inr, arith, length-set}
 use mathlib.Core.Option.{some}
 use lib.ListN.{get_elem?}
 use Rattle.ol_law_edges.specs.Edges.{IsIn}
@@ -25,9 +24,8 @@ use Rattle.ol_wire.specs.Edges.{is_reached, is_made, times_in, edges_of, edges_i
 use Rattle.ol_wire.specs.Stands.{StandsForNet}
 use Rattle.ol_wire.specs.Views.{past_fuel, IsSpentView}
 use Rattle.ol_wire.specs.Plays.{cell_at}
-use Rattle.ol_wire.specs.Rule.{KnowsPlan, Table, Kept, WordsKeep, CellsKeep, SeatsKeep, Drawn}
-use Rattle.ol_wire.specs.Rule.{IsView, IsLasting, IsOwn, IsRightOf, IsMadeRef, IsInOwnBlock}
-use Rattle.ol_wire.specs.Rule.{links_at, filled, IsLinkedField}
+use Rattle.ol_wire.specs.Rule.{KnowsPlan, Table, Kept, WordsKeep, CellsKeep, SeatsKeep, Drawn, IsView, IsLasting, IsOwn}
+use Rattle.ol_wire.specs.Rule.{IsRightOf, IsMadeRef, IsInOwnBlock, links_at, filled, IsLinkedField}
 use Rattle.ol_wire.proofs.Steps.Lists.{total_set, each_set, edges_same, pending_set}
 
 -- one word and one view are set

@@ -29,9 +29,8 @@ use Rattle.ol_wire.proofs.InWords.References.{kind_of_ref, index_of_ref, place_o
 use Rattle.ol_wire.proofs.InWords.References.{place_of_wire, node_sort, slot_sort}
 use Rattle.ol_wire.proofs.InWords.Places.{place_before, is_wire, is_between, part_field}
 use Rattle.ol_wire.proofs.InWords.Held.{Holds, owner, word_full, held_full}
-use Rattle.ol_wire.proofs.InWords.Claimed.{IsNodeAt, IsCellPair, cell_pair, node_of, is_placed}
-use Rattle.ol_wire.proofs.InWords.Claimed.{ends_second, field_full, field_within, right_written}
-use Rattle.ol_wire.proofs.InWords.Claimed.{own_edge}
+use Rattle.ol_wire.proofs.InWords.Claimed.{IsNodeAt, IsCellPair, cell_pair, node_of, is_placed, ends_second, field_full}
+use Rattle.ol_wire.proofs.InWords.Claimed.{field_within, right_written, own_edge}
 use Rattle.ol_wire.proofs.InWords.EdgeList.{edge_there, live_there}
 use Rattle.ol_law_edges.proofs.Lists.{in_left}
 use Rattle.ol_rules.proofs.Born.{at_most_two}

@@ -1,8 +1,7 @@
 -- What the one seat that is left knows of the cells that it sweeps.
 -- Used in Plain, Return and Ticket.Cells.
-use Rattle.std.proofs.Common.{◌≡◌, ◌≢◌, ℕ, suc, ◌<◌, ◌⊎◌, ◌&&◌, nat_eq, eq-eqb, ne_eqb}
-use Rattle.std.proofs.Common.{if◌then◌else◌, None, Some, Option, List, [], get_or, sym, refl, ap}
-use Rattle.std.proofs.Common.{◌∙◌, subst, inl, inr, arith}
+use Rattle.std.proofs.Common.{◌≡◌, ◌≢◌, ℕ, suc, ◌<◌, ◌⊎◌, ◌&&◌, nat_eq, eq-eqb, ne_eqb, if◌then◌else◌, None, Some}
+use Rattle.std.proofs.Common.{Option, List, [], get_or, sym, refl, ap, ◌∙◌, subst, inl, inr, arith}
 use Rattle.std.proofs.lemmas.Bool.{cases_eq}
 use mathlib.Core.Option.{some, some-injective}
 use lib.ListN.{get_elem?}

@@ -1,9 +1,8 @@
 -- The edges of the words after a ticket are those of its block and those of the net without the pair.
 -- Used in Fields and Keeps.
-use Rattle.std.proofs.Common.{◌≡◌, ◌≢◌, ℕ, zero, suc, ◌+◌, ◌-◌, ◌*◌, ◌/◌, ◌%◌, ◌==◌, ◌<◌, ◌≤◌, Bool}
-use Rattle.std.proofs.Common.{true, false, nat_lt, if◌then◌else◌, get_or-set_other, List, [], ◌∷◌}
-use Rattle.std.proofs.Common.{◌++◌, slice_index, slice_set, ◌⊎◌, inl, inr, ◌↔◌, refl, sym, ap, ◌∙◌}
-use Rattle.std.proofs.Common.{arith}
+use Rattle.std.proofs.Common.{◌≡◌, ◌≢◌, ℕ, zero, suc, ◌+◌, ◌-◌, ◌*◌, ◌/◌, ◌%◌, ◌==◌, ◌<◌, ◌≤◌, Bool, true, false}
+use Rattle.std.proofs.Common.{nat_lt, if◌then◌else◌, get_or-set_other, List, [], ◌∷◌, ◌++◌, slice_index, slice_set, ◌⊎◌}
+use Rattle.std.proofs.Common.{inl, inr, ◌↔◌, refl, sym, ap, ◌∙◌, arith}
 use Rattle.std.proofs.lemmas.Bool.{cases_eq, cases_lt, cases_Bool, false≢true}
 use Rattle.ol_net.specs.declared.parts.Kind.{Kind}
 use Rattle.ol_net.specs.declared.parts.Rule.{Rule}
@@ -23,9 +22,8 @@ use Rattle.ol_wire.specs.Events.{Event}
 use Rattle.ol_wire.specs.Blocks.{copies_of_f, copies_of_g, born_field, block_words}
 use Rattle.ol_wire.specs.Edges.{is_live, edge_to, edges_in}
 use Rattle.ol_wire.proofs.InWords.References.{kind_of_ref}
-use Rattle.ol_wire.proofs.InWords.Places.{part_field, part_entry, At, at_ticket, at_live, at_port}
-use Rattle.ol_wire.proofs.InWords.Places.{at_field, at_wire, at_between, at_left, at_right}
-use Rattle.ol_wire.proofs.InWords.Places.{at_entry, at_past, where_is}
+use Rattle.ol_wire.proofs.InWords.Places.{part_field, part_entry, At, at_ticket, at_live, at_port, at_field, at_wire}
+use Rattle.ol_wire.proofs.InWords.Places.{at_between, at_left, at_right, at_entry, at_past, where_is}
 use Rattle.ol_wire.proofs.InWords.Alike.{Alike, pairs_append}
 use Rattle.ol_wire.proofs.Ticket.Event.{born_edges}
 use Rattle.ol_wire.proofs.InWords.EdgeList.{word_edge, live_there, live_found, live_same}

@@ -2,9 +2,8 @@
 -- an end of one of the ticket's links. The nodes
 -- whose fields another seat has to write aren't rewritten.
 -- Used in Seats.
-use Rattle.std.proofs.Common.{◌≡◌, ◌≢◌, ℕ, suc, ◌*◌, ◌+◌, ◌-◌, ◌/◌, ◌%◌, ◌<◌, ◌≤◌, ◌↔◌, ◌⊎◌}
-use Rattle.std.proofs.Common.{if◌then◌else◌, nat_lt, lt-ltb, inl, inr, false, List, [], ◌∷◌}
-use Rattle.std.proofs.Common.{slice_index, sym, refl, ap, ◌∙◌, subst, arith}
+use Rattle.std.proofs.Common.{◌≡◌, ◌≢◌, ℕ, suc, ◌*◌, ◌+◌, ◌-◌, ◌/◌, ◌%◌, ◌<◌, ◌≤◌, ◌↔◌, ◌⊎◌, if◌then◌else◌, nat_lt}
+use Rattle.std.proofs.Common.{lt-ltb, inl, inr, false, List, [], ◌∷◌, slice_index, sym, refl, ap, ◌∙◌, subst, arith}
 use Rattle.std.proofs.lemmas.Bool.{cases_lt}
 use Rattle.std.proofs.lemmas.Bool.Decides.{nat_tests}
 use mathlib.Core.Option.{some}

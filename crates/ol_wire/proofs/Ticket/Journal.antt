@@ -1,8 +1,7 @@
 -- The journal after a ticket below the fuel: one entry more, and the net after its step.
 -- Used in Cells, Keeps, Reached, Refs, Seats and Words.
-use Rattle.std.proofs.Common.{◌≡◌, ◌≢◌, ℕ, zero, suc, ◌+◌, ◌-◌, ◌<◌, ◌≤◌, true, false}
-use Rattle.std.proofs.Common.{if◌then◌else◌, nat_lt, lt-ltb, List, [], ◌∷◌, ◌++◌, length, Some, ◌⊎◌}
-use Rattle.std.proofs.Common.{inl, inr, refl, sym, ap, ◌∙◌, subst, arith}
+use Rattle.std.proofs.Common.{◌≡◌, ◌≢◌, ℕ, zero, suc, ◌+◌, ◌-◌, ◌<◌, ◌≤◌, true, false, if◌then◌else◌, nat_lt, lt-ltb}
+use Rattle.std.proofs.Common.{List, [], ◌∷◌, ◌++◌, length, Some, ◌⊎◌, inl, inr, refl, sym, ap, ◌∙◌, subst, arith}
 use Rattle.std.specs.Prelude.{slice_get}
 use Rattle.std.proofs.lemmas.Bool.{cases_lt}
 use Rattle.std.proofs.lemmas.Bool.Decides.{nat_tests}
@@ -22,7 +21,7 @@ use Rattle.ol_rules.specs.Laws.{IsFresh}
 use Rattle.ol_rules.specs.Rewriting.{crossing, action_of, NodeOf, left, of_f, of_g, Rewrites, IsStep}
 use Rattle.ol_rules.specs.Runs.{IsEntryStep, IsRun}
 use Rattle.ol_rules.proofs.Born.{at_most_two}
-use Rattle.ol_law_edges.proofs.Lists.{got_append}
+use Rattle.ol_law_edges.proofs.Lists.{got_append, got_last}
 use Rattle.ol_rules.proofs.OneRun.{name_same, name_test}
 use Rattle.ol_rules.proofs.Relation.{next, net_kept}
 use Rattle.ol_rules.proofs.RunsOn.{run_on}
@@ -37,10 +36,6 @@ use Rattle.ol_wire.proofs.InWords.References.{kind_of_ref, index_of_ref, place_o
 use Rattle.ol_wire.proofs.InWords.Places.{name_of_place, place_same, place_order}
 
 -- ---- lists and runs with one more at the end
-
-pub got_last : {A : Type 0} (xs : List A) (x : A) → slice_get (xs ++ x ∷ []) (length xs) ≡ Some x
-got_last [] x = refl
-got_last (y ∷ xs) x = got_last xs x
 
 pub got_before : {A : Type 0} (xs ys : List A) (n : ℕ) → n < length xs → slice_get (xs ++ ys) n ≡ slice_get xs n
 got_before [] ys n lt = absurd (omega arith)

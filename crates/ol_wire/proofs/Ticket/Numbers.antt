@@ -10,9 +10,8 @@ use Rattle.ol_wire.specs.Layout.{ticket, live_word, port, field, wire, between, 
 use Rattle.ol_wire.specs.Layout.{part_of_word, block, place_of, port_word, start_node, start_wire}
 use Rattle.ol_wire.specs.Layout.{start_cell, born_wire, born_cell, left_word, cells_of}
 use Rattle.ol_wire.specs.Plays.{cell_at}
-use Rattle.ol_wire.proofs.InWords.Places.{part_port, part_field, part_wire, part_between}
-use Rattle.ol_wire.proofs.InWords.Places.{part_entry, part_start_cell, part_born_cell, cell_of_left}
-use Rattle.ol_wire.proofs.InWords.Places.{is_left}
+use Rattle.ol_wire.proofs.InWords.Places.{part_port, part_field, part_wire, part_between, part_entry, part_start_cell}
+use Rattle.ol_wire.proofs.InWords.Places.{part_born_cell, cell_of_left, is_left}
 
 module _ (z : Parts) where
   low_cell : (c : ℕ) → c < z.cells → left_word z c ≡ start_cell z c

@@ -1,9 +1,8 @@
 -- Which wires are reached before and after a ticket.
 -- Used in Keeps.
-use Rattle.std.proofs.Common.{◌≡◌, ℕ, ◌<◌, ◌≤◌, Bool, true, false, not, ◌&&◌, nat_eq, nat_lt}
-use Rattle.std.proofs.Common.{eq-eqb, ltb-true, lt-ltb, if◌then◌else◌, List, [], ◌∷◌, ◌++◌, length}
-use Rattle.std.proofs.Common.{Option, Some, None, ◌⊎◌, inl, inr, refl, sym, ap, ◌∙◌, slice_get}
-use Rattle.std.proofs.Common.{arith}
+use Rattle.std.proofs.Common.{◌≡◌, ℕ, ◌<◌, ◌≤◌, Bool, true, false, not, ◌&&◌, nat_eq, nat_lt, eq-eqb, ltb-true, lt-ltb}
+use Rattle.std.proofs.Common.{if◌then◌else◌, List, [], ◌∷◌, ◌++◌, length, Option, Some, None, ◌⊎◌, inl, inr, refl, sym}
+use Rattle.std.proofs.Common.{ap, ◌∙◌, slice_get, arith}
 use Rattle.ol_law_edges.specs.Edges.{bit}
 use Rattle.ol_net.specs.Parts.{arity}
 use Rattle.ol_rules.specs.Rewriting.{is_meeting}
@@ -16,9 +15,10 @@ use Rattle.ol_wire.specs.Events.{Event}
 use Rattle.ol_wire.specs.Blocks.{copies_of_f, copies_of_g}
 use Rattle.ol_wire.specs.Edges.{crosses_at, is_wire_made, is_made, deaths, is_reached}
 use Rattle.ol_wire.proofs.InWords.Places.{part_between, is_wire, is_between}
-use Rattle.ol_wire.proofs.Ticket.Journal.{got_last, got_before, got_one_more}
+use Rattle.ol_wire.proofs.Ticket.Journal.{got_before, got_one_more}
 use Rattle.std.proofs.lemmas.Bool.{and_parts, and_from}
 use Rattle.std.proofs.lemmas.Option.{slice_get_within}
+use Rattle.ol_law_edges.proofs.Lists.{got_last}
 
 clash : false ≡ true → ⊥
 clash e = cc

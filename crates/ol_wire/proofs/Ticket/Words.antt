@@ -1,9 +1,8 @@
 -- The words after a ticket below the fuel.
 -- Used in Cells, Fields, Keeps and Seats.
-use Rattle.std.proofs.Common.{◌≡◌, ◌≢◌, ℕ, zero, suc, ◌+◌, ◌-◌, ◌%◌, ◌/◌, ◌<◌, ◌≤◌, ◌⊎◌, inl, inr}
-use Rattle.std.proofs.Common.{Some, List, [], ◌∷◌, ◌++◌, length, get_or, set, slice_get}
-use Rattle.std.proofs.Common.{slice_index, slice_set, sym, refl, ap, ◌∙◌, subst, arith, length-set}
-use Rattle.std.proofs.Common.{get_or-set_other, get_or-set_same}
+use Rattle.std.proofs.Common.{◌≡◌, ◌≢◌, ℕ, zero, suc, ◌+◌, ◌-◌, ◌%◌, ◌/◌, ◌<◌, ◌≤◌, ◌⊎◌, inl, inr, Some, List, [], ◌∷◌}
+use Rattle.std.proofs.Common.{◌++◌, length, get_or, set, slice_get, slice_index, slice_set, sym, refl, ap, ◌∙◌, subst}
+use Rattle.std.proofs.Common.{arith, length-set, get_or-set_other, get_or-set_same}
 use Rattle.std.proofs.lemmas.Bool.{cases_eq, cases_lt}
 use Rattle.std.proofs.lemmas.Option.{slice_get_within}
 use mathlib.Core.Option.{some}

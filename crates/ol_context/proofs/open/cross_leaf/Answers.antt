@@ -1,8 +1,7 @@
-use Rattle.std.proofs.Common.{sym, subst}
+use Rattle.std.proofs.Common.{sym, subst, Some}
 use Rattle.ol_context.specs.Leaves.{LeafHasMoved, seen}
 use Rattle.ol_context.specs.Open.{reading}
 use Rattle.ol_context.proofs.Passing.{rises}
-use Rattle.std.proofs.Common.{Some}
 use Rattle.ol_context.proofs.open.cross_leaf.Goals as goal
 
 pub returns-then-slot-eq0-clause-moved : goal.returns-then-slot-eq0-clause-moved

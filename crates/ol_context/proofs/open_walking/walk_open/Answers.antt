@@ -12,10 +12,9 @@ use Rattle.ol_context.specs.OpenWalkAnswers.{OpenExitsExactly, OpenStopsExactly,
 use Rattle.ol_context.specs.declared.answers.Cross.{Cross}
 use Rattle.ol_context.specs.declared.answers.OpenWalk.TheVariants.{Exit, Undefined, Budget}
 use Rattle.ol_context.proofs.Walked.{node_port}
-use Rattle.ol_context.proofs.OpenWalked.{begins_open, all_below, exits_open, stands_open}
-use Rattle.ol_context.proofs.OpenWalked.{goes_on_open, all_stop, open_exit_exits, open_exit_stops}
-use Rattle.ol_context.proofs.OpenWalked.{open_exit_stands, open_budget_exits, open_budget_stops}
-use Rattle.ol_context.proofs.OpenWalked.{open_budget_stands, open_undefined_exits}
+use Rattle.ol_context.proofs.OpenWalked.{begins_open, all_below, exits_open, stands_open, goes_on_open, all_stop}
+use Rattle.ol_context.proofs.OpenWalked.{open_exit_exits, open_exit_stops, open_exit_stands, open_budget_exits}
+use Rattle.ol_context.proofs.OpenWalked.{open_budget_stops, open_budget_stands, open_undefined_exits}
 use Rattle.ol_context.proofs.OpenWalked.{open_undefined_stops, open_undefined_stands}
 use Rattle.ol_context.proofs.open_walking.walk_open.Goals as goal
 

@@ -4,9 +4,8 @@ use Rattle.ol_context.specs.Paths.{Through}
 use Rattle.ol_context.specs.Shapes.{context_of}
 use Rattle.ol_context.specs.Crossed.{IfOut}
 use Rattle.ol_context.specs.declared.answers.Cross.{Cross}
-use Rattle.ol_context.proofs.Exits.{exit_exits, exit_stops, exit_stands, undefined_exits}
-use Rattle.ol_context.proofs.Exits.{undefined_stops, undefined_stands, budget_exits, budget_stops}
-use Rattle.ol_context.proofs.Exits.{budget_stands}
+use Rattle.ol_context.proofs.Exits.{exit_exits, exit_stops, exit_stands, undefined_exits, undefined_stops}
+use Rattle.ol_context.proofs.Exits.{undefined_stands, budget_exits, budget_stops, budget_stands}
 use Rattle.ol_context.proofs.Walked.{begins, exits, goes_on, node_port, stands_last, stops}
 use Rattle.ol_context.proofs.Turning.{leaves_exactly}
 use Rattle.ol_context.specs.declared.answers.Walk.TheVariants as answer

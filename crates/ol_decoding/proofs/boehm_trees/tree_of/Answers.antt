@@ -1,10 +1,10 @@
 use Rattle.std.proofs.Common.{List, refl, sym, subst, arith}
+use Rattle.std.proofs.lemmas.Option.{MatchOption-at_some}
 use Rattle.ol_limits.specs.Limits.{most_fuel}
 use Rattle.ol_net.specs.Numbered.{net_of}
 use Rattle.ol_readback.specs.declared.answers.ReadNode.{ReadNode}
 use Rattle.ol_readback.proofs.Forests.{heads_are_whole}
 use Rattle.ol_readback.proofs.Named.{heads_are_named}
-use Rattle.ol_readback.proofs.Results.{some_told}
 use Rattle.ol_decoding.specs.Parts.{IsBoehmTree}
 use Rattle.ol_decoding.proofs.Heads.{heads_are_of_source}
 use Rattle.ol_decoding.proofs.Reading.{over}
@@ -18,7 +18,7 @@ read-requires-clause-begins c = record { same_depth = refl; same_fuel = refl; tr
 
 pub of-requires-clause-whole : goal.of-requires-clause-whole
 of-requires-clause-whole c =
-    let w = some_told _ _ c.in_ok-nodes.field-0 c.in-Some.nodes c.in_ok-nodes.ensures.read c.in-Some.is in
+    let w = MatchOption-at_some _ _ c.in-Some.nodes c.in-Some.is c.in_ok-nodes.ensures.read in
     let t = over c.args.depth c.args.fuel.most c.args.net.now most_fuel c.read.new.asker.depth c.read.new.asker.fuel
     c.read.new.net c.read.new.asker.left c.args.heads.most w.0 c.in-Some.nodes.items w.1 w.2 in
     heads_are_whole (net_of c.args.net.now) _ c.in-Some.nodes.items
@@ -27,7 +27,7 @@ of-requires-clause-whole c =
 
 pub returns-clause-tree : goal.returns-clause-tree
 returns-clause-tree c =
-    let w = some_told _ _ c.in_ok-nodes.field-0 c.in-Some.nodes c.in_ok-nodes.ensures.read c.in-Some.is in
+    let w = MatchOption-at_some _ _ c.in-Some.nodes c.in-Some.is c.in_ok-nodes.ensures.read in
     let t = over c.args.depth c.args.fuel.most c.args.net.now most_fuel c.read.new.asker.depth c.read.new.asker.fuel
     c.read.new.net c.read.new.asker.left c.args.heads.most w.0 c.in-Some.nodes.items w.1 w.2 in
     subst (λ (ns : List ReadNode). IsBoehmTree c.args.net.now c.args.depth c.args.heads.most c.args.fuel.most ns)

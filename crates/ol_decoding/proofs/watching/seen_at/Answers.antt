@@ -1,5 +1,5 @@
 use Rattle.std.proofs.Common.{refl, arith}
-use Rattle.ol_readback.proofs.Results.{none_told, some_told}
+use Rattle.std.proofs.lemmas.Option.{MatchOption-at_some}
 use Rattle.ol_decoding.specs.Reached.{start}
 use Rattle.ol_decoding.proofs.Seen.{never_over}
 use Rattle.ol_decoding.proofs.watching.seen_at.Goals as goal
@@ -13,7 +13,7 @@ read-requires-clause-begins c = (
 
 pub unreachable-requires : goal.unreachable-requires
 unreachable-requires c =
-    let w = some_told _ _ c.in_ok-places.places c.in-Some.nodes c.in_ok-places.ensures.read c.in-Some.is in
+    let w = MatchOption-at_some _ _ c.in-Some.nodes c.in-Some.is c.in_ok-places.ensures.read in
     never_over c.args.net.now c.is_net.ensures.net c.read.new.net.now c.args.heads c.args.watch.edges
     c.read.new.asker.edges c.args.watch.place c.read.new.asker.place w.0 c.args.tree.now c.in-Some.nodes.items w.1.0 w.2
     c.requires.tree c.requires.there c.requires.asked

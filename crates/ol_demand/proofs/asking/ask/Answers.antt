@@ -5,7 +5,6 @@ use Rattle.ol_context.specs.Contexts.{Level, empty, o}
 use Rattle.ol_context.specs.Asked.{os}
 use Rattle.ol_context.specs.Shapes.{Extends, context_of}
 use Rattle.ol_context.proofs.Shapes.{held_more, extends_refl, extends_trans}
-use Rattle.ol_rules.proofs.OneThread.{on_err}
 use Rattle.ol_readback.specs.Frames.{Frame, frames_of, ParentsFirst}
 use Rattle.ol_readback.specs.Heads.{answer_of, IsMatched}
 use Rattle.ol_readback.proofs.FrameLists.{frames_more, held_frames_more, held_this, port_this, count_frames}
@@ -18,6 +17,7 @@ use Rattle.ol_demand.proofs.Questions.{journal_on, met_on, met_stopped}
 use Rattle.ol_demand.proofs.Resuming.{chain_port, begun_walk, at_principal, resumed, cut_extends, number_more}
 use Rattle.ol_demand.proofs.Resuming.{number_at, are_kept}
 use Rattle.ol_demand.proofs.asking.ask.Goals as goal
+use Rattle.ol_law_edges.proofs.Options.{on_err}
 
 last_below : (i n : ℕ) → i + 1 ≡ n → i < n
 last_below i n e = omega arith

@@ -1,4 +1,4 @@
-use Rattle.std.proofs.Common.{◌*◌, ap, refl, subst}
+use Rattle.std.proofs.Common.{◌*◌, ap, refl, subst, Option}
 use Rattle.ol_net.specs.Numbered.{net_of, numbered_port}
 use Rattle.ol_context.specs.Paths.{Through}
 use Rattle.std.proofs.lemmas.Result.{err_from_is_err_and}
@@ -8,7 +8,6 @@ use Rattle.ol_context.specs.Crossed.{IfOut}
 use Rattle.ol_context.specs.declared.answers.Cross.{Cross}
 use Rattle.ol_context.proofs.Walked.{node_port}
 use Rattle.ol_net.specs.declared.parts.NodeId.{NodeId}
-use Rattle.std.proofs.Common.{Option}
 use Rattle.ol_demand.specs.Chaining.{FindsPair}
 use Rattle.ol_demand.proofs.OnChains.{begins, chaining, on_and_on, meets, leaves, stops, spends}
 use Rattle.ol_demand.proofs.chaining.chain.Goals as goal

@@ -1,13 +1,12 @@
 use Rattle.std.proofs.Common.{List, sym, subst}
-use Rattle.ol_rules.proofs.OneThread.{on_err}
+use Rattle.std.proofs.lemmas.Option.{MatchOption-at_some, MatchOption-at_none}
 use Rattle.ol_readback.specs.declared.answers.ReadNode.{ReadNode}
-use Rattle.ol_readback.proofs.Results.{none_told, some_told}
 use Rattle.ol_demand.specs.Answers.{IsAnswer}
 use Rattle.ol_demand.specs.declared.answers.Demanded.TheVariants as answer
-use Rattle.ol_demand.proofs.Onward.{first_running, first_reading, done_answer, done_heads}
-use Rattle.ol_demand.proofs.Onward.{done_whole, done_names, done_needed, done_no_more, spent_answer}
-use Rattle.ol_demand.proofs.Onward.{spent_needed, spent_more}
+use Rattle.ol_demand.proofs.Onward.{first_running, first_reading, done_answer, done_heads, done_whole, done_names}
+use Rattle.ol_demand.proofs.Onward.{done_needed, done_no_more, spent_answer, spent_needed, spent_more}
 use Rattle.ol_demand.proofs.demanding.demand.Goals as goal
+use Rattle.ol_law_edges.proofs.Options.{on_err}
 
 pub read-requires-clause-ready : goal.read-requires-clause-ready
 read-requires-clause-ready c = first_running c.args.net.now c.new-run.result c.args.heads
@@ -23,24 +22,24 @@ returns-in_err-nodes-clause-no_memory c = on_err c.from_residual.result c.in_err
 
 pub returns-in_default-clause-answer : goal.returns-in_default-clause-answer
 returns-in_default-clause-answer c =
-    let h = none_told _ _ c.in_ok-nodes.field-0 c.in_ok-nodes.ensures.read c.in_default.is in
+    let h = MatchOption-at_none _ _ c.in_default.is c.in_ok-nodes.ensures.read in
     spent_answer c.args.net.now c.read.new.net c.is_net.ensures.net c.read.new.asker.run
     c.args.heads c.args.fuel h.0 h.1
 
 pub returns-in_default-clause-spent : goal.returns-in_default-clause-spent
 returns-in_default-clause-spent c =
-    let h = none_told _ _ c.in_ok-nodes.field-0 c.in_ok-nodes.ensures.read c.in_default.is in
+    let h = MatchOption-at_none _ _ c.in_default.is c.in_ok-nodes.ensures.read in
     spent_more c.args.net.now c.read.new.net c.is_net.ensures.net c.read.new.asker.run c.args.heads c.args.fuel h.0 h.1
 
 pub returns-in_default-clause-needed : goal.returns-in_default-clause-needed
 returns-in_default-clause-needed c =
-    let h = none_told _ _ c.in_ok-nodes.field-0 c.in_ok-nodes.ensures.read c.in_default.is in
+    let h = MatchOption-at_none _ _ c.in_default.is c.in_ok-nodes.ensures.read in
     spent_needed c.args.net.now c.read.new.net c.is_net.ensures.net c.read.new.asker.run
     c.args.heads c.args.fuel h.0 h.1
 
 pub of-requires-clause-whole : goal.of-requires-clause-whole
 of-requires-clause-whole c =
-    let w = some_told _ _ c.in_ok-nodes.field-0 c.in-Some.nodes c.in_ok-nodes.ensures.read c.in-Some.is in
+    let w = MatchOption-at_some _ _ c.in-Some.nodes c.in-Some.is c.in_ok-nodes.ensures.read in
     done_whole c.args.net.now c.read.new.net c.is_net.ensures.net c.args.heads c.args.fuel
     c.in-Some.nodes.items c.read.new.asker.run.journal
     (done_answer c.args.net.now c.args.fuel c.read.new.net c.read.new.asker.run
@@ -48,7 +47,7 @@ of-requires-clause-whole c =
 
 pub returns-clause-answer : goal.returns-clause-answer
 returns-clause-answer c =
-    let w = some_told _ _ c.in_ok-nodes.field-0 c.in-Some.nodes c.in_ok-nodes.ensures.read c.in-Some.is in
+    let w = MatchOption-at_some _ _ c.in-Some.nodes c.in-Some.is c.in_ok-nodes.ensures.read in
     subst (λ (ns : List ReadNode). IsAnswer c.args.net.now c.args.heads c.args.fuel c.read.new.net
     (answer.Done ns c.read.new.asker.run.journal)) (sym c.of.ensures)
     (done_answer c.args.net.now c.args.fuel c.read.new.net c.read.new.asker.run

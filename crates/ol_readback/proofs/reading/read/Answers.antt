@@ -1,4 +1,4 @@
-use Rattle.ol_readback.proofs.Results.{on_err}
+use Rattle.ol_law_edges.proofs.Options.{on_err}
 use Rattle.ol_readback.proofs.reading.read.Goals as goal
 
 pub read_into-requires-clause-heads : goal.read_into-requires-clause-heads

@@ -1,10 +1,10 @@
 use Rattle.std.proofs.Common.{List, refl, sym, subst}
+use Rattle.std.proofs.lemmas.Option.{MatchOption-at_some}
 use Rattle.ol_net.specs.Numbered.{net_of}
 use Rattle.ol_readback.specs.ReadTrees.{IsTree}
 use Rattle.ol_readback.specs.declared.answers.ReadNode.{ReadNode}
 use Rattle.ol_readback.proofs.Forests.{tree_is_whole}
 use Rattle.ol_readback.proofs.Named.{tree_is_named}
-use Rattle.ol_readback.proofs.Results.{some_told}
 use Rattle.ol_readback.proofs.Sources.{own_heads}
 use Rattle.ol_readback.proofs.Walking.{walked_tree}
 use Rattle.ol_readback.proofs.reading.read_back.Goals as goal
@@ -14,14 +14,14 @@ read-requires-clause-begins c = record { graph = refl; budget = refl; tree = λ 
 
 pub of-requires-clause-whole : goal.of-requires-clause-whole
 of-requires-clause-whole c =
-    let w = some_told _ _ c.in_ok-nodes.field-0 c.in-Some.nodes c.in_ok-nodes.ensures.read c.in-Some.is in
+    let w = MatchOption-at_some _ _ c.in-Some.nodes c.in-Some.is c.in_ok-nodes.ensures.read in
     let t = walked_tree c.args.net.now c.args.edges c.read.new.net.now c.read.new.asker.edges
     c.args.heads w.0 c.in-Some.nodes.items w.1 w.2 in
     tree_is_whole (net_of c.args.net.now) c.args.heads c.args.edges c.in-Some.nodes.items t
 
 pub returns-clause-tree : goal.returns-clause-tree
 returns-clause-tree c =
-    let w = some_told _ _ c.in_ok-nodes.field-0 c.in-Some.nodes c.in_ok-nodes.ensures.read c.in-Some.is in
+    let w = MatchOption-at_some _ _ c.in-Some.nodes c.in-Some.is c.in_ok-nodes.ensures.read in
     let t = walked_tree c.args.net.now c.args.edges c.read.new.net.now c.read.new.asker.edges
     c.args.heads w.0 c.in-Some.nodes.items w.1 w.2 in
     subst (λ (ns : List ReadNode). IsTree (net_of c.args.net.now) c.args.heads c.args.edges ns) (sym c.of.ensures) t

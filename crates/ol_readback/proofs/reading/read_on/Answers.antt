@@ -5,7 +5,7 @@ use Rattle.ol_readback.specs.NextPlaces.{IsReader, ArePlacedIfSome}
 use Rattle.ol_readback.specs.declared.frames.Frame.{Frame}
 use Rattle.ol_readback.proofs.Onward.{stopped_read, ended_read, read_stops, after_read, before_next}
 use Rattle.ol_readback.proofs.Onward.{at_end, at_cut, first_before}
-use Rattle.ol_readback.proofs.Results.{on_err}
+use Rattle.ol_law_edges.proofs.Options.{on_err}
 use Rattle.ol_readback.proofs.reading.read_on.Goals as goal
 
 clash : true ≡ false → ⊥

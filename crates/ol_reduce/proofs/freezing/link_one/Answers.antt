@@ -2,9 +2,8 @@ use Rattle.std.proofs.Common.{◌⊎◌, refl, sym, ap, ◌∙◌, subst, arith}
 use Rattle.ol_wire.specs.declared.layout.Parts.{Parts}
 use Rattle.ol_reduce.specs.Found.{wire_word, IsStartWire, IsBornWire}
 use Rattle.ol_reduce.proofs.Arriving.{table_long}
-use Rattle.ol_reduce.proofs.Walking.{empty_done, is_first, link_done, link_keeps, node_in}
-use Rattle.ol_reduce.proofs.Walking.{node_linked, port_within, port_linked, port_known, wire_within}
-use Rattle.ol_reduce.proofs.Walking.{other_within, wire_done, wire_keeps, wire_at}
+use Rattle.ol_reduce.proofs.Walking.{empty_done, is_first, link_done, link_keeps, node_in, node_linked, port_within}
+use Rattle.ol_reduce.proofs.Walking.{port_linked, port_known, wire_within, other_within, wire_done, wire_keeps, wire_at}
 use Rattle.ol_reduce.proofs.freezing.link_one.Goals as goal
 
 pub returns-then-first-eq0-clause-after : goal.returns-then-first-eq0-clause-after

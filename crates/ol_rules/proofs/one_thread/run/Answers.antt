@@ -3,8 +3,9 @@ use Rattle.ol_rules.specs.declared.journal.NodeName.{NodeName}
 use Rattle.ol_rules.specs.declared.journal.Entry.{Entry}
 use Rattle.ol_rules.specs.Runs.{RunsTo}
 use Rattle.ol_rules.proofs.OnTheWay.{IsUnderWay, begins}
-use Rattle.ol_rules.proofs.OneThread.{on_err, some_active, runs_to, stops_here, stops_after, advanced, within_on}
+use Rattle.ol_rules.proofs.OneThread.{some_active, runs_to, stops_here, stops_after, advanced, within_on}
 use Rattle.ol_rules.proofs.one_thread.run.Goals as goal
+use Rattle.ol_law_edges.proofs.Options.{on_err}
 
 pub returns-in_err-running-clause-no_memory : goal.returns-in_err-running-clause-no_memory
 returns-in_err-running-clause-no_memory c =

@@ -1,8 +1,8 @@
 use Rattle.std.proofs.Common.{refl}
-use Rattle.ol_rules.proofs.OneThread.{on_err}
 use Rattle.ol_readback.specs.Frames.{frames_of}
 use Rattle.ol_demand.proofs.Chained.{answered_by, stopped_by}
 use Rattle.ol_demand.proofs.asking.ChainsAsksNet.ask.Goals as goal
+use Rattle.ol_law_edges.proofs.Options.{on_err}
 
 pub returns-clause-answered : goal.returns-clause-answered
 returns-clause-answered c =

@@ -12,7 +12,7 @@ use Rattle.ol_readback.specs.declared.answers.Head.{Head}
 use Rattle.ol_readback.specs.declared.frames.Frame.{Frame}
 use Rattle.ol_readback.proofs.NextPlaces.{read_stopped, read_stopped_after, read_ended, read_none, read_cut, read_found}
 use Rattle.ol_readback.proofs.Places.{list_push, list_pushed, list_more, with_lams, written}
-use Rattle.ol_readback.proofs.Results.{on_err}
+use Rattle.ol_law_edges.proofs.Options.{on_err}
 use Rattle.ol_readback.proofs.FrameLists.{count_frames}
 use Rattle.ol_readback.proofs.Skips.{parents_any}
 use Rattle.ol_readback.proofs.reading.Reader.read_frame.Goals as goal

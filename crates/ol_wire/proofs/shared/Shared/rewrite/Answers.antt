@@ -1,5 +1,4 @@
-use Rattle.std.proofs.Common.{◌≡◌, ◌+◌, ℕ, Option, Some, None, IfSome, List, get_or, refl, sym, ap}
-use Rattle.std.proofs.Common.{◌∙◌, subst, arith}
+use Rattle.std.proofs.Common.{◌≡◌, ◌+◌, ℕ, Option, Some, None, IfSome, List, get_or, refl, sym, ap, ◌∙◌, subst, arith}
 use Rattle.ol_wire.specs.declared.layout.Parts.{Parts}
 use Rattle.ol_wire.specs.declared.view.View.{View}
 use Rattle.ol_wire.specs.declared.begun.Begun.{Begun}
@@ -19,9 +18,8 @@ use Rattle.ol_wire.specs.Rewrites.{event_for}
 use Rattle.ol_wire.specs.Moments.{WasPending}
 use Rattle.ol_wire.specs.TurnParts.{HasBegunOrLate, HasFieldsOf}
 use Rattle.ol_wire.proofs.Ticket.Refs.{joins_few}
-use Rattle.ol_wire.proofs.Steps.Hold.{of_pair, node_in_hand, seen, still_in_hand}
-use Rattle.ol_wire.proofs.Steps.Hold.{owing_in_hand, owed_after, late_told, looked_up, looked_twice}
-use Rattle.ol_wire.proofs.Steps.Hold.{rewritten, due_of_ticket}
+use Rattle.ol_wire.proofs.Steps.Hold.{of_pair, node_in_hand, seen, still_in_hand, owing_in_hand, owed_after, late_told}
+use Rattle.ol_wire.proofs.Steps.Hold.{looked_up, looked_twice, rewritten, due_of_ticket}
 use Rattle.ol_law_edges.proofs.Lists.{in_right}
 use Rattle.ol_wire.proofs.shared.Shared.rewrite.Goals as goal
 
