@@ -1,16 +1,16 @@
-//! Why a term is not translated.
+//! Why a term isn't translated.
 
 ghost use Rattle.std.specs.Prelude.{◌≡◌};
 ghost use Rattle.ol_translate.specs.declared.faults.TransFault.TheVariants.{NoMemory};
 
 use std::alloc::{AllocError, AllocFailed};
 
-/// Why a term is not translated.
+/// Why a term isn't translated.
 #[derive(Clone, Copy, Debug, PartialEq, Eq)]
 pub enum TransFault {
-    /// The net would have more than 200,000 nodes.
+    /// The net has more than 200,000 nodes.
     TooMany,
-    /// Memory ran out.
+    /// A memory allocation failed.
     NoMemory,
 }
 

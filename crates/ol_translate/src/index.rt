@@ -1,4 +1,4 @@
-//! Where the wires of variables stand.
+//! The position of a variable in a list of wires.
 
 ghost use Rattle.std.specs.Prelude.{◌≡◌, None, Some, slice_get, OnOk, IfErr, MatchOption};
 ghost use Rattle.ol_translate.specs.Translation.{wire_of};
@@ -9,22 +9,22 @@ use crate::faults::TransFault;
 use crate::wires::Wire;
 use std::alloc::Global;
 
-/// The place of each variable's wire in a list of wires. What it holds of another variable says
-/// nothing.
+/// The position of each variable's wire in a list of wires. The entry for a variable without a wire
+/// in the list has no meaning.
 #[derive(Drop)]
 pub struct Index {
     pub places: Vec<usize>,
 }
 
 impl Index {
-    /// The index of no wires.
+    /// An empty index.
     pub fn new(alloc: Global) -> Index {
         Index {
             places: Vec::new(alloc),
         }
     }
 
-    /// Notes the place of a variable's wire.
+    /// Notes the position of a variable's wire.
     pub fn note(&mut self, variable: usize, place: usize) -> Result<(), TransFault>
         ensures noted { OnOk result (slice_get self.new.places.items variable ≡ Some place) }
         ensures kept { OnOk result (
@@ -42,7 +42,7 @@ impl Index {
         Ok(())
     }
 
-    /// Notes the places of all these wires.
+    /// Notes the positions of all these wires.
     pub fn fill(&mut self, wires: &Vec<Wire>) -> Result<(), TransFault>
         requires one_each { HaveOneEach wires.now.items }
         ensures index { OnOk result (IsIndex self.new.places.items wires.now.items) }
@@ -54,7 +54,7 @@ impl Index {
         Ok(())
     }
 
-    /// The place of a variable's wire.
+    /// The position of a variable's wire, or `None` if the list has none.
     pub fn place_of(&self, wires: &Vec<Wire>, variable: usize) -> Option<usize>
         requires { IsIndex self.now.places.items wires.now.items }
         ensures { MatchOption result (wire_of variable wires.now.items ≡ None)

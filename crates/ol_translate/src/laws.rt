@@ -1,4 +1,4 @@
-//! The law of the translations.
+//! The theorem on the translations.
 
 ghost use Rattle.ol_translate.specs.Laws.{TranslationIsNet};
 

@@ -1,4 +1,4 @@
-//! The walk over a term that lays down its nodes and links.
+//! The recursive construction of nodes and links.
 
 ghost use Rattle.std.specs.Prelude.{◌≡◌, ℕ, ◌^◌, All, ◌≤◌, ◌<◌, ◌+◌, ◌++◌, [], ◌∷◌, length, IfOk, OnOk, IfErr};
 ghost use Rattle.ol_term.specs.Trees.{tree_of};
@@ -17,8 +17,8 @@ use ol_term::{Term, Translation};
 use std::alloc::Global;
 
 impl Parts {
-    /// A whole term, at level 0. Its root is joined to free port 0, and the wire of each name to
-    /// the name's free port.
+    /// A whole term, at level 0. Its root is linked to free port 0, and the wire of each name to
+    /// the free port of the name.
     pub fn whole(alloc: Global, term: &Term, translation: Translation) -> Result<Parts, TransFault>
         requires { (names : ℕ) × HasNames (tree_of term.now) names }
         ensures nodes { IfOk result (λ parts.
@@ -54,7 +54,7 @@ impl Parts {
         Ok(())
     }
 
-    /// A term under so many abstractions and at a level.
+    /// A subterm with `depth` enclosing abstractions, at a level.
     pub fn part(
         &mut self,
         translation: Translation,

@@ -1,12 +1,14 @@
-//! Terms as nets.
+//! Translation of terms into nets.
 //!
 //! - `nets`: the net of a term
-//! - `faults`: why a term is not translated
-//! - `parts`: the nodes and links that are laid down
-//! - `wires`: the ports at which the variables of a term leave it
-//! - `index`: where the wires of variables stand
-//! - `laying`: the walk over a term that lays down its nodes and links
-//! - `laws`: the law of the translations
+//! - `faults`: why a term isn't translated
+//! - `parts`: the nodes and links under construction
+//! - `wires`: the free variables of a subterm, and the ports at which their wires end
+//! - `index`: the position of a variable in a list of wires
+//! - `laying`: the recursive construction of nodes and links
+//! - `laws`: the theorem on the translations
+//!
+//! That both translations of a term lead to the same printed tree is only tested.
 #![tactic(auto)]
 
 mod faults;

@@ -15,30 +15,32 @@ use ol_net::{BuildFault, Net};
 use ol_term::{TermFile, Translation};
 use std::alloc::Global;
 
-/// The net of a term by one of the two translations: Lamping's graph of it, with croissants and
-/// brackets for levels (Gonthier, Abadi and Lévy, The geometry of optimal lambda reduction, 1992;
-/// which of their variants it is, this says).
+/// The net of a term by one of the two translations: Lamping's sharing graph, with croissants and
+/// brackets for levels (Gonthier, Abadi and Lévy, The Geometry of Optimal Lambda Reduction, POPL
+/// 1992). Variants of the translation exist; this docstring defines the variant used here.
 ///
-/// The root, at level 0, is joined to free port 0, and free name k, from 0, has free port k + 1. An
-/// occurrence at level n is a croissant n; an abstraction is an abstraction node n, whose body
-/// stands at level n, with an eraser where its variable isn't free in it; an application is an
-/// application node n, whose function stands at level n and whose argument at level n + 1, with a
-/// bracket n for each variable of the argument and a fan n for each variable of both, each once and
-/// in order of first occurrence in the argument. Slot 0 of an occurrence, of a bracket and of a fan
-/// is on the side of the binder.
+/// The root, at level 0, is linked to free port 0, and free name k, from 0, has free port k + 1. A
+/// variable occurrence at level n is a croissant of index n. An abstraction at level n is an
+/// abstraction node of index n, whose body is at level n; an eraser ends its variable's wire if the
+/// variable isn't free in the body. An application at level n is an application node of index n,
+/// whose function is at level n and whose argument is at level n + 1. Each free variable of the
+/// argument has a bracket of index n, and each variable that is free in both subterms also has a
+/// fan of index n, each once, in the order of first occurrence in the argument. The principal port
+/// of a croissant, a bracket and a fan points towards the binder.
 ///
-/// Translation 2 has one case more, tried before that of an application: where the argument is a
-/// variable, it has no node of its own, and slot 2 of the application is the variable's wire. Where
-/// the variable is free in the function too, a fan n joins the function's wire, at slot 1, with it,
-/// at slot 2.
+/// Translation 2 has a special case for an argument that is a variable: the argument has no nodes,
+/// and slot 2 of the application is the wire of the variable. If the variable is also free in the
+/// function, a fan of index n joins the two wires: slot 1 is the function's wire, and slot 2 the
+/// argument's wire.
 ///
-/// Nodes are numbered from 0 in preorder: a node before those of its subterms, the function before
-/// the argument, an eraser after its abstraction's body, and brackets and then fans after both
-/// terms of their application.
+/// Nodes are numbered from 0 in preorder: a node before the nodes of its subterms, the function
+/// before the argument, an eraser after the body of its abstraction, and brackets followed by fans
+/// after both subterms of their application.
 ///
-/// Each name of the file occurs in its term, whose depth is at most 1,000, as in every file that is
-/// parsed: so there are no more names than nodes. `TooMany` comes exactly where the net would have
-/// more than 200,000 nodes; nothing is built past that. `NoMemory`: no memory was found.
+/// Each name of the file occurs in its term, and the depth of the term is at most 1,000, as in
+/// every file that is parsed; it follows that there are at most as many names as nodes. `TooMany`:
+/// exactly if the net has more than 200,000 nodes; construction stops at the first node after
+/// these. `NoMemory`: no memory was found.
 pub fn translate(
     alloc: Global,
     file: &TermFile,

@@ -1,4 +1,4 @@
-//! The nodes and links that are laid down.
+//! The nodes and links under construction.
 
 ghost use Rattle.std.specs.Prelude.{◌≡◌, ◌≤◌, ◌<◌, ◌++◌, [], ◌∷◌, length, IfOk, OnOk, IfErr};
 ghost use Rattle.ol_limits.specs.Limits.{most_nodes};
@@ -11,7 +11,8 @@ use ol_limits::MOST_NODES;
 use ol_net::{Kind, Port};
 use std::alloc::Global;
 
-/// The nodes, in order of their numbers, and the links. The index serves each application in turn.
+/// The nodes, in the order of their numbers, and the links. All applications use the same index,
+/// one after another.
 #[derive(Drop)]
 pub struct Parts {
     pub alloc: Global,
@@ -22,7 +23,7 @@ pub struct Parts {
 }
 
 impl Parts {
-    /// Lays down a node, and gives its number.
+    /// Adds a node, and returns its number.
     pub fn add(&mut self, kind: Kind, index: u32) -> Result<u32, TransFault>
         ensures number { IfOk result (λ number. number ≡ length self.old.nodes.items) }
         ensures nodes { OnOk result (self.new.nodes.items
@@ -41,7 +42,7 @@ impl Parts {
         Ok(number as u32)
     }
 
-    /// Lays down a link.
+    /// Adds a link.
     pub fn join(&mut self, one: Port, other: Port) -> Result<(), TransFault>
         ensures links { OnOk result (self.new.links.items
             ≡ self.old.links.items ++ (one, other) ∷ []) }

@@ -1,4 +1,4 @@
-//! Wires: the ports at which the variables of a term leave it.
+//! Wires: the free variables of a subterm, and the ports at which their wires end.
 
 ghost use Rattle.std.specs.Prelude.{◌≡◌, ◌^◌, ◌<◌};
 ghost use Rattle.ol_term.specs.Trees.{tree_of};
@@ -7,12 +7,12 @@ ghost use Rattle.ol_translate.specs.Translation.{bare_variable, wire_of, slot_po
 use ol_net::{NodeId, Port};
 use ol_term::{Term, Translation};
 
-/// A variable and its port. Variables are counted outwards, and the free names lie outside of all
-/// abstractions.
+/// A variable and the port at which its wire ends. Variables are de Bruijn numbers; the numbers of
+/// free names follow the numbers of all enclosing abstractions.
 pub type Wire = (usize, Port);
 
-/// What is left open of a term that is laid down: its root, and the wires of its variables in order
-/// of first occurrence.
+/// The open ends of a subterm's net: its root, and the wires of its free variables in the order of
+/// first occurrence.
 #[derive(Drop)]
 pub struct Ends {
     pub root: Port,
@@ -34,8 +34,8 @@ pub fn slot_of(number: u32, at: u8) -> Port
     }
 }
 
-/// The variable that an argument is, where the translation takes its wire in place of a part of its
-/// own. The argument stands under so many abstractions.
+/// The variable that an argument is, if the translation uses its wire instead of a box. The
+/// argument has `depth` enclosing abstractions.
 pub fn bare_variable(translation: Translation, depth: usize, argument: &Term) -> Option<usize>
     requires small { depth < 2 ^ 32 }
     ensures { result ≡ bare_variable translation depth (tree_of argument.now) }
