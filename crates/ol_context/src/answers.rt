@@ -1,55 +1,53 @@
-//! What crossings and walks answer.
+//! The answers of crossings and walks.
 
 use crate::row::Context;
 use ol_net::Port;
 
-/// What a crossing answers.
+/// The answer of a crossing.
 #[derive(Clone, Copy, Debug, PartialEq, Eq)]
 pub enum Cross {
-    /// The port of the same node by which the walk leaves.
+    /// The port of the same node by which the path leaves the node.
     Out(Port),
-    /// No crossing is defined there with this context.
+    /// The node has no crossing from this port with this context.
     Undefined,
 }
 
-/// What a walk answers.
+/// The answer of a walk.
 #[derive(Drop)]
 pub enum Walk {
-    /// The walk has reached the free port with number `port`, with this context, after so many
-    /// crossings.
+    /// The walk arrived at free port `port`, with this context, after `crossings` crossings.
     Exit {
         port: u32,
         context: Context,
         crossings: u64,
     },
-    /// The crossing that was tried as number `crossings`, counted from 1, is not defined.
+    /// The crossing with number `crossings`, from 1, isn't defined.
     Undefined {
         crossings: u64,
     },
-    /// All crossings that were allowed were made, and the walk stands at a node.
+    /// The walk made all allowed crossings, and is at a node.
     Budget,
 }
 
-/// What the walk that asks for all numbers of abstractions answers.
+/// The answer of a walk for all numbers of abstractions at once.
 #[derive(Drop)]
 pub enum OpenWalk {
-    /// Asked for `lams` abstractions the walk reaches the free port with number `port`, with this
-    /// context, after so many crossings. Asked for fewer it tries a crossing that is not defined.
+    /// For `lams` abstractions the walk arrives at free port `port`, with this context, after
+    /// `crossings` crossings. For each smaller number a crossing isn't defined.
     Exit {
         lams: u64,
         port: u32,
         context: Context,
         crossings: u64,
     },
-    /// Whatever it is asked for, the walk tries a crossing that is not defined: at the latest the
-    /// one tried as number `crossings`, counted from 1. `lams` is the least number for which it is
-    /// that one.
+    /// For each number a crossing isn't defined, at the latest the crossing with number
+    /// `crossings`, from 1. `lams` is the least number for which it is this crossing.
     Undefined {
         lams: u64,
         crossings: u64,
     },
-    /// Asked for `lams` abstractions the walk makes all crossings that are allowed and stands at a
-    /// node. Asked for fewer it tries a crossing that is not defined.
+    /// For `lams` abstractions the walk makes all allowed crossings, and is at a node. For each
+    /// smaller number a crossing isn't defined.
     Budget {
         lams: u64,
     },

@@ -9,7 +9,7 @@ use ol_limits::NoMemory;
 use std::alloc::Global;
 use std::marker::Model;
 
-/// The number of a level value in its holder. Contracts see it as that number.
+/// The number of a level value in its holder. Contracts view it as that number.
 #[derive(Clone, Copy, PartialEq, Eq, Hash)]
 pub struct Val {
     at: u32,
@@ -33,7 +33,7 @@ impl Val {
     }
 }
 
-/// A level value by its parts: `empty`, `o.v`, `*.v` or `<v,w>`.
+/// The parts of a level value: `empty`, `o.v`, `*.v` or `<v,w>`.
 #[derive(Clone, Copy, PartialEq, Eq, Hash)]
 pub enum Shape {
     Empty,
@@ -42,10 +42,10 @@ pub enum Shape {
     Pair(Val, Val),
 }
 
-/// Level values, each held once and named by a `Val`. Contracts see the list of the values, by
-/// number.
+/// Level values, each of which is held once and has a `Val` as its number. Contracts view the list
+/// of the values, by number.
 ///
-/// Each `Val` keeps its value, until `cut` takes it away. There are at most 4294967295 values.
+/// Each `Val` keeps its value until `cut` removes it. There are at most 4,294,967,295 values.
 #[derive(Drop)]
 pub struct Values {
     // number 0 is the empty value, number k + 1 has shape k
@@ -70,7 +70,7 @@ impl Model for Values {
 }
 
 impl Values {
-    /// Holds the empty value alone. Takes no memory.
+    /// A holder with the empty value only. Takes no memory.
     pub fn new(alloc: Global) -> Values
         ensures { result ≡ empty ∷ [] }
     {
@@ -79,14 +79,14 @@ impl Values {
         }
     }
 
-    /// Law: there are fewer than 2^32 values.
+    /// Theorem: there are fewer than 2^32 values.
     pub fn are_few(&self)
         ensures few { length self.now < 2 ^ 32 }
     {
         let _ = &self.shapes;
     }
 
-    /// How many values there are.
+    /// The number of values.
     pub fn count(&self) -> u32
         ensures is { result ≡ length self.now }
         ensures some { 0 < result }
@@ -95,7 +95,7 @@ impl Values {
         self.shapes.len() as u32 + 1
     }
 
-    /// Keeps the first `count` values, of which there is at least one, and takes the others away.
+    /// Keeps the first `count` values, at least one, and removes all other values.
     pub fn cut(&mut self, count: u32)
         requires { 0 < count }
         ensures { self.new ≡ take count self.old }
@@ -112,7 +112,7 @@ impl Values {
         Val { at: 0 }
     }
 
-    /// The parts of a value of this holder. Takes no memory.
+    /// The parts of a value. The value is of this holder. Takes no memory.
     pub fn shape(&self, v: Val) -> Shape
         requires { IsHeld self.now v }
         ensures is { value self.now v ≡ level_of_shape self.now result }
@@ -147,7 +147,7 @@ impl Values {
         })
     }
 
-    /// The value `o.v`, of a value of this holder. Earlier values stay.
+    /// The value `o.v`. The value `v` is of this holder. Values held before are unchanged.
     ///
     /// `NoMemory`: no memory was found, and the holder is unchanged.
     pub fn put_o(&mut self, v: Val) -> Result<Val, NoMemory>
@@ -159,7 +159,7 @@ impl Values {
         self.put(Shape::O(v))
     }
 
-    /// The value `*.v`, of a value of this holder. Earlier values stay.
+    /// The value `*.v`. The value `v` is of this holder. Values held before are unchanged.
     ///
     /// `NoMemory`: no memory was found, and the holder is unchanged.
     pub fn put_star(&mut self, v: Val) -> Result<Val, NoMemory>
@@ -171,7 +171,7 @@ impl Values {
         self.put(Shape::Star(v))
     }
 
-    /// The value `<a,b>`, of two values of this holder. Earlier values stay.
+    /// The value `<a,b>`. Both values are of this holder. Values held before are unchanged.
     ///
     /// `NoMemory`: no memory was found, and the holder is unchanged.
     pub fn put_pair(&mut self, a: Val, b: Val) -> Result<Val, NoMemory>
@@ -185,8 +185,8 @@ impl Values {
         self.put(Shape::Pair(a, b))
     }
 
-    /// Whether two values of this holder are equal as trees: exactly where they are one number.
-    /// Takes no memory.
+    /// Whether two values are equal as trees, which is so exactly if their numbers are equal. Both
+    /// values are of this holder. Takes no memory.
     pub fn equal(&self, a: Val, b: Val) -> bool
         requires first { IsHeld self.now a }
         requires second { IsHeld self.now b }
@@ -197,7 +197,7 @@ impl Values {
         a.at == b.at
     }
 
-    /// Whether two values of this holder are equal as trees, as `equal` says.
+    /// Whether two values of this holder are equal as trees, as `equal` answers, in a `Result`.
     pub fn same(&self, a: Val, b: Val) -> Result<bool, NoMemory>
         requires first { IsHeld self.now a }
         requires second { IsHeld self.now b }

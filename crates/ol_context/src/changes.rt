@@ -1,4 +1,5 @@
-//! What nodes do to the levels of a context, in place. An index `i` is that of the node.
+//! The changes that nodes make to the levels of a context, in place. An index `i` is the index of
+//! the node.
 
 ghost use Rattle.std.specs.List.{insert as inserted};
 ghost use Rattle.std.specs.Prelude.{◌≡◌, ◌-◌, ◌<◌, ◌≤◌, ◌++◌, length, replicate, IfOk, OnOk, OnErr};
@@ -158,7 +159,7 @@ fn bracket_down(values: &Values, levels: &mut Vec<Val>, i: usize) -> Result<Opti
     }
 }
 
-/// The change of a node on the way from its slot `s + 1` to its slot 0.
+/// The change on the way from an auxiliary port, slot `s + 1`, to the principal port.
 pub fn rise(
     values: &mut Values,
     levels: &mut Vec<Val>,
@@ -184,7 +185,8 @@ pub fn rise(
     }
 }
 
-/// The way from a node's slot 0 to its slot `s + 1`, with the context before that slot's change.
+/// The way from the principal port to an auxiliary port, slot `s + 1`, with the context before the
+/// change of that slot.
 pub fn fall(
     values: &Values,
     levels: &mut Vec<Val>,

@@ -1,4 +1,4 @@
-//! Crossings of nodes.
+//! Crossings: the traversal of a node.
 
 ghost use Rattle.std.specs.Prelude.{◌≡◌, ◌≤◌, IfOk, OnErr};
 ghost use Rattle.ol_net.specs.Parts.{arity};
@@ -42,11 +42,11 @@ pub fn cross_node(
     Ok(Some(0))
 }
 
-/// Enters a node by the port `at`, which is a port of a live node, and changes the context, whose
-/// levels are of this holder.
+/// Enters a live node by its port `at`, and changes the context, whose levels are of this holder.
 ///
-/// `Undefined` comes exactly where no crossing is defined, and then the context is unchanged.
-/// `NoMemory`: no memory was found, and the context is unchanged.
+/// `Undefined` is returned exactly if the node has no crossing from this port with this context,
+/// and the context is then unchanged. `NoMemory`: no memory was found, and the context is
+/// unchanged.
 pub fn cross(
     net: &Net,
     values: &mut Values,

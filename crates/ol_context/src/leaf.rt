@@ -1,8 +1,8 @@
-//! The leaf of an open context, and what crossings make of it.
+//! The leaf of an open context, and its changes in crossings.
 
 use crate::arena::Val;
 
-/// What stands round a leaf: `o._`, `*._`, `<_,v>` or `<v,_>`.
+/// A constructor around a leaf: `o._`, `*._`, `<_,v>` or `<v,_>`.
 #[derive(Clone, Copy)]
 pub enum Around {
     O,
@@ -11,20 +11,20 @@ pub enum Around {
     Second(Val),
 }
 
-/// The level that has the leaf, and what stands round the leaf, the innermost part first.
+/// The level that contains the leaf, and the constructors around the leaf, from the innermost.
 #[derive(Drop)]
 pub struct Leaf {
     pub at: usize,
     pub around: Vec<Around>,
 }
 
-/// What a crossing makes of a leaf, which is a number of `o` before the empty value.
+/// How a crossing changes a leaf, which represents a number of `o` before the empty value.
 #[derive(Clone, Copy)]
 pub enum Fate {
-    /// It only moves.
+    /// The leaf is unchanged, except for its position.
     Stays,
-    /// It has given off one `o`.
+    /// The leaf has lost an `o`.
     Grows,
-    /// It was the empty value, and is gone.
+    /// The leaf was the empty value, and is removed.
     Goes,
 }

@@ -1,4 +1,4 @@
-//! What nodes do to a row of levels of which one has a leaf. The list is that of the other levels.
+//! The changes that nodes make to a list of levels with a leaf. The list contains the other levels.
 
 ghost use Rattle.std.specs.Prelude.{◌≡◌, ◌+◌, ◌<◌, ◌≤◌, ◌++◌, [], ◌∷◌, ℕ, List, IfOk, OnOk, OnErr};
 ghost use Rattle.ol_net.specs.Parts.{arity};
@@ -34,7 +34,7 @@ fn take_out(levels: &mut Vec<Val>, i: usize)
     }
 }
 
-/// Puts a value in as level `i`.
+/// Inserts a value as level `i`.
 pub fn put_in(levels: &mut Vec<Val>, i: usize, v: Val, none: Val) -> Result<(), NoMemory>
     requires small { i < 18446744073709551615 }
     ensures held { OnOk result (AreHeldWithIt v none levels.old.items levels.new.items) }
@@ -138,7 +138,7 @@ fn pack_round(
     Ok(())
 }
 
-/// The change of a node on the way from its slot `s + 1` to its slot 0.
+/// The change on the way from an auxiliary port, slot `s + 1`, to the principal port.
 pub fn rise_open(
     values: &mut Values,
     levels: &mut Vec<Val>,
@@ -326,7 +326,7 @@ fn fall_before(
     Ok(Some((s + 1, Fate::Stays)))
 }
 
-/// The way from a node's slot 0 to its slot `s + 1`.
+/// The way from the principal port to an auxiliary port, slot `s + 1`.
 pub fn fall_open(
     values: &Values,
     levels: &mut Vec<Val>,

@@ -1,27 +1,31 @@
-//! Level values, contexts, crossings of nodes and walks (Gonthier, Abadi and Lévy, The Geometry of
-//! Optimal Lambda Reduction, 1992).
+//! Context semantics: level values, contexts, and paths (Gonthier, Abadi and Lévy, The Geometry of
+//! Optimal Lambda Reduction, POPL 1992).
 //!
 //! A level value is `empty`, `o.v`, `*.v` or `<v,w>`, where v and w are level values. A context is
-//! an unending row of level values, of which all but finitely many are empty. A walk starts at a
-//! free port with a context, follows the link, and crosses node after node, each of which changes
-//! the context, until it comes to a free port.
+//! an infinite sequence of level values, almost all of which are empty. A path (walk) starts at a
+//! free port with a context, follows the link, and traverses node after node, each of which changes
+//! the context, until it arrives at a free port. The traversal of a node is called a crossing.
 //!
-//! An open context has a leaf in the place of one level's value and stands for many contexts at
-//! once, one for each number of abstractions that may be asked for. An open walk finds the least
-//! number for which the walk leaves, without a walk for each.
+//! An open context has a leaf instead of the value of some level and represents many contexts at
+//! once, a context for each number of abstractions that a question may assume. An open walk finds
+//! the least number for which the path leaves the net, without a walk for each number.
 //!
 //! - `arena`: the holder of level values
 //! - `row`: contexts
-//! - `changes`: what nodes do to the levels of a context
-//! - `crossing`: crossings of nodes
+//! - `changes`: the changes that nodes make to the levels of a context
+//! - `crossing`: the traversal of a node
 //! - `walking`: walks with a budget
 //! - `steps`: a counter of crossings
-//! - `leaf`: the leaf of an open context, and what crossings make of it
-//! - `leaf_changes`: what nodes do to a row of levels of which one has a leaf
+//! - `leaf`: the leaf of an open context, and its changes in crossings
+//! - `leaf_changes`: the changes that nodes make to a list of levels with a leaf
 //! - `open`: open contexts
-//! - `open_walking`: their crossings and walks
-//! - `answers`: what crossings and walks answer
-//! - `laws`: the laws of all of these
+//! - `open_walking`: crossings and walks with open contexts
+//! - `answers`: the answers of crossings and walks
+//! - `laws`: the theorems on contexts, crossings and walks
+//!
+//! The contract of the toolchain's `indexmap` is trusted: it finds a level value that is already
+//! held. A holder of 4,294,967,295 values returns `NoMemory` for every value, including values that
+//! it holds.
 #![tactic(auto)]
 
 mod answers;

@@ -17,12 +17,12 @@ use ol_limits::NoMemory;
 use ol_net::Kind;
 use std::marker::Model;
 
-/// A context in which at most one level has a leaf in the place of a value, and a number `lams`. It
-/// stands for n where the leaf is read as n - `lams` times `o` before the empty value, for each n
-/// from `lams` on. Once the leaf is gone it stands for `lams` alone.
+/// A context in which at most one level has a leaf instead of a value, and a number `lams`. For
+/// each n from `lams` on it represents the context in which the leaf is n - `lams` times `o` before
+/// the empty value. After the leaf was removed, it represents a single context, for n = `lams`.
 ///
-/// Contracts see the levels but for that one, by their numbers; which level has the leaf, with the
-/// parts round the leaf; and `lams`.
+/// Contracts view the numbers of the levels except the level with the leaf, which level this is,
+/// with the constructors around the leaf, and `lams`.
 #[derive(Drop)]
 pub struct OpenContext {
     levels: Vec<Val>,
@@ -107,7 +107,7 @@ fn fill(values: &mut Values, around: &Vec<Around>, v: Val) -> Result<Val, NoMemo
 }
 
 impl OpenContext {
-    /// These levels, and then the leaf, with `lams` 0. Takes no memory.
+    /// These levels, followed by the leaf, with `lams` 0. Takes no memory.
     pub fn of(levels: Vec<Val>) -> OpenContext
         ensures { result ≡ opened levels.items }
     {
@@ -120,7 +120,7 @@ impl OpenContext {
         }
     }
 
-    /// The least number that the context stands for.
+    /// The least number n for which it represents a context.
     pub fn lams(&self) -> u64
         ensures { result ≡ self.now.lams }
     {

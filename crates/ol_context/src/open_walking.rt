@@ -1,4 +1,4 @@
-//! Crossings and walks of open contexts.
+//! Crossings and walks with open contexts.
 
 ghost use Rattle.std.specs.Prelude.{◌≡◌, ◌^◌, ◌+◌, ◌-◌, ◌<◌, ◌≤◌, IfOk, OnErr};
 ghost use Rattle.ol_context.specs.Shapes.{AreHeld, Extends};
@@ -15,14 +15,13 @@ use ol_limits::NoMemory;
 use ol_net::{Net, Port};
 use std::sync::ledger::Ledger;
 
-/// Enters a node by the port `at`, which is a port of a live node, with all contexts at once that
-/// an open context stands for, whose values are of this holder. `lams` is below
-/// 18446744073709551615. Ticks once.
+/// Enters a live node by its port `at`, with all contexts at once that an open context represents.
+/// The values are of this holder, and `lams` is below 2^64 - 1. Counts a crossing.
 ///
-/// The walk leaves by the port that is answered, for just those n for which the crossing is
-/// defined, and the context stands for these n afterwards. `Undefined` comes exactly where no
-/// crossing is defined for any n that the context stands for, and then it is unchanged. `NoMemory`:
-/// no memory was found, and the context is unchanged.
+/// The path leaves by the returned port exactly for those n for which the crossing is defined, and
+/// the context represents the contexts for these n afterwards. `Undefined` is returned exactly if
+/// the crossing isn't defined for any n, and the context is then unchanged. `NoMemory`: no memory
+/// was found, and the context is unchanged.
 pub fn cross_open<L: Ledger>(
     net: &Net,
     values: &mut Values,
@@ -56,13 +55,13 @@ pub fn cross_open<L: Ledger>(
     Ok(Cross::Out(Port::Of { node, slot }))
 }
 
-/// Starts at the free port `from`, which the net has, and asks for all numbers of abstractions at
-/// once: the walk for n has these levels, which are of this holder, then n times `o` before the
-/// empty value, then empty levels. Tries, and counts, at most `edges` crossings.
+/// Walks from the free port `from`, which the net has, for all numbers of abstractions at once: the
+/// walk for n starts with these levels, which are of this holder, followed by a level of n times
+/// `o` before the empty value, and by empty levels. Tries, and counts, at most `edges` crossings.
 ///
-/// `Exit` and `Budget` come exactly where `walk` for `lams` abstractions gives the same answer, and
-/// for each smaller number a crossing is not defined. `Undefined` comes exactly where that is so
-/// for every number. `NoMemory`: no memory was found.
+/// `Exit` and `Budget` are returned exactly if `walk` for `lams` abstractions returns the same
+/// answer and a crossing isn't defined for each smaller number. `Undefined` is returned exactly if
+/// a crossing isn't defined for every number. `NoMemory`: no memory was found.
 pub fn walk_open<L: Ledger>(
     net: &Net,
     values: &mut Values,

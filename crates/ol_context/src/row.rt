@@ -6,8 +6,8 @@ ghost use Rattle.ol_context.specs.Shapes.{value, IsHeld, AreHeld, context_of};
 use crate::arena::{Val, Values};
 use std::marker::Model;
 
-/// An unending row of level values: a finite list, and then empty levels without end. Contracts see
-/// the list. The values of the list are of one holder.
+/// An infinite sequence of level values: a finite list, followed by empty levels. Contracts view
+/// the list. All values of the list are of the same holder.
 #[derive(Drop)]
 pub struct Context {
     pub(crate) levels: Vec<Val>,
@@ -22,21 +22,22 @@ impl Model for Context {
 }
 
 impl Context {
-    /// The context that begins with these levels. Takes no memory.
+    /// The context that starts with these levels. Takes no memory.
     pub fn of(levels: Vec<Val>) -> Context
         ensures { result ≡ levels.items }
     {
         Context { levels }
     }
 
-    /// The length of the list. Every level from there on is empty.
+    /// The length of the list. All further levels are empty.
     pub fn len(&self) -> usize
         ensures { result ≡ length self.now }
     {
         self.levels.len()
     }
 
-    /// Level `k`, the empty value past the list. The levels are of this holder.
+    /// Level `k`, which is the empty value after the end of the list. The levels are of this
+    /// holder.
     pub fn level(&self, values: &Values, k: usize) -> Val
         requires { AreHeld values.now self.now }
         ensures held { IsHeld values.now result }
@@ -47,7 +48,7 @@ impl Context {
     }
 }
 
-/// Level `k` of a list, or `none` past it.
+/// Level `k` of a list, or `none` after its end.
 pub fn level_or(levels: &Vec<Val>, k: usize, none: Val) -> Val
     ensures { result ≡ slice_index_or levels.now.items k none }
 {

@@ -5,7 +5,8 @@ ghost use Rattle.std.specs.Prelude.{◌≡◌, ◌<◌, ◌+◌};
 use std::marker::Model;
 use std::sync::ledger::{Blank, Book, Ledger, Share};
 
-/// A counter that takes no bytes, of the ledger `L`. Contracts see the number of its ticks.
+/// A counter of crossings, of the ledger `L`, that exists in contracts only and takes no memory.
+/// Contracts view it as the number of its ticks.
 #[derive(Drop)]
 pub struct Steps<L: Ledger> {
     ticks: Book<L>,
@@ -23,7 +24,7 @@ impl<L: Ledger> Model for Steps<L> {
 }
 
 impl<L: Ledger> Steps<L> {
-    /// A counter at 0. The blank ledger, of at least one part, is the one that `L` stands for.
+    /// A counter at 0. `blank` is the blank page of the ledger `L`, with at least one part.
     pub fn new(blank: Blank) -> Steps<L>
         requires name { blank.name ≡ L.name }
         requires parts { blank.parts ≡ L.parts }
@@ -34,7 +35,7 @@ impl<L: Ledger> Steps<L> {
         Steps { ticks, all }
     }
 
-    /// Counts one crossing that is tried.
+    /// Counts a crossing that is tried.
     pub fn tick(&mut self)
         ensures { self.new ≡ self.old + 1 }
     {

@@ -13,17 +13,16 @@ use crate::row::Context;
 use ol_limits::NoMemory;
 use ol_net::{Net, Port};
 
-/// Starts at the free port `from`, which the net has, with a context whose levels are of this
-/// holder, follows the link and crosses node after node, trying at most `edges` crossings.
+/// Walks from the free port `from`, which the net has, with a context whose levels are of this
+/// holder: follows the link and traverses node after node, trying at most `edges` crossings.
 ///
-/// `Exit` comes exactly where a path of at most `edges` crossings leads to a free port: with that
-/// port, the context there and the number of crossings. `Undefined` comes exactly where the
-/// crossing tried as number `crossings`, counted from 1, is not defined. `Budget` comes exactly
-/// where `edges` crossings were made and the walk stands at a node. `NoMemory`: no memory was
-/// found.
+/// `Exit` is returned exactly if a path of at most `edges` crossings leads to a free port; with
+/// that port, the context there and the number of crossings. `Undefined` is returned exactly if the
+/// crossing with number `crossings`, from 1, isn't defined. `Budget` is returned exactly if `edges`
+/// crossings were made and the walk is at a node. `NoMemory`: no memory was found.
 ///
-/// Where no two principal ports are linked and `edges` is at least twice the number of nodes,
-/// `Exit` comes exactly where some path leads to a free port, of any number of crossings.
+/// If no two principal ports are linked and `edges` is at least twice the number of nodes, `Exit`
+/// is returned exactly if a path of any length leads to a free port.
 pub fn walk(
     net: &Net,
     values: &mut Values,
