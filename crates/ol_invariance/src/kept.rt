@@ -1,4 +1,4 @@
-//! Steps and runs that say what they keep.
+//! Interactions and reductions whose contracts state the invariance of paths.
 
 ghost use Rattle.std.specs.Prelude.{◌≡◌, ◌≢◌, ℕ, ◌≤◌, ◌+◌, ◌*◌, ◌↔◌, length, OnErr, IfOk, Err, MatchOption};
 ghost use Rattle.ol_context.specs.Paths.{HaveSamePaths};
@@ -17,8 +17,8 @@ use ol_net::{Net, NodeId, Rule};
 use ol_rules::{Ran, StepFault, run, step};
 use std::alloc::Global;
 
-/// Makes a step as `ol_rules::step` does. Each path between free ports is there before and after,
-/// also after a refusal.
+/// Rewrites an active pair as `ol_rules::step` does. The nets before and after the call have the
+/// same paths between free ports, also after an error.
 pub fn step_kept(net: &mut Net, at: NodeId) -> Result<Rule, StepFault>
     requires few { length net.old.nodes ≤ 2000000000 }
     ensures steps { IfOk result (λ rule. StepsAt net.old net.new at.0 rule) }
@@ -31,8 +31,8 @@ pub fn step_kept(net: &mut Net, at: NodeId) -> Result<Rule, StepFault>
     step(net, at)
 }
 
-/// Makes a run as `ol_rules::run` does. Each path between free ports is there before and after,
-/// also with `NoMemory`.
+/// Reduces a net as `ol_rules::run` does. The nets before and after the call have the same paths
+/// between free ports, also after `NoMemory`.
 pub fn run_kept(alloc: Global, net: &mut Net, fuel: u32) -> Result<Ran, NoMemory>
     requires few { length net.old.nodes + 4 * fuel ≤ 2000000000 }
     ensures runs { IfOk result (λ ran. RunsTo net.old fuel ran.journal net.new) }

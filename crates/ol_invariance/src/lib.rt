@@ -1,11 +1,11 @@
-//! Steps and runs keep paths (Gonthier, Abadi and Lévy, The Geometry of Optimal Lambda Reduction,
-//! 1992).
+//! Invariance of paths: interactions and reductions preserve the paths between free ports
+//! (Gonthier, Abadi and Lévy, The Geometry of Optimal Lambda Reduction, POPL 1992).
 //!
-//! A path leads from a free port with a context to a free port with a context. Whatever pair a step
-//! rewrites, each path of the net before it is one of the net after it, and the other way round.
+//! A path leads from a free port with a context to a free port with a context. The nets before and
+//! after the interaction of any active pair have the same paths.
 //!
-//! - `kept`: steps and runs that say what they keep
-//! - `laws`: the laws of steps, of runs and of the tables
+//! - `kept`: interactions and reductions whose contracts state the invariance
+//! - `laws`: the theorems on interactions, on reductions and on the table of rules
 #![tactic(auto)]
 
 mod kept;
