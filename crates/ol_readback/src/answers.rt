@@ -1,40 +1,40 @@
-//! What a head and a place of a tree are.
+//! Heads, and places of a tree.
 
 use crate::levels::Levels;
 
-/// The variable of a head: binder `binder`, counted from 1, of frame `node`, or the free name of a
-/// port, which is at least 1.
+/// The variable of a head: binder `binder`, from 1, of frame `node`, or the free name of a free
+/// port, from port 1.
 #[derive(Clone, Copy, Debug, PartialEq, Eq)]
 pub enum HeadVar {
     Bound { node: u32, binder: u32 },
     Free(u32),
 }
 
-/// What a frame is asked for.
+/// The head of a frame.
 #[derive(Drop)]
 pub enum Head {
-    /// The number of abstractions, the variable, the number of its arguments, and the levels that
-    /// the arguments' frames begin with.
+    /// The number of abstractions, the variable, the number of its arguments, and the levels with
+    /// which the frames of the arguments start.
     Is {
         lams: u32,
         var: HeadVar,
         args: u32,
         at: Levels,
     },
-    /// No walk leaves the net, or nothing matches its exit.
+    /// No walk leaves the net, or no frame binds its exit.
     NoHead,
-    /// A walk made all the crossings that were allowed and stands at a node.
+    /// A walk made all allowed crossings, and is at a node.
     Budget,
 }
 
-/// One place of a tree.
+/// A place of a tree, in preorder.
 #[derive(Clone, Copy, Debug, PartialEq, Eq)]
 pub enum ReadNode {
-    /// The number of abstractions, the variable, and the number of its arguments. The arguments'
-    /// subterms follow.
+    /// The number of abstractions, the variable, and the number of its arguments, whose subterms
+    /// follow.
     Head { lams: u32, var: HeadVar, args: u32 },
     /// The frame has no head.
     NoHead,
-    /// The place was not asked, or a walk met its budget.
+    /// The head of the place wasn't computed, or a walk used up its budget.
     Cut,
 }

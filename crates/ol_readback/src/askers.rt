@@ -1,4 +1,4 @@
-//! Those who ask frames for their heads.
+//! The trait of what finds the head of a frame.
 
 ghost use Rattle.std.specs.Prelude.{◌≡◌, ℕ, IfOk, OnErr};
 ghost use Rattle.ol_context.specs.Shapes.{Extends};
@@ -13,28 +13,29 @@ use ol_limits::NoMemory;
 use ol_net::Net;
 use std::alloc::Global;
 
-/// One who asks frames for their heads over an `N`, which may change on the way.
+/// Finds the heads of frames over an `N`, which may change during a reading.
 ///
-/// What is known of a reading is said by three relations between what it began with and what it has
-/// come to. So a contract says of each question what becomes of them, whatever the reading is.
+/// Three relations between the state at the start of a reading and its current state describe the
+/// reading. The contract of `ask` is independent of what they are.
 pub trait Asks<N> {
-    /// How many free ports there are.
+    /// The number of free ports.
     ghost free: { N → ℕ };
 
-    /// What has to hold where a frame is asked.
+    /// The precondition of `ask`.
     ghost ready: { Self → N → Type 0 };
 
-    /// How far the reading has come that began with the first two, where so many places are asked.
+    /// The progress of a reading that started with the first two values, for a number of places
+    /// whose heads are computed.
     ghost reads: { Self → N → Self → N → ℕ → Reading → Type 0 };
 
-    /// Such a reading ends without a tree.
+    /// The reading ends without a tree.
     ghost ends: { Self → N → Self → N → ℕ → Type 0 };
 
-    /// Such a reading is given up, as no memory was found.
+    /// The reading stops because no memory was found.
     ghost stops: { Self → N → Self → N → ℕ → Type 0 };
 
-    /// The head of the last of the frames. `None`: the reading ends without a tree. `NoMemory`: no
-    /// memory was found. Earlier values stay.
+    /// The head of the last frame. `None`: the reading ends without a tree. `NoMemory`: no memory
+    /// was found. Values held before are unchanged.
     fn ask(
         &mut self,
         alloc: Global,
@@ -58,12 +59,12 @@ pub trait Asks<N> {
             (IsKnownIfSome (free net.new) (frames_of values.old asked.now.frames.now.items)) }
         ensures extends { Extends values.old values.new };
 
-    /// Law: wherever a reading has come, it may be given up.
+    /// Theorem: a reading may stop in any state.
     ghost may_stop: { (s : Self) (n : N) (s' : Self) (n' : N) (heads : ℕ) (r : Reading) →
         reads s n s' n' heads r → stops s n s' n' heads };
 }
 
-/// Walks of at most so many crossings, over a net that stays as it is.
+/// Finds heads by walks of at most `edges` crossings, over a net that doesn't change.
 #[derive(Drop)]
 pub struct Walks {
     pub edges: u64,

@@ -1,4 +1,4 @@
-//! Asking a frame for its head.
+//! The head of a frame by a walk.
 
 ghost use Rattle.std.specs.Prelude.{◌≡◌, ◌<◌, ◌≤◌, ◌+◌, length, IfOk};
 ghost use Rattle.ol_context.specs.Shapes.{Extends};
@@ -132,8 +132,9 @@ fn head_by<L: Ledger>(
     ask_and_drop(alloc, net, values, asked, edges, &mut steps)
 }
 
-/// What one walk for all numbers of abstractions, of at most `edges` crossings, says of a frame.
-/// Where no head was found, no value stays that the walk put in. `NoMemory`: no memory was found.
+/// The head of a frame by a single walk for all numbers of abstractions, of at most `edges`
+/// crossings. If no head is found, the values that the walk added are removed. `NoMemory`: no
+/// memory was found.
 pub fn walk_frame(
     alloc: Global,
     net: &Net,
@@ -156,10 +157,10 @@ pub fn walk_frame(
     head_by::<Brand>(alloc, net, values, asked, edges, blank)
 }
 
-/// The head of frame `at`: asks it for all numbers of abstractions at once, by one walk of at most
-/// `edges` crossings, which it counts.
+/// The head of frame `at`, by a single walk for all numbers of abstractions, whose crossings, at
+/// most `edges`, are counted.
 ///
-/// The answer, and what has to hold, are those of `head`.
+/// The answers and the preconditions are the same as for `head`.
 pub fn head_counted<L: Ledger>(
     alloc: Global,
     net: &Net,
@@ -224,20 +225,21 @@ fn head_on<L: Ledger>(
     head_counted(alloc, net, values, frames, at, edges, &mut steps)
 }
 
-/// The head of frame `at`: what the least number of abstractions says for which a walk from it
-/// leaves the net. The numbers 0, 1, 2 and so on, up to the number of live nodes, are tried up to
-/// the first whose walk leaves, or makes all its `edges` crossings; one walk is made for all of
-/// them.
+/// The head of frame `at`: the exit of the walk from it for the least number of abstractions for
+/// which the walk leaves the net. The numbers 0, 1, 2 and so on, up to the number of live nodes,
+/// are considered up to the first number whose walk leaves the net or makes all its `edges`
+/// crossings; a single walk covers all of them.
 ///
-/// `Is` is what the first exit says. `Budget` comes exactly where one of these walks made all its
-/// crossings without an exit. `NoHead` comes exactly where none did, and either none of them leaves
-/// or nothing matches the exit. Unless the answer is `Is` the holder is unchanged. `NoMemory`: no
-/// memory was found. `at` is below the list's length, each parent stands before its child, each
-/// frame's port is a free port of the net, and all values are of this holder. Earlier values stay.
+/// `Is` is the meaning of the first exit. `Budget` is returned exactly if one of these walks made
+/// all its crossings without an exit. `NoHead` is returned exactly if none did, and either no walk
+/// leaves the net or no frame binds the exit. The holder is unchanged, unless the answer is `Is`.
+/// `NoMemory`: no memory was found. `at` is less than the length of the list, each parent precedes
+/// its child, the port of each frame is a free port of the net, and all values are of this holder.
+/// Values held before are unchanged.
 ///
-/// An answer `Is` is the head by paths of any length. Where no two principal ports are linked, so
-/// is `NoHead`, and with a budget of at least twice the number of nodes `Budget` comes only where a
-/// walk goes on for ever.
+/// The head in `Is` is also the head by paths of any length. If no two principal ports are linked,
+/// the same is true of `NoHead`, and with a budget of at least twice the number of nodes `Budget`
+/// is returned only if a walk is infinite.
 pub fn head(
     alloc: Global,
     net: &Net,

@@ -1,4 +1,4 @@
-//! An exit against one frame.
+//! An exit compared with a single frame.
 
 ghost use Rattle.std.specs.Prelude.{◌≡◌, ℕ, ◌+◌, ◌^◌, ◌<◌, ◌≤◌, ◌↔◌, length, map, IfOk, IsTrue, MatchBool};
 ghost use Rattle.ol_context.specs.Contexts.{empty};
@@ -125,8 +125,8 @@ fn arguments_at(values: &Values, context: &Context, m: usize) -> Result<Option<u
     Ok(count)
 }
 
-/// The binder, counted from 0, and the number of arguments, where an exit with this context is a
-/// binder of a frame with these levels and so many abstractions.
+/// The binder, from 0, and the number of arguments, if an exit with this context is a binder of a
+/// frame with these levels and `lams` abstractions.
 pub fn fits(
     values: &Values,
     levels: &Vec<Val>,
@@ -164,7 +164,7 @@ pub fn fits(
     }
 }
 
-/// The number of arguments, where an exit by this port with this context is a free name.
+/// The number of arguments, if an exit by this port with this context is a free name.
 pub fn is_name(values: &Values, port: u32, context: &Context) -> Result<Option<u32>, NoMemory>
     requires { AreHeld values.now context.now }
     ensures { IfOk result (λ r. IsNameOf port (context_of values.now context.now) r) }

@@ -2,9 +2,10 @@
 
 use crate::levels::Levels;
 
-/// A frame: the free port `port` and the levels that each question to it begins with. `parent` is
-/// the number of the frame round it, and `lams` the number of abstractions of the head that was
-/// found there. A frame's number is its place in a list of frames.
+/// A frame, which represents a subterm: the free port `port` and the levels with which each walk
+/// for the subterm starts. `parent` is the number of the enclosing frame, and `lams` the number of
+/// abstractions of the head that was found for this frame. The number of a frame is its position in
+/// a list of frames.
 #[derive(Drop)]
 pub struct Frame {
     pub port: u32,
@@ -13,8 +14,9 @@ pub struct Frame {
     pub lams: u32,
 }
 
-/// A frame that is asked, number `at` of a list of frames, and the skips of that list: an entry is
-/// the number of a frame round that of its place, where no frame between the two binds anything.
+/// Frame number `at` of a list of frames, whose head is wanted, and the skips of that list: the
+/// entry at a frame's position is the number of an enclosing frame, such that no frame between the
+/// two has abstractions.
 #[derive(Drop)]
 pub struct Asked<'a> {
     pub frames: &'a Vec<Frame>,

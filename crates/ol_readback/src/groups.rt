@@ -11,8 +11,9 @@ use ol_context::{Val, Values};
 use ol_limits::NoMemory;
 use std::alloc::Global;
 
-/// The arguments of one head from argument `done + 1` on. Their frames stand at the free port
-/// `port` in the frame with number `parent`, and begin with `at`; the next one goes on with `mark`.
+/// The arguments of a head from argument `done + 1` on. Their frames have the free port `port` and
+/// the parent frame `parent`. The levels of each frame start with `at`, and the next frame's levels
+/// continue with `mark`.
 #[derive(Drop)]
 pub struct Group {
     pub parent: u32,
@@ -23,7 +24,7 @@ pub struct Group {
     pub mark: Val,
 }
 
-/// All arguments of a head, if it has any.
+/// All arguments of a head, or `None` if it has no arguments.
 pub fn group_of(
     values: &mut Values,
     parent: u32,
@@ -50,8 +51,8 @@ pub fn group_of(
     }))
 }
 
-/// The frame of the next argument, which is that of the last group. Its abstractions are not known
-/// yet.
+/// The frame of the next argument, which is an argument of the last group. The number of its
+/// abstractions isn't known yet.
 pub fn next(
     alloc: Global,
     values: &mut Values,

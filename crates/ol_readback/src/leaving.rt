@@ -1,4 +1,4 @@
-//! What the exit of a walk says against a frame and the frames round it.
+//! Which frame binds the exit of a walk.
 
 ghost use Rattle.std.specs.Prelude.{◌≡◌, ◌≢◌, ◌<◌, ◌↔◌, ◌++◌, [], ◌∷◌, length, IfOk};
 ghost use Rattle.ol_context.specs.Shapes.{IsHeld, AreHeld, context_of};
@@ -47,7 +47,7 @@ fn with_last(alloc: Global, levels: &[Val], last: Val) -> Result<Vec<Val>, Alloc
     Ok(longer)
 }
 
-/// These levels and one more.
+/// A copy of these levels with a further level at the end.
 pub fn push_level(alloc: Global, levels: &Levels, last: Val) -> Result<Levels, NoMemory>
     ensures { IfOk result (λ r. r ≡ levels.now ++ last ∷ []) }
 {
@@ -85,7 +85,7 @@ fn named(
     }
 }
 
-/// As `leave`, with skips: a frame that binds nothing is not tried where they lead past it.
+/// Returns what `leave` returns, without trying the frames that the skips pass over.
 pub fn leave_by(
     alloc: Global,
     values: &Values,
@@ -137,14 +137,15 @@ pub fn leave_by(
     }
 }
 
-/// What the exit by `port` with `context` says of the walk by which frame `at` was asked for `lams`
+/// The meaning of an exit by `port` with `context`, for the walk of frame `at` with `lams`
 /// abstractions.
 ///
-/// The frames tried are frame `at` with `lams` abstractions, then its parent, and so on to the
-/// root; the nearest that fits decides. Where none fits, an exit by a port of at least 1 whose
-/// level 1 counts arguments and whose later levels are empty is the free name of that port.
-/// `NoHead` comes exactly where nothing matches. `NoMemory`: no memory was found. `at` is below the
-/// list's length, each parent stands before its child, and all values are of this holder.
+/// The call tries frame `at` with `lams` abstractions, then its parent, and so on to the root; the
+/// nearest frame that fits binds the exit. If no frame fits, an exit by a port of at least 1 whose
+/// level 1 encodes a number of arguments and whose later levels are empty is the free name of that
+/// port. `NoHead` is returned exactly if neither applies. `NoMemory`: no memory was found. `at` is
+/// less than the length of the list, each parent precedes its child, and all values are of this
+/// holder.
 pub fn leave(
     alloc: Global,
     values: &Values,

@@ -7,7 +7,7 @@ use ol_limits::NoMemory;
 use std::alloc::Global;
 use std::marker::Model;
 
-/// Level values of one holder. Contracts see the list of their numbers.
+/// Level values of the same holder. Contracts view the list of their numbers.
 #[derive(Drop)]
 pub struct Levels {
     pub(crate) levels: Vec<Val>,
@@ -29,14 +29,14 @@ impl Levels {
         Levels { levels }
     }
 
-    /// How many levels there are.
+    /// The number of levels.
     pub fn len(&self) -> usize
         ensures { result ≡ length self.now }
     {
         self.levels.len()
     }
 
-    /// A list of its own with these levels. `NoMemory`: no memory was found.
+    /// A copy of the list. `NoMemory`: no memory was found.
     pub fn copied(&self, alloc: Global) -> Result<Vec<Val>, NoMemory>
         ensures { IfOk result (λ r. r.items ≡ self.now) }
     {
@@ -44,7 +44,7 @@ impl Levels {
         Ok(copy)
     }
 
-    /// Level `k`. None comes exactly where `k` isn't below `len`.
+    /// Level `k`. `None`: `k` isn't less than `len`.
     pub fn get(&self, k: usize) -> Option<Val>
         ensures level { result ≡ slice_get self.now k }
         ensures none { IsNone result ↔ (length self.now ≤ k) }

@@ -1,27 +1,32 @@
-//! Reading a net back as a term by walks (Gonthier, Abadi and Lévy, The Geometry of Optimal Lambda
-//! Reduction, 1992).
+//! Readback: the term of a net, found along its paths (Gonthier, Abadi and Lévy, The Geometry of
+//! Optimal Lambda Reduction, POPL 1992).
 //!
-//! A subterm is asked for by a frame: a free port and a list of levels. A walk starts from that
-//! port, with these levels and then n times o, for all n at once. The least n for which it leaves
-//! the net is the subterm's number of abstractions. Its exit says which variable is the head, and
-//! how many arguments it has.
+//! A subterm is represented by a frame: a free port and a list of levels. A walk for the subterm
+//! starts at this port, with these levels followed by a level of n times `o`, for all n at once.
+//! The least n for which the walk leaves the net is the number of the subterm's abstractions. The
+//! exit determines the head variable and the number of its arguments.
 //!
-//! `read` reads one place after another, whoever asks the frames for their heads. `read_back` has
-//! them asked by walks over a net that stays as it is.
+//! `read` reads the places of a term in preorder, and is generic in how the head of a frame is
+//! found. `read_back` finds heads by walks over a net that doesn't change.
 //!
-//! - `reading`: one place read after another, and a whole net read back
-//! - `askers`: those who ask frames for their heads
-//! - `asking`: a frame asked for its head by a walk
+//! - `reading`: reading the places of a term, and a whole net
+//! - `askers`: the trait of what finds the head of a frame
+//! - `asking`: the head of a frame by a walk
 //! - `frames`: frames
 //! - `levels`: lists of level values
-//! - `leaving`: what the exit of a walk says against a frame and the frames round it
-//! - `fitting`: an exit against one frame
-//! - `skipping`: frames that bind nothing are passed over
+//! - `leaving`: which frame binds the exit of a walk
+//! - `fitting`: an exit compared with a single frame
+//! - `skipping`: how frames without abstractions are skipped
 //! - `groups`: arguments that are still to be read
-//! - `answers`: what a head and a place of a tree are
+//! - `answers`: heads, and places of a tree
 //! - `tree`: the tree that was read
-//! - `printing`: its text
-//! - `laws`: the laws of heads and trees
+//! - `printing`: the text of a tree
+//! - `laws`: the theorems on heads and trees
+//!
+//! What a tree says about the term of its net is proved in `ol_law_meaning`. The number of
+//! crossings of a walk over a net with active pairs isn't bounded by any contract, except by its
+//! budget. `NoMemory` is also returned if a number exceeds its range, for example for more than
+//! 4,294,967,295 places.
 #![tactic(auto)]
 
 mod answers;

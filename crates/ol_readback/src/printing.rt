@@ -1,4 +1,4 @@
-//! The printed text of a tree.
+//! The text of a tree.
 
 ghost use Rattle.std.specs.Prelude.{◌≡◌, ◌+◌, ◌<◌, ◌≤◌, ◌++◌, [], ◌∷◌, length, IfOk, OnOk};
 ghost use Rattle.ol_term.specs.BinderNames.{binder_name};
@@ -13,8 +13,8 @@ use ol_limits::NoMemory;
 use ol_term::{BinderNames, Names};
 use std::alloc::Global;
 
-/// A head of which `left` arguments are still to be printed, each with `binders` binders round it.
-/// A bracket is closed after the last.
+/// A head of which `left` arguments are still to be printed, each with `binders` enclosing binders.
+/// A bracket is closed after the last argument, if one is open.
 #[derive(Clone, Copy, Drop)]
 pub struct Open {
     pub left: u32,
@@ -225,18 +225,18 @@ fn add_round(rounds: &mut Vec<usize>, t: usize) -> Result<(), NoMemory>
 
 /// The printed text of a tree, as bytes.
 ///
-/// Binders are named by the sequence a to z, a1 to z1, a2 to z2 and so on without the free names; a
-/// binder with t binders round it, on its own branch, has name number t. A head prints as `\`, its
-/// binders, `.` and a space, where it has some, and then its variable and its arguments, a space
-/// before each. An argument that is a head stands in brackets unless it is a variable alone. A
-/// place without a head prints as `?`, one that was cut as `...`, both without brackets. The free
-/// name of port q is name q - 1.
+/// Binders are named by the sequence a to z, a1 to z1, a2 to z2 and so on, except the free names; a
+/// binder with t enclosing binders has name number t, from 0. A head with binders is printed as
+/// `\`, its binders, `.` and a space; its variable and its arguments follow, with a space before
+/// each argument. Brackets enclose an argument that is a head, unless it is a variable without
+/// binders and arguments. A place without a head is printed as `?`, and a place that was cut as
+/// `...`, both without brackets. The free name of port q is name q - 1.
 ///
-/// Where each place has a head and each of the names is a name of the grammar, the text is in the
-/// grammar. Read back, with the free names numbered by `names`, it is the tree's term, in which no
-/// application has an abstraction as its function.
+/// If each place has a head and each name is a name of the grammar, the text is in the grammar. Its
+/// term, with the free names numbered by `names`, is the term of the tree, in which no application
+/// has an abstraction as its function.
 ///
-/// `NoMemory`: no memory was found. Each free name in the tree is one of `names`.
+/// `NoMemory`: no memory was found. Each free name of the tree is one of `names`.
 pub fn tree_text(alloc: Global, tree: &ReadTree, names: &Names) -> Result<Vec<u8>, NoMemory>
     requires free { AreNamed (length names.now) tree.now }
     ensures text { IfOk result (λ text. IsTextOf names.now tree.now text.items) }

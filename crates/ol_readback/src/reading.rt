@@ -1,4 +1,4 @@
-//! Reading one place after another, and a whole net back.
+//! Reading the places of a term, and a whole net.
 
 ghost use Rattle.std.specs.Prelude.{◌≡◌, ℕ, ◌+◌, ◌-◌, ◌^◌, ◌<◌, ◌≤◌, ◌++◌, [], ◌∷◌, List, length, replicate, option_to_list, None, Some, IfOk, OnOk, OnErr, IfSome, MatchOption, true, false};
 ghost use Rattle.ol_net.specs.Numbered.{net_of};
@@ -279,12 +279,11 @@ fn read_into<N, A: Asks<N>>(
     read_on(alloc, asker, net, heads, &mut reader, nodes, &mut pending)
 }
 
-/// The places of the term that is read from free port 0, in preorder, by one who asks each of the
-/// first `heads` places for its head. Every later place is `Cut`, and so is each whose answer is
-/// `Head::Budget`.
+/// The places of the term at free port 0, in preorder. `asker` finds the heads of the first `heads`
+/// places. Every later place is `Cut`, and so is each place with the answer `Head::Budget`.
 ///
 /// `None`: the reading ends without a tree. `NoMemory`: no memory was found. `heads` is at least 1,
-/// there is a free port, and a reading may begin.
+/// there is a free port, and the precondition of the asker holds.
 pub fn read<N, A: Asks<N>>(
     alloc: Global,
     asker: &mut A,
@@ -310,15 +309,15 @@ pub fn read<N, A: Asks<N>>(
     Ok(None)
 }
 
-/// The term that the net stands for, read from free port 0.
+/// The term that a net represents, read from free port 0.
 ///
-/// The first `heads` places are asked for their heads, each by walks of at most `edges` crossings.
-/// Every later place is `Cut`, and so is each whose answer is `Head::Budget`. `NoMemory`: no memory
-/// was found. `heads` is at least 1, and the net has a free port. The free names of the tree are
-/// those of the net's other free ports, from 1 on.
+/// The heads of the first `heads` places are computed, each by walks of at most `edges` crossings.
+/// Every later place is `Cut`, and so is each place with the answer `Head::Budget`. `NoMemory`: no
+/// memory was found. `heads` is at least 1, and the net has a free port. The free names of the tree
+/// are the free ports of the net from port 1 on.
 ///
-/// Each head of the tree is the head of its place by paths of any length, and where no two
-/// principal ports are linked, a place without a head has none.
+/// Each head of the tree is the head of its place by paths of any length. If no two principal ports
+/// are linked, a place without a head has no head by paths of any length either.
 pub fn read_back(alloc: Global, net: &Net, heads: u32, edges: u64) -> Result<ReadTree, NoMemory>
     requires heads { 1 ≤ heads }
     requires root { 0 < net.now.free }

@@ -1,17 +1,17 @@
-//! Frames that bind nothing are passed over, so that a chain of them is not climbed anew for each
-//! head.
+//! How frames without abstractions are skipped, so that a chain of them isn't climbed again for
+//! each head.
 //!
-//! A list of skips has an entry for each frame, in the order of the frames, or for the first ones
-//! alone: the number of a frame round that frame, where no frame between the two has abstractions,
-//! or None, where no frame round it has any.
+//! A list of skips has an entry for each frame, in the order of the frames, or for the first frames
+//! only: the number of an enclosing frame, such that no frame between the two has abstractions, or
+//! `None` if no enclosing frame has abstractions.
 
 ghost use Rattle.std.specs.Prelude.{◌≡◌, ◌<◌, ℕ, length, Some};
 ghost use Rattle.ol_readback.specs.Skipping.{AreSkipsOf, SkipsFrom, SkipsPast};
 
 use crate::frames::Frame;
 
-/// The frame to try after frame `i`: that of the skips, or its parent where they have no entry for
-/// it.
+/// The frame to try after frame `i`: the entry of the skips for frame `i`, or its parent if there
+/// is no entry.
 pub fn next_round(frames: &Vec<Frame>, skips: &Vec<Option<u32>>, i: u32) -> Option<u32>
     requires at { i < length frames.now.items }
     requires skips { AreSkipsOf frames.now.items skips.now.items }
@@ -24,7 +24,7 @@ pub fn next_round(frames: &Vec<Frame>, skips: &Vec<Option<u32>>, i: u32) -> Opti
     frames[k].parent
 }
 
-/// The entry for a frame with this parent: the nearest frame round it that has abstractions.
+/// The entry for a frame with this parent: the nearest enclosing frame with abstractions.
 pub fn skip_from(frames: &Vec<Frame>, skips: &Vec<Option<u32>>, parent: Option<u32>) -> Option<u32>
     requires parent { (p : ℕ) → parent ≡ Some p → p < length frames.now.items }
     requires skips { AreSkipsOf frames.now.items skips.now.items }

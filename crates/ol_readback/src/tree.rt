@@ -1,4 +1,4 @@
-//! Read-back trees.
+//! Readback trees.
 
 ghost use Rattle.std.specs.Prelude.{◌≡◌, ◌^◌, ◌<◌, ◌≤◌, ◌↔◌, length, vec_len, slice_get, IsNone};
 
@@ -6,10 +6,10 @@ use crate::answers::ReadNode;
 use std::marker::Model;
 
 /// A term that was read back, as the list of its places in preorder, arguments from the first to
-/// the last. Contracts see the list.
+/// the last. Contracts view the list.
 ///
-/// The list is whole: each head has as many subterms as its number of arguments, and a bound head
-/// names its own place or one round it, by a binder that this place has.
+/// The list is well formed: each head has as many subterms as arguments, and the variable of a head
+/// is free or is a binder of its own place or of an enclosing place.
 #[derive(Drop)]
 pub struct ReadTree {
     nodes: Vec<ReadNode>,
@@ -30,8 +30,8 @@ impl Model for ReadTree {
 impl ReadTree {
     ghost use Rattle.ol_readback.specs.Whole.{IsWholeTree};
 
-    /// The tree with these places. The list is whole, and has fewer than 4294967296 places. Takes
-    /// no memory.
+    /// The tree with these places. The list is well formed, and has fewer than 4,294,967,296
+    /// places. Takes no memory.
     pub fn of(nodes: Vec<ReadNode>) -> ReadTree
         requires whole { IsWholeTree nodes.items }
         requires few { vec_len nodes < 2 ^ 32 }
@@ -40,14 +40,14 @@ impl ReadTree {
         ReadTree { nodes }
     }
 
-    /// How many places there are.
+    /// The number of places.
     pub fn len(&self) -> u32
         ensures { result ≡ length self.now }
     {
         self.nodes.len() as u32
     }
 
-    /// Place `k`. None comes exactly where `k` isn't below `len`.
+    /// Place `k`, in preorder from 0. `None`: `k` isn't less than `len`.
     pub fn get(&self, k: u32) -> Option<ReadNode>
         ensures place { result ≡ slice_get self.now k }
         ensures none { IsNone result ↔ (length self.now ≤ k) }
@@ -55,7 +55,7 @@ impl ReadTree {
         self.nodes.get(k as usize).copied()
     }
 
-    /// Law: the list is whole.
+    /// Theorem: the list of places is well formed.
     pub fn is_whole(&self)
         ensures whole { IsWholeTree self.now }
         ensures few { length self.now < 2 ^ 32 }
