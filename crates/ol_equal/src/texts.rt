@@ -1,4 +1,4 @@
-//! The words of a comparison.
+//! The text of the answer of a comparison.
 
 ghost use Rattle.std.specs.Prelude.{◌≡◌, ◌++◌, ◌∷◌, [], ◌<◌, length, slice_get, slice_index_or, drop, codes, IfOk, OnOk};
 ghost use Rattle.std.specs.Fmt.{decimal};
@@ -10,8 +10,8 @@ use crate::steps::Path;
 use ol_limits::NoMemory;
 use std::alloc::Global;
 
-/// The words of a comparison: `equal`, `different at PATH` or `cut at PATH`. PATH is `root`, or the
-/// numbers of the path with one dot between two.
+/// The text of the answer: `equal`, `different at PATH` or `cut at PATH`. PATH is `root`, or the
+/// numbers of the path, separated by dots.
 ///
 /// `NoMemory`: no memory was found.
 pub fn compared_text(alloc: Global, compared: &Compared) -> Result<Vec<u8>, NoMemory>
