@@ -1,21 +1,21 @@
-//! What demand order answers.
+//! The answers of on-demand reduction.
 
 use ol_context::Context;
 use ol_net::{NodeId, Port};
 use ol_readback::ReadTree;
 use ol_rules::Journal;
 
-/// What a demand run made.
+/// The result of an on-demand reduction.
 #[derive(Drop)]
 pub enum Demanded {
-    /// The term that was read, and the steps that it took.
+    /// The term that was read, and the trace of the reduction.
     Done { tree: ReadTree, journal: Journal },
-    /// All fuel was used up, and the next chain meets one more active pair. The steps before.
+    /// The fuel is used up, and the next chain meets a further active pair. The trace up to there.
     Spent { journal: Journal },
 }
 
-/// A chain on its way: it has made `made` crossings, and left the last node by `at` with this
-/// context.
+/// A chain in progress: it has made `made` crossings, and has left the last node by the port `at`
+/// with this context.
 #[derive(Drop)]
 pub struct Walker {
     pub at: Port,
@@ -26,18 +26,18 @@ pub struct Walker {
 /// How a chain ends.
 #[derive(Drop)]
 pub enum End {
-    /// It stands on the link of the principal ports of these two, which are an active pair.
+    /// At the link between the principal ports of an active pair.
     Met {
         pair: (NodeId, NodeId),
         walker: Walker,
     },
-    /// It has reached the free port with this number, with this context.
+    /// At the free port with this number, with this context.
     Left {
         port: u32,
         context: Context,
     },
-    /// Its next crossing is not defined.
+    /// At a node that has no crossing with the context of the chain.
     Undefined,
-    /// It has made twice as many crossings as there are nodes, and the next one is defined.
+    /// After twice as many crossings as there are nodes, if the next crossing is defined.
     Budget,
 }

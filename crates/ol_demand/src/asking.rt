@@ -1,4 +1,4 @@
-//! Chains that ask frames, while the pairs that they meet are rewritten.
+//! Heads found by chains, whose active pairs are rewritten.
 
 ghost use Rattle.std.specs.Prelude.{◌≡◌, ◌<◌, ◌≤◌, ◌+◌, ◌*◌, ◌^◌, length, IfOk, OnOk, OnErr};
 ghost use Rattle.ol_net.specs.declared.parts.Rule.{Rule};
@@ -147,7 +147,8 @@ fn ask(
     }
 }
 
-/// Chains that rewrite the pairs that they meet, and write them down, up to so many.
+/// Finds heads by chains, rewrites the active pairs that they meet, up to a number of interactions,
+/// and records these in a trace.
 #[derive(Drop)]
 pub struct Chains {
     pub run: UnderWay,

@@ -1,4 +1,4 @@
-//! Chains: walks up to the first active pair.
+//! Chains: paths up to the first active pair.
 
 ghost use Rattle.std.specs.Prelude.{◌≡◌, ◌<◌, ◌+◌, IfOk, length};
 ghost use Rattle.ol_net.specs.Nets.{IsPort};
@@ -41,9 +41,9 @@ fn pair_at(net: &Net, at: Port, next: Port) -> Option<(NodeId, NodeId)>
     Some((first, second))
 }
 
-/// The chain goes on to its end. Its port is one of the net's, and its context is of this holder.
+/// Continues a chain to its end. Its port is a port of the net, and its context is of this holder.
 ///
-/// `NoMemory`: no memory was found. Earlier values stay.
+/// `NoMemory`: no memory was found. Values held before are unchanged.
 pub fn chain(net: &Net, values: &mut Values, walker: Walker) -> Result<End, NoMemory>
     requires port { IsPort (net_of net.now) (numbered_port walker.at) }
     requires held { AreHeld values.old walker.context }
@@ -81,7 +81,7 @@ pub fn chain(net: &Net, values: &mut Values, walker: Walker) -> Result<End, NoMe
     }
 }
 
-/// The chain that asks the free port `from` and these levels for as many abstractions as `mark` has
+/// The chain from the free port `from` with these levels, for as many abstractions as `mark` has
 /// `o` before the empty value, before its first crossing.
 pub fn begin(alloc: Global, from: u32, levels: &Levels, mark: Val) -> Result<Walker, NoMemory>
     ensures { IfOk result (λ w. IsQuestion from levels.now mark w) }
@@ -95,8 +95,9 @@ pub fn begin(alloc: Global, from: u32, levels: &Levels, mark: Val) -> Result<Wal
     })
 }
 
-/// The chain that stands at an active pair's link, before its last crossing: it enters the pair's
-/// first node next, by an auxiliary port. The step of the pair leaves all that came before.
+/// The chain at the link of an active pair, before its last crossing: it is about to enter the
+/// first node of the pair, by an auxiliary port. The interaction of the pair preserves all nodes
+/// traversed before.
 pub fn step_back(net: &Net, values: &mut Values, walker: Walker) -> Result<Walker, NoMemory>
     requires held { AreHeld values.old walker.context }
     requires at { IsAtPrincipal net.now values.old walker }

@@ -1,4 +1,4 @@
-//! The whole demand run.
+//! The whole on-demand reduction.
 
 ghost use Rattle.std.specs.Prelude.{◌≡◌, ◌+◌, ◌-◌, ◌*◌, ◌<◌, ◌≤◌, ◌↔◌, length, false, IfOk, OnErr};
 ghost use Rattle.ol_net.specs.Numbered.{net_of};
@@ -15,18 +15,20 @@ use ol_readback::{ReadTree, read};
 use ol_rules::UnderWay;
 use std::alloc::Global;
 
-/// The term that the net stands for, read from free port 0 in demand order: only the active pairs
-/// that its chains meet are rewritten. The net has given out at most 2,000,000,000 numbers, less
-/// four for each step that the fuel allows, `heads` is at least 1, and the net has a free port.
+/// The term that a net represents, read from free port 0 by on-demand reduction: only the active
+/// pairs that its chains meet are rewritten. The net has given at most 2,000,000,000 numbers minus
+/// four for each interaction that the fuel allows, `heads` is at least 1, and the net has a free
+/// port.
 ///
-/// `Done` has the tree, of which the first `heads` places were asked, and the steps. Each later
-/// place is `Cut`, and so is one whose chain would make more than twice as many crossings as there
-/// are nodes. `Spent` comes exactly where the whole run has more than `fuel` steps, and has the
-/// first ones. The net is what these steps leave. `NoMemory`: no memory was found, and the net is
-/// what some of the first steps leave.
+/// `Done` has the tree, for whose first `heads` places heads were computed, and the trace. Each
+/// later place is `Cut`, and so is a place whose chain would make more than twice as many crossings
+/// as there are nodes. `Spent` is returned exactly if the whole reduction has more than `fuel`
+/// interactions, and has the trace of the first `fuel` interactions. The net is the result of the
+/// trace. `NoMemory`: no memory was found, and the net is the result of some number of the first
+/// interactions.
 ///
-/// Each step's pair is, by birth names, rewritten in every complete run, and each head of the tree
-/// is that of the net before, by paths of any length.
+/// Each pair of the trace is, by birth names, rewritten in every reduction to normal form, and each
+/// head of the tree is the head of the initial net, by paths of any length.
 pub fn demand(alloc: Global, net: &mut Net, fuel: u32, heads: u32) -> Result<Demanded, NoMemory>
     requires few { length net.old.nodes + 4 * fuel ≤ 2000000000 }
     requires heads { 1 ≤ heads }

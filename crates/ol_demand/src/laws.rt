@@ -1,23 +1,23 @@
-//! Laws of demand order: no code, only what follows from the definitions.
+//! Theorems on on-demand reduction: no code, only what follows from the definitions.
 
 ghost use Rattle.ol_demand.specs.Laws.{TurnsAreRun, EachPairIsNeeded, HeadsAreOfSource, DemandRunIsOne, FrontIsOne, EndsOrGoesOn};
 
-/// The turns of a demand run from a net of start nodes are a run along its journal, and keep each
-/// path. Each pair that is rewritten is, by birth names, rewritten in every complete run.
+/// An on-demand reduction of an initial net is a reduction with its trace, and preserves all paths.
+/// Each pair of its trace is, by birth names, rewritten in every reduction to normal form.
 pub fn each_pair_is_needed()
     ensures run { TurnsAreRun }
     ensures needed { EachPairIsNeeded }
 {}
 
-/// Each head that a demand run finds is the one that the net before the run gives for its frame, by
-/// paths of any length.
+/// Each head that an on-demand reduction finds for a frame is the head of this frame in the initial
+/// net, by paths of any length.
 pub fn heads_are_of_the_source()
     ensures { HeadsAreOfSource }
 {}
 
-/// A net of start nodes has one demand run: one journal, one list of places, and one net. Where it
-/// has more steps than the fuel, its first ones are one journal. Where its journal is within the
-/// fuel, it has no more steps.
+/// The on-demand reduction of an initial net is unique: a single trace, a single list of places and
+/// a single final net. If it has more interactions than the fuel allows, the trace of the first
+/// ones is unique. If its trace is within the fuel, it has no further interaction.
 pub fn demand_run_is_one()
     ensures one { DemandRunIsOne }
     ensures front { FrontIsOne }

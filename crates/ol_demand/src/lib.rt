@@ -1,23 +1,27 @@
-//! Demand order: a net is read back, and only the active pairs that the walks of the reading meet
-//! are rewritten.
+//! On-demand reduction: a net is read back, and only the active pairs that paths of the readback
+//! meet are rewritten.
 //!
-//! Subterms are asked in preorder, each for 0 abstractions, then for 1, and so on. The chain of
-//! such a question is its walk up to the first active pair on the way. This pair is rewritten, and
-//! the chain goes on. So a part of the net that no head needs stays as it is.
+//! Subterms are read in preorder, with paths for 0 abstractions, for 1 abstraction, and so on. A
+//! path up to its first active pair is called a chain. This pair is rewritten, and the chain
+//! continues. A part of the net that no head needs is left as it is.
 //!
-//! Each pair that is rewritten so is rewritten in every complete run, and each head that is found
-//! is that of the net before, since steps keep paths (Gonthier, Abadi and Lévy, The Geometry of
-//! Optimal Lambda Reduction, 1992).
+//! Each pair that is rewritten is rewritten in every reduction to normal form, and each head that
+//! is found is the head of the initial net, because interactions preserve paths (Gonthier, Abadi
+//! and Lévy, The Geometry of Optimal Lambda Reduction, POPL 1992).
 //!
-//! After the step of a pair the chain goes on where it met the pair: all that it crossed before is
-//! still there. A chain is walked for one number of abstractions at a time, from its start for each:
-//! an open walk asks for all numbers at once, but it doesn't stop at an active pair.
+//! After an interaction the chain continues at the node where it met the pair: the nodes that it
+//! traversed before are still there. A chain is followed for a single number of abstractions at a
+//! time, from its start for each number, because an open walk, which covers all numbers at once,
+//! doesn't stop at an active pair.
 //!
-//! - `demanding`: the whole demand run
-//! - `asking`: chains that ask frames, while the pairs that they meet are rewritten
-//! - `chaining`: chains: walks up to the first active pair
-//! - `answers`: what demand order answers
-//! - `laws`: the laws of demand order
+//! - `demanding`: the whole on-demand reduction
+//! - `asking`: heads found by chains, whose active pairs are rewritten
+//! - `chaining`: chains: paths up to the first active pair
+//! - `answers`: the answers of on-demand reduction
+//! - `laws`: the theorems on on-demand reduction
+//!
+//! No contract bounds the crossings of all chains together: a place with q abstractions is read by
+//! q + 1 chains, and a chain that has made too many level values starts again.
 #![tactic(auto)]
 
 mod answers;
