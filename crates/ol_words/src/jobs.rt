@@ -11,7 +11,7 @@ use ol_term::Translation;
 use std::alloc::{AllocError, AllocFailed, Global};
 use std::marker::Model;
 
-/// A word of a command line. Contracts see it as its list of bytes.
+/// An argument of a command line. Contracts view it as its list of bytes.
 #[derive(Debug, Drop)]
 pub struct Word {
     text: String,
@@ -34,7 +34,7 @@ impl Word {
         Ok(Word { text })
     }
 
-    /// The text of the word.
+    /// The text of the argument.
     pub fn as_str(&self) -> &str
         ensures { result.now ≡ self.now }
     {
@@ -42,136 +42,137 @@ impl Word {
     }
 }
 
-/// What the words of a command line ask for.
+/// The request of a command line.
 #[derive(Debug, Drop)]
 pub enum Job {
-    /// Rewrite the net of a term, and print what is left with the counts of the rules.
+    /// Reduces the net of a term, and prints the readback of the final net with the counts of the
+    /// rules.
     Run {
-        /// By which translation the term becomes a net.
+        /// The translation of the term.
         translation: Translation,
-        /// How many workers rewrite, 1 to 64.
+        /// The number of worker threads, 1 to 64.
         workers: u32,
-        /// How many interactions may be made, 0 to 8,000,000.
+        /// The greatest number of interactions, 0 to 8,000,000.
         fuel: u32,
-        /// How many subterms of the answer are asked for their heads, 1 to 100,000.
+        /// The greatest number of subterms whose heads are computed, 1 to 100,000.
         heads: u32,
         /// The file with the term, or `-` for standard input.
         name: Word,
     },
-    /// Read the term back from its net as it stands, and print it.
+    /// Reads the term back from its initial net, and prints it.
     Walk {
-        /// By which translation the term becomes a net.
+        /// The translation of the term.
         translation: Translation,
-        /// How many edges one walk may cross, 1 to 10,000,000.
+        /// The greatest number of crossings of a walk, 1 to 10,000,000.
         edges: u64,
-        /// How many subterms of the answer are asked for their heads, 1 to 100,000.
+        /// The greatest number of subterms whose heads are computed, 1 to 100,000.
         heads: u32,
         /// The file with the term, or `-` for standard input.
         name: Word,
     },
-    /// Rewrite the net of a term in one thread, so far, and show it.
+    /// Reduces the net of a term by one thread, and prints the net after a number of interactions.
     View {
-        /// By which translation the term becomes a net.
+        /// The translation of the term.
         translation: Translation,
-        /// After how many interactions, 0 to 8,000,000.
+        /// The number of interactions, 0 to 8,000,000.
         after: u32,
         /// The file with the term, or `-` for standard input.
         name: Word,
     },
-    /// Rewrite the net of a term, and tell which pairs were rewritten.
+    /// Reduces the net of a term, and prints the trace.
     Trace {
-        /// By which translation the term becomes a net.
+        /// The translation of the term.
         translation: Translation,
-        /// How many workers rewrite, 1 to 64.
+        /// The number of worker threads, 1 to 64.
         workers: u32,
-        /// How many interactions may be made, 0 to 8,000,000.
+        /// The greatest number of interactions, 0 to 8,000,000.
         fuel: u32,
         /// The file with the term, or `-` for standard input.
         name: Word,
     },
-    /// Tell whether a journal is one of a run of a term.
+    /// Checks whether a trace is a reduction of the net of a term.
     Check {
-        /// By which translation the term becomes a net.
+        /// The translation of the term.
         translation: Translation,
         /// The file with the term, or `-` for standard input.
         term: Word,
-        /// The file with the journal, or `-` for standard input where the term is in another file.
+        /// The file with the trace, or `-` for standard input, if the term is in another file.
         journal: Word,
     },
-    /// Make a large term that reduces to an identity.
+    /// Generates a large term that reduces to an identity.
     Gen {
-        /// By which translation the term becomes a net.
+        /// The translation of the term.
         translation: Translation,
-        /// Whether to do with it what `Run` does, in place of printing it.
+        /// Whether to do what `Run` does with the term, instead of printing it.
         run: bool,
-        /// How often it is applied to itself, 0 to 10.
+        /// The number of times that the term is applied to itself, 0 to 10.
         k: u32,
     },
-    /// Rewrite only what the heads of a term ask for, in one thread, and print what is left with the
-    /// counts of the rules.
+    /// Reduces the net of a term on demand, by one thread, and prints the readback with the counts
+    /// of the rules.
     Demand {
-        /// By which translation the term becomes a net.
+        /// The translation of the term.
         translation: Translation,
-        /// How many interactions may be made, 0 to 8,000,000.
+        /// The greatest number of interactions, 0 to 8,000,000.
         fuel: u32,
-        /// How many subterms of the answer are asked for their heads, 1 to 100,000.
+        /// The greatest number of subterms whose heads are computed, 1 to 100,000.
         heads: u32,
         /// The file with the term, or `-` for standard input.
         name: Word,
     },
-    /// Rewrite the net of a term, and tell whether leftmost beta steps of the term lead to what is
-    /// then read back.
+    /// Reduces the net of a term, and checks whether leftmost β-reduction of the term leads to the
+    /// readback of the final net.
     Certify {
-        /// By which translation the term becomes a net.
+        /// The translation of the term.
         translation: Translation,
-        /// How many beta steps may be made, 0 to 10,000.
+        /// The greatest number of β-steps, 0 to 10,000.
         steps: u32,
-        /// How many workers rewrite, 1 to 64.
+        /// The number of worker threads, 1 to 64.
         workers: u32,
-        /// How many interactions may be made, 0 to 8,000,000.
+        /// The greatest number of interactions, 0 to 8,000,000.
         fuel: u32,
-        /// How many subterms of the answer are asked for their heads, 1 to 100,000.
+        /// The greatest number of subterms whose heads are computed, 1 to 100,000.
         heads: u32,
         /// The file with the term, or `-` for standard input.
         name: Word,
     },
-    /// Rewrite a net, and print what is left of it; or print the net of a term as it stands.
+    /// Reduces a net, and prints the final net; or prints the initial net of a term.
     Net {
-        /// By which translation a term becomes a net.
+        /// The translation of a term.
         translation: Translation,
-        /// Whether the file has a term, whose net is printed, in place of a net to rewrite.
+        /// Whether the file contains a term, whose net is printed, instead of a net.
         from_term: bool,
-        /// How many workers rewrite, 1 to 64.
+        /// The number of worker threads, 1 to 64.
         workers: u32,
-        /// How many interactions may be made, 0 to 8,000,000.
+        /// The greatest number of interactions, 0 to 8,000,000.
         fuel: u32,
         /// The file with the net or the term, or `-` for standard input.
         name: Word,
     },
-    /// Rewrite the nets of two terms, and tell whether what is read back from both is the same.
+    /// Reduces the nets of two terms, and compares the readbacks of the two final nets.
     Equal {
-        /// By which translation the terms become nets.
+        /// The translation of the terms.
         translation: Translation,
-        /// How many workers rewrite, 1 to 64.
+        /// The number of worker threads, 1 to 64.
         workers: u32,
-        /// How many interactions may be made with each net, 0 to 8,000,000.
+        /// The greatest number of interactions for each net, 0 to 8,000,000.
         fuel: u32,
-        /// How many subterms of each answer are asked for their heads, 1 to 100,000.
+        /// The greatest number of subterms of each term whose heads are computed, 1 to 100,000.
         heads: u32,
         /// The file with the first term, or `-` for standard input.
         first: Word,
-        /// The file with the second term, or `-` for standard input where the first is in another
-        /// file.
+        /// The file with the second term, or `-` for standard input, if the first term is in
+        /// another file.
         second: Word,
     },
 }
 
-/// Why no job is given.
+/// Why there is no job.
 #[derive(Clone, Copy, Debug, PartialEq, Eq)]
 pub enum UsageFault {
-    /// The words ask for no job.
+    /// The arguments request no job.
     Refused,
-    /// Memory ran out.
+    /// A memory allocation failed.
     NoMemory,
 }
 

@@ -1,11 +1,13 @@
-//! The command line: a list of words, and the job that it asks for.
+//! The arguments of the command line of `ol`, and the job that they request.
 //!
-//! - `reading`: the job of a list of words
-//! - `command`: the command line as clap is told of it
-//! - `verbs`: the verbs, and what each has: options, flags and names
-//! - `lines`: what the words after the command say
+//! - `reading`: the job of a list of arguments
+//! - `command`: the definition of the command line for clap
+//! - `verbs`: the commands, with the options, flags and names of each
+//! - `lines`: the meaning of the arguments after the command
 //! - `numbers`: the numbers of a command line
 //! - `jobs`: jobs, and why there is none
+//!
+//! The contract of the toolchain's `clap` is trusted.
 #![tactic(auto)]
 
 mod command;

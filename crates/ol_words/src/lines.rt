@@ -1,4 +1,4 @@
-//! What the words after the command say.
+//! The meaning of the arguments after the command.
 
 ghost use Rattle.std.specs.Prelude.{◌≡◌, ◌++◌, ◌∷◌, [], Some, None, IfOk, MatchOption, option_map, length, map, true, false, if◌then◌else◌};
 ghost use Rattle.ol_words.specs.Lines.{Line, line_of, is_dashed, is_end, option_of, after_hyphens, name_and_value, flag_alone, value_in, is_equals, is_option};

@@ -1,4 +1,4 @@
-//! The job of a list of words.
+//! The job of a list of arguments.
 
 ghost use Rattle.std.specs.Prelude.{◌≡◌, ◌==◌, ◌&&◌, ◌∷◌, [], IfOk, Err, Some, None, codes, option_map, option_and_then};
 ghost use Rattle.clap.specs.Words.{first_value, found_of};
@@ -22,25 +22,25 @@ use clap::ArgMatches;
 use ol_term::Translation;
 use std::alloc::{AllocError, Global};
 
-/// The job of the words of a command line: the program's name, which isn't looked at, then the
-/// command `run`, `walk`, `view`, `trace`, `check`, `gen`, `demand`, `certify`, `net` or `equal`,
-/// then its options and its names in any order.
+/// The job of the arguments of a command line: the name of the program, which is ignored, followed
+/// by the command `run`, `walk`, `view`, `trace`, `check`, `gen`, `demand`, `certify`, `net` or
+/// `equal`, followed by its options and its names in any order.
 ///
 /// `run` and `equal` have the options `--workers`, `--fuel` and `--heads`, `walk` has `--edges` and
 /// `--heads`, `view` has `--after`, `trace` has `--workers` and `--fuel`, `gen` has `--run`,
-/// `demand` has `--fuel` and `--heads`, `certify` has `--steps` and those of `run`, and `net` has
-/// `--from-term` and those of `trace`. `--run` and `--from-term` take no value. All commands have
-/// `--translation`, 1 or 2. `check` and `equal` take the names of two files, which aren't both `-`,
-/// `gen` takes one number in a name's place, and the others take the name of one file.
+/// `demand` has `--fuel` and `--heads`, `certify` has `--steps` and the options of `run`, and `net`
+/// has `--from-term` and the options of `trace`. `--run` and `--from-term` take no value. All
+/// commands have `--translation`, 1 or 2. `check` and `equal` take the names of two files, at most
+/// one of which is `-`, `gen` takes a number instead of a name, and every other command takes the
+/// name of a file.
 ///
-/// An option is written out whole, as `--name value` or `--name=value`, and comes at most once. A
-/// number is 1 to 8 ASCII digits within the range that `Job` gives. By themselves the translation
-/// is 2, there are 4 workers, a fuel of 200,000, 4,096 heads, 100,000 edges and 1,000 steps, and a
-/// net is viewed after no interaction. The word `--` ends the options; before it a word that begins
-/// with `-`, and isn't `-` alone, is no name and no value.
+/// An option is written in full, as `--name value` or `--name=value`, at most once. A number is 1
+/// to 8 ASCII digits, within the range that `Job` gives. The defaults are translation 2, 4 workers,
+/// fuel 200,000, 4,096 heads, 100,000 edges, 1,000 steps and `--after 0`. The argument `--` ends
+/// the options; an argument before it that begins with `-`, except `-` itself, is neither a name
+/// nor a value.
 ///
-/// `Refused` comes exactly where the words have no job by these rules. `NoMemory` comes where
-/// memory runs out.
+/// `Refused`: exactly if the arguments have no job by these rules. `NoMemory`: no memory was found.
 pub fn job(alloc: Global, words: &Vec<String>) -> Result<Job, UsageFault>
     // The job is that of the words.
     ensures job { IfOk result (λ job. job_of (texts_of words.now.items) ≡ Some job) }

@@ -1,4 +1,4 @@
-//! The verbs of a command line, and what each has: options, flags and names.
+//! The commands of the command line, with the options, flags and names of each.
 
 ghost use Rattle.std.specs.Prelude.{◌≡◌, map, option_map};
 ghost use Rattle.ol_words.specs.Jobs.{flags_of, options_of, verb_named, verb_row, verbs};
