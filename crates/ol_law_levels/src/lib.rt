@@ -1,19 +1,25 @@
-//! Levels: each port of a net of a term, and of each net that it is rewritten to, has a depth and
-//! is an out or an in port. So no walk crosses a pair that has no rule.
+//! Levels of ports: no reduction of a term's net leads to a stuck pair, and no path crosses a pair
+//! without a rule.
 //!
-//! A link joins an out port and an in port of one depth. An abstraction and an application stand at
-//! the depth of their index, and fans, croissants and brackets deeper than their index (Gonthier,
-//! Abadi and Lévy, The Geometry of Optimal Lambda Reduction, 1992). Nothing here runs.
+//! A net is *levelled* if its ports have depths and directions: a link joins an out port and an in
+//! port of equal depth, an abstraction and an application are at the depth of their index, and
+//! fans, croissants and brackets are deeper than their index (Gonthier, Abadi and Lévy, The
+//! Geometry of Optimal Lambda Reduction, POPL 1992). A net is *unblocked* if no walk, from any port
+//! and with any context, is stopped by a fan, a croissant or a bracket. The nets of terms are
+//! levelled and unblocked, and interactions preserve both; a net with both properties has no stuck
+//! pair.
 //!
-//! No pair is ever stuck: whatever pairs are rewritten, and in whatever order, no net that comes
-//! from the net of a term has a pair of nodes that face each other without a rule.
+//! The file starts with levels (`term_is_levelled` to `levels_have_no_names`), and continues with
+//! stuck pairs, walks and heads in levelled nets (`stuck_pairs_are_of_sharing` to
+//! `asked_places_are_the_sources`), examples and wrong translations (`stuck_examples` to
+//! `wrong_tables_break_levels`), unblocked nets (`step_keeps_unblocked` to `wrong_index_blocks`),
+//! and a criterion for the absence of vicious circles (`placed_has_no_ring`). Every function is a
+//! theorem, without code.
 //!
-//! Walks over a net begin at any port with all contexts at once; what a node does to a context is that
-//! of Gonthier, Abadi and Lévy (The Geometry of Optimal Lambda Reduction, 1992). A net is unblocked
-//! where none of them is stopped by a fan, a croissant or a bracket. Steps keep that, whatever the
-//! depths of ports are, and the net of a term has it.
-//!
-//! Each function here is a law: it has no code.
+//! That no reduction of a term's net leads to a vicious circle of principal ports (Lafont,
+//! Interaction Nets, POPL 1990) is proved for strongly normalising terms only
+//! (`ol_law_completeness`). Levels bound indexes from above only: they don't exclude an index that
+//! is too small.
 #![tactic(auto)]
 
 ghost use Rattle.ol_law_levels.specs.Asked.{StandingIsLost, BudgetIsNoHead, SpentIsLost};
@@ -47,89 +53,93 @@ pub fn term_is_levelled()
     ensures { TermIsLevelled }
 {}
 
-/// A step of any active pair leaves a levelled net levelled.
+/// The interaction of any active pair preserves that a net is levelled.
 pub fn step_keeps_levels<A>()
     ensures { StepKeepsLevels A }
 {}
 
-/// So does a run, whichever pairs its journal names, and in whatever order: over nets by the names
-/// of their nodes, and over graphs where each step is by the lead.
+/// A reduction preserves that a net is levelled, whatever the pairs of its trace and their order:
+/// for nets, by the names of their nodes, and for graphs, in the reduction by one thread.
 pub fn run_keeps_levels()
     ensures named { RunKeepsLevels }
     ensures numbered { GraphRunKeepsLevels }
 {}
 
-/// A net is levelled however its lists are ordered, and where it is so under some names of its
-/// nodes. A net of numbers is so under the names of start nodes.
+/// Whether a net is levelled doesn't depend on the order of its lists, and a net that is levelled
+/// under some names of its nodes is levelled. A graph with numbered nodes is levelled under the
+/// names of initial nodes.
 pub fn levels_have_no_names<A, B>()
     ensures same { SameNetIsLevelled A }
     ensures under { NamesKeepLevels A B }
     ensures start { StartIsLevelled }
 {}
 
-/// The two nodes of a stuck pair of a levelled net are of two kinds among fan, croissant and
-/// bracket, and of one index.
+/// The two nodes of a stuck pair of a levelled net are of two different kinds among fan, croissant
+/// and bracket, and have the same index.
 pub fn stuck_pairs_are_of_sharing<A>()
     ensures { StuckPairsAreOfSharing A }
 {}
 
-/// No walk goes up through one of the two to its slot 0 and then down through the other. So a walk
-/// from a free port that comes to the link of the two has no crossing there, and no path passes it.
+/// No walk traverses a node of a stuck pair from an auxiliary port to its principal port, and then
+/// the other node. A walk from a free port that arrives at the link of the two nodes has no
+/// crossing there, and no path crosses the link.
 pub fn no_walk_crosses_a_stuck_pair<A>()
     ensures crosses { NoWalkCrossesAStuckPair A }
     ensures stops { StuckPairsStopWalks A }
 {}
 
-/// In a levelled net without an active pair, whatever pairs are stuck, a walk from a free port
-/// turns once, and leaves within twice as many crossings as there are nodes or never. Where asking
-/// a frame for some number of abstractions leaves the net, so does asking it for one that is at
-/// most the number of nodes.
+/// In a levelled net without an active pair, with or without stuck pairs, a walk from a free port
+/// turns once, and leaves the net within twice as many crossings as there are nodes or never. If
+/// the walk of a frame for some number of abstractions leaves the net, a walk for a number that is
+/// at most the number of nodes also leaves the net.
 pub fn levelled_walk_is_short<A>()
     ensures turns_once { LevelledWalkTurnsOnce A }
     ensures short { LevelledWalkIsShort A }
     ensures enough { LevelledFewAreEnough A }
 {}
 
-/// In such a net a frame that was found within a budget to have no head has none; so a place
-/// without a head in a tree that was read from it has none in any net with the same paths.
+/// In a levelled net without an active pair, a frame for which no head was found within a budget
+/// has no head; a place without a head in a tree that was read from the net has no head in any net
+/// with the same paths.
 pub fn levelled_heads_kept<A, B>()
     ensures no_head { LevelledNoHead A }
     ensures printed { LevelledPrintedHeads A B }
 {}
 
-/// Where a run from the net of a term leaves no active pair, a tree that was read from the last net
-/// has the heads of the term's own net, and its places without a head have none there, whatever
-/// pairs are stuck.
+/// If a reduction of a term's net leaves no active pair, a tree that was read from the final net
+/// has the heads of the term's initial net, and its places without a head have no head there,
+/// whatever pairs are stuck.
 pub fn last_places_are_the_sources()
     ensures { LastPlacesAreTheSources }
 {}
 
-/// Where the chain of a demand run that asks a frame for n abstractions, at least as many as there
-/// are nodes, comes to a crossing that isn't defined, no path leaves the levelled net for n
-/// abstractions or more. The chain met no active pair, but some may be left elsewhere.
+/// If the chain of an on-demand reduction for n abstractions, where n is at least the number of
+/// nodes, arrives at a crossing that isn't defined, no path leaves the levelled net for n or more
+/// abstractions. The chain met no active pair, but active pairs may be left elsewhere.
 pub fn lost_is_lost<A>()
     ensures { LostIsLost A }
 {}
 
-/// So the places that a demand run finds are those of the levelled net before it, also those
-/// without a head.
+/// The places that an on-demand reduction finds are the places of the initial net, if it is
+/// levelled, including the places without a head.
 pub fn demand_places_are_the_sources()
     ensures { DemandPlacesAreTheSources }
 {}
 
-/// A place that was cut because its walk used up twice as many crossings as there are nodes has no
-/// head: in a levelled net without an active pair no path leaves for as many abstractions or more,
-/// and for fewer the walks had broken off; nor does one where the chain of a demand run ends so.
+/// A place that was cut because its walk made twice as many crossings as there are nodes has no
+/// head: in a levelled net without an active pair no path leaves the net for as many or more
+/// abstractions, and the walks for fewer abstractions arrived at a crossing that isn't defined. The
+/// same is true of a place at which the chain of an on-demand reduction ends in this way.
 pub fn cut_places_have_no_head<A>()
     ensures standing { StandingIsLost A }
     ensures within { BudgetIsNoHead A }
     ensures chain { SpentIsLost A }
 {}
 
-/// So what stands in a place that was asked tells the net: a head is the net's, and where there is
-/// none, or the place was cut all the same, the net has none. That is said of a tree that was read
-/// from a levelled net without an active pair, of one that was read after a run from the net of a
-/// term, and of what a demand run finds.
+/// A place whose head was computed describes the net: a head is the head of the net, and the net
+/// has no head at a place without a head or cut. This holds for a tree that was read from a
+/// levelled net without an active pair, for a tree that was read after a reduction of a term's net,
+/// and for the places that an on-demand reduction finds.
 pub fn asked_places_are_the_sources<A, B>()
     ensures heads { AskedHeadsAreHeads A }
     ensures kept { AskedHeadsAreKept A B }
@@ -138,44 +148,45 @@ pub fn asked_places_are_the_sources<A, B>()
     ensures demand { DemandTellsAsked }
 {}
 
-/// Levels don't exclude stuck pairs: a croissant and a fan of index 0 that face each other are a
-/// levelled net. An abstraction and a fan of index 0 are not, and a path crosses their pair.
+/// Levels don't exclude stuck pairs: a croissant and a fan of index 0, linked by their principal
+/// ports, are a levelled net. An abstraction and a fan of index 0 aren't levelled, and a path
+/// crosses their pair.
 pub fn stuck_examples()
     ensures levelled { LevelsAllowStuckPairs }
     ensures unlevelled { UnlevelledPairsAreCrossed }
 {}
 
-/// A levelled net without an active pair can have such a place: the walk from its root goes through
-/// a croissant and then round a fan for ever, so its tree is cut.
+/// A levelled net without an active pair can have a place that is cut: the walk from its root
+/// traverses a croissant and then a fan infinitely often.
 pub fn cut_example()
     ensures { RingIsCut }
 {}
 
-/// An index that is too great is excluded in the net of name 0 applied to name 1, written out: that
-/// of the argument's croissant, and that of its bracket. Lower indexes of fans, croissants and
-/// brackets are not, in any net: levels bound these indexes from above alone.
+/// In the net of name 0 applied to name 1, levels exclude greater indexes of the argument's
+/// croissant and of its bracket. Smaller indexes of fans, croissants and brackets aren't excluded,
+/// in any net: levels bound these indexes from above only.
 pub fn wrong_tables_break_levels<A>()
     ensures right { RightIndexesAreLevelled }
     ensures greater { GreaterIndexesAreNot }
     ensures lower { LowerIndexesKeepLevels A }
 {}
 
-/// A step of any active pair leaves an unblocked net unblocked.
+/// The interaction of any active pair preserves that a net is unblocked.
 pub fn step_keeps_unblocked<A>()
     ensures { StepKeepsUnblocked A }
 {}
 
-/// So does a run, whichever pairs its journal names, and in whatever order.
+/// A reduction preserves that a net is unblocked, whatever the pairs of its trace and their order.
 pub fn run_keeps_unblocked()
     ensures { RunKeepsUnblocked }
 {}
 
-/// In a levelled net that is unblocked no pair is stuck.
+/// A net that is levelled and unblocked has no stuck pair.
 pub fn unblocked_is_unstuck<A>()
     ensures { UnblockedIsUnstuck A }
 {}
 
-/// So no run from such a net leads to a net with a stuck pair.
+/// No reduction of a net that is levelled and unblocked leads to a net with a stuck pair.
 pub fn run_is_unstuck()
     ensures { RunIsUnstuck }
 {}
@@ -185,44 +196,47 @@ pub fn term_is_unblocked()
     ensures { TermIsUnblocked }
 {}
 
-/// No run from the net of a term, by either translation, leads to a net with a stuck pair: whichever
-/// pairs its journal names, in whatever order, complete or not. So it is with the one-thread run and
-/// with the turns of demand order, and with a graph of this net.
+/// No reduction of the net of a term, by either translation, leads to a net with a stuck pair:
+/// whatever the pairs of its trace and their order, whether or not it is to normal form. This
+/// includes the reduction by one thread, on-demand reduction, and reductions of a graph of this
+/// net.
 pub fn no_pair_is_stuck()
     ensures net { NoPairIsStuck }
     ensures order { NoPairIsStuckInOrder }
     ensures graph { NoPairOfAGraphIsStuck }
 {}
 
-/// If a net is unblocked, it is so in any other order of its lists, and a net of numbers is so under
-/// the names of start nodes.
+/// Whether a net is unblocked doesn't depend on the order of its lists, and an unblocked graph with
+/// numbered nodes is unblocked under the names of initial nodes.
 pub fn unblocked_has_no_names<A>()
     ensures same { SameNetIsUnblocked A }
     ensures start { StartIsUnblocked }
 {}
 
-/// If a net has no stuck pair, it has none in any other order of its lists, and 0 are counted. If it
-/// has none under some names of its nodes, it has none.
+/// Whether a net has a stuck pair doesn't depend on the order of its lists, and a net without a
+/// stuck pair under some names of its nodes has no stuck pair. The count of a net without stuck
+/// pairs is 0.
 pub fn unstuck_has_no_names<A, B>()
     ensures same { SameNetIsUnstuck A }
     ensures under { NamesKeepUnstuck A B }
     ensures counted { NoneIsCounted A }
 {}
 
-/// The net of a croissant and a fan of index 0 that face each other is levelled, and blocked.
+/// The net of a croissant and a fan of index 0, linked by their principal ports, is levelled, and
+/// isn't unblocked.
 pub fn blocked_example()
     ensures { StuckNetIsBlocked }
 {}
 
 /// In the net of `(\x. x x) (\y. y)` by translation 2 the croissant of y has index 1. With index 0
-/// this net is levelled all the same; but it is blocked.
+/// the net is also levelled, but it isn't unblocked.
 pub fn wrong_index_blocks()
     ensures right { RightIndexIsUnblocked }
     ensures lower { LowerIndexIsBlocked }
 {}
 
-/// A levelled net has no ring of principal ports if its ports have places, of bounded depth, and
-/// distances.
+/// A levelled net has no vicious circle of principal ports if its ports have places, of bounded
+/// depth, and distances.
 pub fn placed_has_no_ring<A>()
     ensures { PlacedHasNoRing A }
 {}
