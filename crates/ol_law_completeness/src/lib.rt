@@ -1,21 +1,28 @@
-//! Demand order is complete: where leftmost reduction of a term ends in a normal form, the demand
-//! run of the term's own net ends, and what it reads is this normal form. And it is the least: the
-//! net that it leaves serves to read the same places, and whatever run serves rewrites the same
-//! pairs, and maybe more.
+//! Termination and optimality of interactions: on-demand reduction finds every normal form and
+//! every head normal form, with the fewest interactions of all sufficient reductions, and reduction
+//! by one thread ends exactly on strongly normalising terms.
 //!
-//! The measure is said of the crossings of a path in a row: how many pairs of them are there of
-//! which the first goes up and a later one down. Each function here is a law: it has no code.
+//! A reduction is *sufficient* (it serves, `CanBeRead`) for a number of places, in preorder, if the
+//! paths that read these places from its final net meet no active pair. Strongly normalising terms
+//! are characterised by rules (van Raamsdonk, Confluence and Normalisation for Higher-Order
+//! Rewriting, 1996; Joachimski and Matthes, Short proofs of normalization, 2003). That the terms
+//! with a head normal form are the terms whose head reduction ends is Wadsworth's theorem
+//! (`ol_law_confluence`, theorem `heads`). Paths are those of Gonthier, Abadi and Lévy, The
+//! Geometry of Optimal Lambda Reduction, POPL 1992.
 //!
-//! Where walks are bounded, every run ends: a measure that each step of any active pair makes
-//! smaller, and that a net has as soon as no walk over it is longer than some number. So it is with
-//! the net of a strongly normalising term.
+//! The file starts with a measure for on-demand reduction, the inversions of a path
+//! (`step_shortens_row` to `inversions_are_one`): pairs of crossings of which the first leads up to
+//! a principal port and the second down from a principal port. It continues with completeness of
+//! on-demand reduction (`heads_are_read` to `terms_are_read`), its optimality (`demand_is_least` to
+//! `terms_are_read_least`), termination of all reductions of nets with bounded walks
+//! (`step_lightens` to `light_has_no_ring`), and strongly normalising terms
+//! (`strongly_normalising_by_rules` to `ends_exactly_if_strongly_normalising`). Every function is a
+//! theorem, without code.
 //!
-//! Each function here is a law: it has no code.
-//!
-//! If a run of a term's net ends, each row of beta steps of the term ends. So runs end just on the
-//! strongly normalising terms.
-//!
-//! Each function here is a law: it has no code.
+//! The theorems count interactions, and neither crossings of paths nor time. They compare
+//! reductions of the same net, with the readback of `ol_readback`. The bounds on the number of
+//! interactions, which are the number of inversions and a power of 2 in the length of walks, may be
+//! far too large.
 #![tactic(auto)]
 
 ghost use Rattle.ol_law_completeness.specs.BoundedRuns.{StepLightens, RunsAreShort, BoundedIsLight};
@@ -47,48 +54,51 @@ ghost use Rattle.ol_law_completeness.specs.TheLeast.{TheLeastIsOne, EndsWhereOne
 ghost use Rattle.ol_law_completeness.specs.TheLeast.{OneMoreIsNotLeast, LongerIsNotLeast};
 ghost use Rattle.ol_law_completeness.specs.TheLeast.{StoppedIsNotEnough, MissingIsNotEnough};
 
-/// A step takes no path from free port to free port more inversions, and takes at least one off a
-/// path that goes through its pair.
+/// An interaction doesn't increase the number of inversions of a path from free port to free port,
+/// and decreases it for a path that goes through its pair.
 pub fn step_shortens_row<A>()
     ensures { StepShortensRow A }
 {}
 
-/// In a net whose walks cross no stuck pair, the chain for no more abstractions than a path leaves
-/// for ends at a pair through which this path goes, or leaves, or breaks off where there are more
-/// nodes than abstractions. The chain for as many abstractions as the path meets the same pair.
+/// In a net whose walks cross no stuck pair, let a path leave the net for some number of
+/// abstractions. The chain for at most as many abstractions ends at an active pair on this path, or
+/// leaves the net, or, if there are more nodes than abstractions, arrives at a crossing that isn't
+/// defined. The chain for exactly as many abstractions meets the same pair as the path.
 pub fn chain_is_on_path<A>()
     ensures path { ChainIsOnPath A }
     ensures alike { ChainsMeetAlike A }
 {}
 
-/// A net tells one number of inversions: those in the rows of the paths to its first heads, or to
-/// the heads of all places, if each of these places has one. For a term's own net that is a number
-/// of the source alone, before any step.
+/// A net determines the number of inversions of the paths to its first heads, and of the paths to
+/// the heads of all places, if each of these places has a head. For a term's net this number is
+/// determined by the initial net, before any interaction.
 pub fn inversions_are_one<A>()
     ensures first { InversionsAreOne A }
     ensures whole { AllInversionsAreOne A }
 {}
 
-/// Where each place of the source has a head, the demand run ends, within as many steps as there
-/// are inversions in the rows of the paths to these heads. Its places are these. This, and what
-/// follows of nets, is said of a net where no walk of a net that it is rewritten to crosses a stuck
-/// pair; of nets of terms see `terms_are_read`, where that is no premise.
+/// If each place of the initial net has a head, on-demand reduction ends, in at most as many
+/// interactions as the paths to these heads have inversions, and finds these places. This theorem
+/// and the following theorems on nets assume that no net to which the initial net reduces has a
+/// walk that crosses a stuck pair; nets of terms have this property (`terms_are_read`).
 pub fn heads_are_read()
     ensures { HeadsAreRead }
 {}
 
-/// Where leftmost reduction of a term ends in a normal form, the term's own net has a head at each
+/// If leftmost reduction of a term ends in a normal form, the term's initial net has a head at each
 /// place of this normal form.
 pub fn normal_form_has_heads()
     ensures { NormalFormHasHeads }
 {}
 
-/// And so demand order reads it, from any such net with the paths of the term's own net.
+/// If leftmost reduction of a term ends in a normal form, on-demand reduction reads it from any net
+/// with the property that `heads_are_read` assumes and the paths of the term's initial net.
 pub fn demand_is_complete()
     ensures { DemandIsComplete }
 {}
 
-/// Asked for one head, demand order reads the head of each term whose head reduction ends.
+/// Asked for a single head, on-demand reduction reads the head of each term whose head reduction
+/// ends.
 pub fn head_is_read()
     ensures { HeadIsRead }
 {}
@@ -98,14 +108,14 @@ pub fn levelled_crosses_no_stuck<A>()
     ensures { LevelledCrossesNoStuck A }
 {}
 
-/// Where leftmost reduction of a term ends in a normal form, the demand run of the term's own net,
-/// by either translation, ends, and reads this normal form if it is asked for enough heads. It has
-/// no more steps than there are inversions in the rows of the paths that the term's own net has to
-/// these heads, before any step. Asked for one head, it reads the head of each term whose head
-/// reduction ends; by Wadsworth's theorem (law `heads` of `ol_law_confluence`) these are the terms that
-/// have a head normal form. Each place that a demand run reads, with a head or without one, is that
-/// of the term's own net. So it reads a tree with a head at each place exactly where leftmost
-/// reduction ends in a normal form.
+/// Theorem (completeness): if leftmost reduction of a term ends in a normal form, on-demand
+/// reduction of the term's net, by either translation, ends, and reads this normal form if it is
+/// asked for enough heads. It makes at most as many interactions as the paths of the initial net to
+/// these heads have inversions. Asked for a single head, it reads the head of each term whose head
+/// reduction ends; by Wadsworth's theorem (`ol_law_confluence`, theorem `heads`) these are the
+/// terms with a head normal form. Each place that on-demand reduction reads, with or without a
+/// head, is the place of the initial net. It follows that it reads a tree with a head at each place
+/// exactly if leftmost reduction ends in a normal form.
 pub fn terms_are_read()
     ensures normal { NormalFormIsRead }
     ensures head { HeadNormalFormIsRead }
@@ -113,15 +123,15 @@ pub fn terms_are_read()
     ensures exactly { ReadsExactlyNormalForms }
 {}
 
-/// Demand order is least. A run *serves* if it leads to a net from which the places can be read by
-/// walks that meet no active pair. Whichever run serves, it rewrites each pair that demand order
-/// rewrites, by birth names, and makes no fewer steps. So the journal of a demand run is least for
-/// the places that it was asked for, and so is each front part of it. A demand run that has an end
-/// is one of these runs itself: the places can be read again, by such walks, from the net that it
-/// leaves. So it is *the* least: a run serves exactly where it has rewritten all that demand order
-/// rewrites. And where any run serves, from a net with a root, the demand run has an end. Clause
-/// `demanded` is said of a net that is levelled, the other clauses of one where no walk of a net
-/// that it is rewritten to crosses a stuck pair, as is so where it is levelled.
+/// Theorem (optimality): every sufficient reduction rewrites each pair that on-demand reduction
+/// rewrites, by birth names, and makes at least as many interactions. The trace of an on-demand
+/// reduction is therefore least for the places that it was asked for, and so is each prefix of the
+/// trace. An on-demand reduction that ends is sufficient itself: the paths that read the places
+/// from its final net meet no active pair. It follows that a reduction is sufficient exactly if it
+/// rewrites all pairs that on-demand reduction rewrites. If some reduction of a net with a root is
+/// sufficient, on-demand reduction ends. Clause `demanded` assumes that the net is levelled; the
+/// other clauses assume that no net to which it reduces has a walk that crosses a stuck pair, which
+/// is true of levelled nets.
 pub fn demand_is_least()
     ensures least { DemandIsLeast }
     ensures demanded { DemandedIsLeast }
@@ -130,17 +140,18 @@ pub fn demand_is_least()
     ensures ends { EndsWhereOneServes }
 {}
 
-/// The pairs of the least journal are just those that all runs that serve have in common. So there
-/// is but one such journal, up to the order of its pairs.
+/// The pairs of the least trace are the pairs that all sufficient reductions have in common. The
+/// least trace is therefore unique, up to the order of its pairs.
 pub fn the_least_is_one()
     ensures common { LeastIsInCommon }
     ensures one { TheLeastIsOne }
 {}
 
-/// What these laws refuse. A run that rewrites one pair more than the demand run serves too, but it
-/// isn't least, and no other longer run is. A run that stops where demand order would meet one pair
-/// more doesn't serve, nor does any other that is no longer, nor any that leaves out one of its
-/// pairs.
+/// Counterexamples to wrong definitions of least. A reduction that rewrites a single pair in
+/// addition to on-demand reduction is sufficient, but isn't least, and no other longer reduction is
+/// least. A reduction that stops when on-demand reduction would meet a further pair isn't
+/// sufficient, nor is any other reduction that is at most as long, nor any reduction that omits a
+/// pair of on-demand reduction.
 pub fn wrong_demands_are_refused()
     ensures one_more { OneMoreIsNotLeast }
     ensures longer { LongerIsNotLeast }
@@ -148,11 +159,12 @@ pub fn wrong_demands_are_refused()
     ensures missing { MissingIsNotEnough }
 {}
 
-/// From which nets the places can be read by walks that meet no active pair. Where a net has a root
-/// and no walk of it crosses a stuck pair, these are just the nets from which demand order makes no
-/// step and has an end. Where it reads a head at each place that it asks, nothing of the walks need
-/// be known. After each complete run the net is so, for the places that a demand run from the same
-/// start reads. And a net that is so stays so, whatever pairs are rewritten.
+/// From which nets the places can be read by paths that meet no active pair. For a net with a root
+/// whose walks cross no stuck pair, these are exactly the nets for which on-demand reduction ends
+/// without an interaction. If on-demand reduction without an interaction reads a head at each place
+/// that it is asked for, the assumption on walks isn't needed. After each reduction to normal form
+/// the net has this property for the places that an on-demand reduction of the same initial net
+/// reads. Interactions preserve the property.
 pub fn some_nets_are_enough()
     ensures means { ReadAsItIs }
     ensures as_it_is { EnoughAsItIs }
@@ -161,9 +173,10 @@ pub fn some_nets_are_enough()
     ensures kept { EnoughIsKept }
 {}
 
-/// All this of nets of terms, by either translation, on which each premise of the laws of nets
-/// holds. No run that serves to read the same places is shorter than the demand run. This has an
-/// end where any run serves; and where it has one, it serves itself, and so does each complete run.
+/// The same for nets of terms, by either translation, which satisfy all assumptions of the theorems
+/// on nets. On-demand reduction makes the fewest interactions of all reductions that are sufficient
+/// for the same places. It ends if some reduction is sufficient; and if it ends, it is sufficient
+/// itself, and so is each reduction to normal form.
 pub fn terms_are_read_least()
     ensures least { TermIsReadLeast }
     ensures demanded { TermIsDemandedLeast }
@@ -173,24 +186,25 @@ pub fn terms_are_read_least()
     ensures complete { CompleteRunIsEnough }
 {}
 
-/// A step of any active pair makes a net lighter.
+/// The interaction of any active pair decreases the weight of a net.
 pub fn step_lightens<A>()
     ensures { StepLightens A }
 {}
 
-/// So a run, of whichever pairs and in whatever order, is no longer than the net weighs.
+/// A reduction, whatever its pairs and their order, makes at most as many interactions as the
+/// weight of the net.
 pub fn runs_are_short()
     ensures { RunsAreShort }
 {}
 
-/// Where no walk makes more than b crossings, a net has a weight.
+/// A net whose walks make at most b crossings has a weight.
 pub fn bounded_is_light<A>()
     ensures { BoundedIsLight A }
 {}
 
-/// So no run of it is longer than a number that it tells itself: how many nodes it has, times the
-/// number (2 to the b + 1) less 1. With more fuel the one-thread run ends, and there is a complete
-/// run. So it is with each graph that has this net.
+/// If the walks of a net make at most b crossings, every reduction of it makes at most N * (2^(b +
+/// 1) - 1) interactions, where N is the number of nodes. With more fuel the reduction by one thread
+/// ends, and a reduction to normal form exists. The same is true of each graph that has this net.
 pub fn bounded_runs_end()
     ensures short { BoundedRunsAreShort }
     ensures ends { BoundedRunEnds }
@@ -198,36 +212,36 @@ pub fn bounded_runs_end()
     ensures graph { BoundedGraphRunsEnd }
 {}
 
-/// A net that has a weight has no ring of principal ports.
+/// A net that has a weight has no vicious circle of principal ports.
 pub fn light_has_no_ring<A>()
     ensures { LightHasNoRing A }
 {}
 
-/// The strongly normalising terms are those that rules build: a variable or a name with such
-/// arguments, an abstraction of such a body, and a term that has a weak head step to such a term,
-/// if the argument of its redex is one too.
+/// The strongly normalising terms are the terms that these rules build: a variable or a name with
+/// such arguments; an abstraction of such a body; and a term with a weak head step to such a term,
+/// if the argument of the contracted redex is also such a term.
 pub fn strongly_normalising_by_rules()
     ensures { StronglyNormalisingByRules }
 {}
 
-/// If each row of beta steps of a term ends, walks over its net are bounded, by either translation.
-/// So every run of the net ends, within a number that the net tells: of any pairs, in any order. And
-/// none leads to a ring of principal ports.
+/// If a term is strongly normalising, the walks over its net are bounded, by either translation. It
+/// follows that every reduction of the net, of any pairs in any order, ends within a number of
+/// interactions that the net determines, and leads to no vicious circle of principal ports.
 pub fn strongly_normalising_ends()
     ensures bounded { StronglyNormalisingIsBounded }
     ensures ends { StronglyNormalisingEnds }
     ensures rings { StronglyNormalisingHasNoRing }
 {}
 
-/// If some run of a term's net, by either translation, leads to a net without an active pair, the
-/// term is strongly normalising.
+/// If some reduction of a term's net, by either translation, leads to a net without an active pair,
+/// the term is strongly normalising.
 pub fn only_strongly_normalising_ends()
     ensures { OnlyStronglyNormalisingEnds }
 {}
 
-/// So the one-thread run of a term's net ends, with some fuel, just if the term is strongly
-/// normalising; and just then there is a number within which every run ends, of any pairs in any
-/// order.
+/// Theorem: reduction of a term's net by one thread ends, with some fuel, exactly if the term is
+/// strongly normalising. Equivalently, a number exists that bounds the length of every reduction of
+/// the net, of any pairs in any order.
 pub fn ends_exactly_if_strongly_normalising()
     ensures one { OneThreadEndsExactly }
     ensures every { EveryRunEndsExactly }
