@@ -15,8 +15,9 @@
 //! a principal port and the second down from a principal port. It continues with completeness of
 //! on-demand reduction (`heads_are_read` to `terms_are_read`), its optimality (`demand_is_least` to
 //! `terms_are_read_least`), termination of all reductions of nets with bounded walks
-//! (`step_lightens` to `light_has_no_ring`), and strongly normalising terms (`strongly_normalising_by_rules` to
-//! `ends_exactly_if_strongly_normalising`). Every function is a theorem, without code.
+//! (`step_lightens` to `light_has_no_ring`), and strongly normalising terms
+//! (`strongly_normalising_by_rules` to `ends_exactly_if_strongly_normalising`). Every function is a
+//! theorem, without code.
 //!
 //! The theorems count interactions, and neither crossings of paths nor time. They compare
 //! reductions of the same net, with the readback of `ol_readback`. The bounds on the number of

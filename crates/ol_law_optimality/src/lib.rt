@@ -259,11 +259,11 @@ pub fn signs_tell_routes()
     ensures { SignsTellRoutes }
 {}
 
-/// On-demand reduction makes at most as many β-steps as there are families. Let each subterm of a
-/// term have its own letter, and let leftmost reduction of the labelled term end in a normal form.
-/// An on-demand reduction of the term's net, by either translation and for any number of heads,
-/// then has as many β-steps as some different degrees that leftmost reduction contracts, whether it
-/// ends or is stopped. The same holds for a single head and head reduction.
+/// On-demand reduction makes at most as many β-steps as there are families. Assume that each
+/// subterm of a term has its own letter, and that leftmost reduction of the labelled term ends in a
+/// normal form. An on-demand reduction of the term's net, by either translation and for any number
+/// of heads, then has as many β-steps as some different degrees that leftmost reduction contracts,
+/// whether it ends or is stopped. The same holds for a single head and head reduction.
 pub fn no_more_betas_than_families()
     ensures head { NoMoreBetasThanFamilies }
     ensures leftmost { BetasAreNoMoreThanFamilies }
@@ -277,19 +277,20 @@ pub fn wider_questions_see_alike<A>()
     ensures first { SeenByFirstQuestion A }
 {}
 
-/// On-demand reduction for a single head makes exactly as many β-steps as there are families. Let
-/// each subterm of a term have its own letter, and let head reduction of the labelled term end in a
-/// head normal form. An on-demand reduction of the term's net, by either translation, that asks for
-/// a single head and ends then has as many β-steps as head reduction contracts different degrees.
+/// On-demand reduction for a single head makes exactly as many β-steps as there are families.
+/// Assume that each subterm of a term has its own letter, and that head reduction of the labelled
+/// term ends in a head normal form. An on-demand reduction of the term's net, by either
+/// translation, that asks for a single head and ends then has as many β-steps as head reduction
+/// contracts different degrees.
 pub fn betas_are_head_families()
     ensures { BetasAreHeadFamilies }
 {}
 
-/// On-demand reduction makes exactly as many β-steps as there are families. Let each subterm of a
-/// term have its own letter, and let leftmost reduction of the labelled term end in a normal form.
-/// An on-demand reduction of the term's net, by either translation, that finds a head at each
-/// place, and therefore prints a term, then has as many β-steps as leftmost reduction contracts
-/// different degrees.
+/// On-demand reduction makes exactly as many β-steps as there are families. Assume that each
+/// subterm of a term has its own letter, and that leftmost reduction of the labelled term ends in a
+/// normal form. An on-demand reduction of the term's net, by either translation, that finds a head
+/// at each place, and therefore prints a term, then has as many β-steps as leftmost reduction
+/// contracts different degrees.
 pub fn betas_are_families()
     ensures { BetasAreFamilies }
 {}
@@ -305,10 +306,10 @@ pub fn labels_can_be_had()
 {}
 
 /// The β-steps of on-demand reduction correspond one-to-one to the families that leftmost reduction
-/// contracts. Let each subterm of a term have its own letter, and let leftmost reduction of the
-/// labelled term end in a normal form. Each β-step of an on-demand reduction that finds a head at
-/// each place then comes from a route of the term's net whose word is a degree; no two β-steps have
-/// the same degree, and each degree is the word of a β-step.
+/// contracts. Assume that each subterm of a term has its own letter, and that leftmost reduction of
+/// the labelled term ends in a normal form. Each β-step of an on-demand reduction that finds a head
+/// at each place then comes from a route of the term's net whose word is a degree; no two β-steps
+/// have the same degree, and each degree is the word of a β-step.
 pub fn betas_spell_families()
     ensures { BetasSpellFamilies }
 {}
@@ -337,11 +338,11 @@ pub fn families_at_once()
     ensures heads { HeadFamiliesAreWhole }
 {}
 
-/// Let each label of a term be a letter. A reduction by whole families contracts no family twice;
-/// if it contracts needed families only, it has the fewest steps of all reductions by families to a
-/// normal form. Whole families, each time the family of the leftmost redex, lead to the normal form
-/// in as many steps as leftmost reduction contracts different degrees. The same holds for the head
-/// redex, head normal forms and head reduction.
+/// Assume that each label of a term is a letter. A reduction by whole families contracts no family
+/// twice; if it contracts needed families only, it has the fewest steps of all reductions by
+/// families to a normal form. Whole families, each time the family of the leftmost redex, lead to
+/// the normal form in as many steps as leftmost reduction contracts different degrees. The same
+/// holds for the head redex, head normal forms and head reduction.
 pub fn fewest_is_reached()
     ensures once { NoFamilyTwice }
     ensures needed { NeededFamiliesAreFewest }
@@ -349,10 +350,10 @@ pub fn fewest_is_reached()
     ensures head { FewestForAHead }
 {}
 
-/// Let each subterm of a term have its own letter, and let leftmost reduction lead to a normal
-/// form. If every reduction by families to a normal form has at least n steps, n is the number of
-/// some different degrees that leftmost reduction contracts, and is at most the number of its
-/// steps. If some reduction by families has exactly n steps, n is the number of all different
+/// Assume that each subterm of a term has its own letter, and that leftmost reduction leads to a
+/// normal form. If every reduction by families to a normal form has at least n steps, n is the
+/// number of some different degrees that leftmost reduction contracts, and is at most the number of
+/// its steps. If some reduction by families has exactly n steps, n is the number of all different
 /// degrees that leftmost reduction contracts.
 pub fn fewest_are_families()
     ensures families { FewestAreFamilies }
@@ -360,12 +361,12 @@ pub fn fewest_are_families()
     ensures frugal { FewestIsFrugal }
 {}
 
-/// Let each subterm of a term have its own letter. On-demand reduction of the term's net, by either
-/// translation and for any number of heads, makes at most as many β-steps as any reduction of the
-/// labelled term to a normal form contracts different degrees, and at most as many as any reduction
-/// by families to a normal form has steps; also if it is stopped. If it finds a head at each place,
-/// whole families, each time the family of the leftmost redex, lead to the printed term in exactly
-/// as many steps. On-demand reduction therefore makes the fewest.
+/// Assume that each subterm of a term has its own letter. On-demand reduction of the term's net, by
+/// either translation and for any number of heads, makes at most as many β-steps as any reduction
+/// of the labelled term to a normal form contracts different degrees, and at most as many as any
+/// reduction by families to a normal form has steps; also if it is stopped. If it finds a head at
+/// each place, whole families, each time the family of the leftmost redex, lead to the printed term
+/// in exactly as many steps. On-demand reduction therefore makes the fewest.
 pub fn demand_is_optimal()
     ensures each { BetasAreOfEachReduction }
     ensures shorter { NoneIsShorterThanDemand }
@@ -408,10 +409,10 @@ pub fn first_heads()
     ensures one { OneHeadIsHeadNormal }
 {}
 
-/// Let each label of a term be a letter. If some reduction leads to a term that shows its first
-/// heads, whole families, each time the family of the leftmost redex, also lead to such a term;
-/// they contract no family twice, and each of them is contracted by every such reduction. They have
-/// therefore the fewest steps of all reductions by families to such a term.
+/// Assume that each label of a term is a letter. If some reduction leads to a term that shows its
+/// first heads, whole families, each time the family of the leftmost redex, also lead to such a
+/// term; they contract no family twice, and each of them is contracted by every such reduction.
+/// They have therefore the fewest steps of all reductions by families to such a term.
 pub fn first_heads_are_reached()
     ensures reached { FewestForHeads }
     ensures shorter { NoneIsShorterThanNeeded }
