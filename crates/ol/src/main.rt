@@ -57,8 +57,9 @@ fn run<'a, R: Files + Input + Print + Threads + Wait + Sync>(
         (Some []) (⟦<StdSink<'a, R> as Sink>⟧.taken result.out) }
 
     // Where nothing failed, whatever the status, unless no memory was found: what was accepted is the
-    // answer, a job that can be done is done, and each complete run tells the same or is longer than
-    // the fuel (`exact`, `completeness`, `every_run`).
+    // answer, a job that can be done is done, `run` with enough fuel exactly if the term is strongly
+    // normalising, and each complete run tells the same or is longer than the fuel (`exact`,
+    // `completeness`, `termination`, `every_run`).
     ensures answer_says { ⟦<StdSource<'a, R> as Source>⟧.faults result.src ≡ 0
         → ⟦<StdSink<'a, R> as Sink>⟧.faults result.out ≡ 0
         → (files : Files) → AreOfSince files [] (⟦<StdSource<'a, R> as Source>⟧.readings result.src)

@@ -5,7 +5,7 @@ use Rattle.ol_beta.specs.Leftmost.{IsNormal}
 use Rattle.ol_law_optimality.proofs.Labelling.{labelled, leftmost_is_labelled}
 use Rattle.ol_io.specs.Outside.{Appended}
 use Rattle.ol_law_optimality.specs.FirstHeads.{HasFirstHeads, HaveHeads}
-use Rattle.ol_law_optimality.proofs.FirstHeadsPrinted.{filled_has_heads, heads_found, no_shorter_reduction}
+use Rattle.ol_law_optimality.proofs.FirstHeadsPrinted.{filled_has_heads, heads_found, no_shorter_reduction, normal_has_heads}
 use Rattle.ol_law_optimality.proofs.FirstHeadsReached.{no_longer_to, as_short_to}
 use Rattle.ol_law_optimality.proofs.Demanding.{is_no_longer, is_as_short}
 use Rattle.ol_law_optimality.proofs.Steps.{leftmost_families_are_families}
@@ -120,16 +120,21 @@ fewest : (translation : Translation) (source : Named) (fuel heads : ℕ) (text :
     (d : Demands translation (number source) (names_of source) fuel heads text) →
     ((result : Named) → IsText d.term result → IsNormalFormOf source result) →
     AreFewest source d.term (times_applied rule.Beta d.ends.journal)
-fewest translation source fuel heads text good h d form T e own =
+fewest translation source fuel heads text good h d form =
     let names = names_of source in
     let N = translation_of translation (number source) (length names) in
     let is_net = translation_net translation (number source) (length names) h in
     let start = is_start translation (number source) names is_net in
     let r = d.ends.run in (
-      λ V ds f n.
-          is_no_longer translation T V ds f n own (number source) e (length names) h N is_net (same_refl N) start heads
-          r.turns d.ends.journal r.asked_places d.ends.net r.last r.run,
-      λ result is. elim (all_or_not d.ends.tree) [
+      record {
+        plain = λ v l n.
+            no_shorter_reduction translation heads (number source) v l (normal_has_heads v n heads) (length names) h N is_net
+            (same_refl N) start r.turns d.ends.journal r.asked_places d.ends.net r.last r.run;
+        families = λ T e own V ds f n.
+            is_no_longer translation T V ds f n own (number source) e (length names) h N is_net (same_refl N) start heads
+            r.turns d.ends.journal r.asked_places d.ends.net r.last r.run;
+      },
+      λ result is T e own. elim (all_or_not d.ends.tree) [
         | inl all ↦
             let v = form result is in
             let leads = v.1.leftmost in
@@ -167,17 +172,19 @@ fewest_for_heads translation source fuel heads text h d =
     let e = d.demands.ends in
     let r = e.run in
     record {
-      fewer = λ T is own V ds f s.
-          no_longer_to translation heads T V ds f s own (number source) is (length names) h N is_net (same_refl N) start
-          r.turns e.journal r.asked_places e.net r.last r.run;
-      plain = λ v l s.
-          no_shorter_reduction translation heads (number source) v l s (length names) h N is_net (same_refl N) start
-          r.turns e.journal r.asked_places e.net r.last r.run;
+      fewest = record {
+        plain = λ v l s.
+            no_shorter_reduction translation heads (number source) v l s (length names) h N is_net (same_refl N) start
+            r.turns e.journal r.asked_places e.net r.last r.run;
+        families = λ T is own V ds f s.
+            no_longer_to translation heads T V ds f s own (number source) is (length names) h N is_net (same_refl N) start
+            r.turns e.journal r.asked_places e.net r.last r.run;
+      };
       places = e.tree;
       shown = d.demands.shown;
       found = λ can. heads_found translation heads (number source) can.0 can.1 can.2 (length names) h N is_net (same_refl N)
           start e.journal e.tree e.net r;
-      as_many = λ all T is own.
+      as_long = λ all T is own.
           let s = filled_has_heads true d.says.tree d.says.reduct d.says.fills heads
           (subst (HaveHeads heads) (sym d.says.is_list) all) in
           let l = labelled d.says.reduces T is in

@@ -33,6 +33,7 @@ mod TermJobs
 mod MadeJobs
 mod TwoFiles
 mod FilesRead
+mod Termination
 mod Called
 mod Frame
 mod Saying

@@ -16,6 +16,7 @@ use Rattle.ol_cli.proofs.Called.{call_ends, call_reads}
 use Rattle.ol_cli.proofs.Complete.{done_or_nothing}
 use Rattle.ol_cli.proofs.Exact.{ends_exact}
 use Rattle.ol_cli.proofs.Sourced.{writes_tree, ends_run}
+use Rattle.ol_cli.proofs.Termination.{answer_ends}
 use Rattle.ol_cli.proofs.SourceTrees.{writes_of_sources}
 use Rattle.ol_cli.proofs.NormalLines.{writes_normal_form, writes_no_normal_form}
 use Rattle.ol_cli.proofs.DemandedLines.{writes_demanded}
@@ -39,6 +40,7 @@ module _ (words : List (String Global)) (f f' given : ℕ) (ended : Bool) (g g' 
     exact = exact;
     completeness = λ can.
         done_or_nothing words f f' given files ended quiet can o.status g g' old new calm ends;
+    termination = λ has. answer_ends words files o.status old new (exact has);
     every_run = λ has bytes tells.
         ends_run words f f' given files ended quiet bytes tells o.status g g' old new calm has ends;
   }

@@ -257,7 +257,7 @@ answer_runs words files bytes tells st text old new a written job t names j f =
 -- ---- the call
 
 -- a job with one file, or none, whose bytes are told
-one_name : (contents : Files) (bytes : List ℕ) (name : Text) → contents 0 name ≡ Some bytes →
+pub one_name : (contents : Files) (bytes : List ℕ) (name : Text) → contents 0 name ≡ Some bytes →
     (place : ℕ) (n : Text) → slice_get (name ∷ []) place ≡ Some n → (b : List ℕ) × (contents place n ≡ Some b)
 one_name contents bytes name told zero n is = let same : name ≡ n = cc in (bytes, ap (contents 0) (sym same) ∙ told)
 one_name contents bytes name told (suc k) n is = absurd (cc)

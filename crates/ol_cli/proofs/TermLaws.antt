@@ -66,10 +66,10 @@ module _ {Net Ends : Type 0} where
 -- one-thread run ends
 module _ (tr : Translation) (t : Tree) (names : List (List ℕ)) (fuel : ℕ)
     (n : IsNet (translation_of tr t (length names))) (x : List ℕ) where
-  trace_ends : Traces tr t names fuel Done x → RunEnds (start_net_of_term tr t names) fuel
+  pub trace_ends : Traces tr t names fuel Done x → RunEnds (start_net_of_term tr t names) fuel
   trace_ends h = any_run_ends tr t names fuel n h.journal h.net h.run h.ends.0 h.ends.1
 
-  trace_runs_out : Traces tr t names fuel Spent x → RunsOut (start_net_of_term tr t names) fuel
+  pub trace_runs_out : Traces tr t names fuel Spent x → RunsOut (start_net_of_term tr t names) fuel
   trace_runs_out h = any_run_runs_out tr t names fuel n h.journal h.net h.run (inr (h.ends.1, h.ends.0))
 
 -- the net of a term has one text

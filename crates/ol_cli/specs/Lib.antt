@@ -25,6 +25,7 @@ pub mod DemandFuel
 pub mod Laws
 pub mod Handed
 pub mod Completeness
+pub mod Termination
 pub mod Says
 -- What only contracts of private functions and proofs cite.
 pub mod RefusalTexts

@@ -113,13 +113,24 @@ abbrev pub NoneIsStuck : List (String Global) → List ℕ → Option (List ℕ)
 NoneIsStuck words bytes old new = (job : Job) → AskFor words job → PrintsCounts job →
     (source : Named) → IsText bytes source → CountsSay (λ line beta. Unit {0}) old new
 
--- Let each subterm of the source have a letter of its own as its label. No reduction of the labelled
--- term to a normal form by family steps, which contract any redexes of one degree at once, has fewer
--- of them than there are beta steps (Lévy). And if the line is a text of a term, one has just as many.
+-- No reduction of the source to a term of this sort, of whatever redexes in whatever order, has fewer than n beta steps;
+-- nor has one of n family steps, which contract any redexes of one degree at once (Lévy), where each subterm of the source
+-- has a letter of its own as its label.
+pub record NoReductionIsShorter (Goal : Tree → Type 0) (source : Named) (n : ℕ) : Type 0 where
+  pub plain : (v : Tree) (r : BetaReduces (by_names_of source source) v) → Goal v → n ≤ steps_of r
+  pub families : (T : Labelled) → erased T ≡ by_names_of source source → HaveOwnLetters T →
+      NoFamilyReductionIsShorter Goal T n
+
+-- one by family steps has just n
+abbrev pub OneIsAsLong : (Tree → Type 0) → Named → ℕ → Type 0
+OneIsAsLong Goal source n = (T : Labelled) → erased T ≡ by_names_of source source → HaveOwnLetters T →
+    FamilyReductionOfLength Goal T n
+
+-- No reduction of the source to a normal form is shorter than there are beta steps; and if the line is a text of a term,
+-- one by family steps is just as long.
 abbrev pub AreFewest : Named → List ℕ → ℕ → Type 0
-AreFewest source line beta = (T : Labelled) → erased T ≡ by_names_of source source →
-    HaveOwnLetters T → NoFamilyReductionIsShorter IsNormal T beta
-    × ((result : Named) → IsText line result → FamilyReductionOfLength IsNormal T beta)
+AreFewest source line beta = NoReductionIsShorter IsNormal source beta
+    × ((result : Named) → IsText line result → OneIsAsLong IsNormal source beta)
 
 -- so it is with the beta steps of `demand`, whatever its options are
 abbrev pub BetasAreFewest : List (String Global) → List ℕ → Option (List ℕ) → Option (List ℕ) →
@@ -128,20 +139,16 @@ BetasAreFewest words bytes old new = (translation : Translation) (fuel heads : �
     AskFor words (jobs.Demand translation fuel heads name) →
     (source : Named) → IsText bytes source → CountsSay (AreFewest source) old new
 
--- The same for so many heads: the first ones, in preorder, of the source's Böhm tree. No reduction of the labelled term by
--- family steps to a term that shows them has fewer steps than there are beta steps, nor has one of the plain term, of
--- whatever redexes in whatever order. The line is a text of these places. If the source reduces to a term that shows so
--- many heads, each of the first so many places has one; and if each has one, a reduction by family steps has just as many
--- steps as there are beta steps.
+-- The same for so many heads: the first ones, in preorder, of the source's Böhm tree. No reduction of the source to a term
+-- that shows them is shorter than there are beta steps. The line is a text of these places. If the source reduces to a term
+-- that shows so many heads, each of the first so many places has one; and if each has one, a reduction by family steps is
+-- just as long.
 pub record AreFewestForHeads (heads : ℕ) (source : Named) (line : List ℕ) (beta : ℕ) : Type 0 where
-  pub fewer : (T : Labelled) → erased T ≡ by_names_of source source → HaveOwnLetters T →
-      NoFamilyReductionIsShorter (HasFirstHeads heads) T beta
-  pub plain : (v : Tree) (r : BetaReduces (by_names_of source source) v) → HasFirstHeads heads v → beta ≤ steps_of r
+  pub fewest : NoReductionIsShorter (HasFirstHeads heads) source beta
   pub places : List ReadNode
   pub shown : IsTextOf (names_of source) places line
   pub found : ReducesToHeads heads (by_names_of source source) → HaveHeads heads places
-  pub as_many : HaveHeads heads places → (T : Labelled) → erased T ≡ by_names_of source source →
-      HaveOwnLetters T → FamilyReductionOfLength (HasFirstHeads heads) T beta
+  pub as_long : HaveHeads heads places → OneIsAsLong (HasFirstHeads heads) source beta
 
 abbrev pub BetasAreFewestForHeads : List (String Global) → List ℕ → Option (List ℕ) → Option (List ℕ) → Type 0
 BetasAreFewestForHeads words bytes old new = (translation : Translation) (fuel heads : ℕ) (name : Text) →

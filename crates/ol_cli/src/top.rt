@@ -96,7 +96,8 @@ pub struct Outcome {
 /// lines of its stuck pairs, as any run that leaves no active pair may have numbered the nodes,
 /// while the nine lines before are one. The answer of `run` is that of the one-thread run, which
 /// always rewrites the active pair whose smaller name is least; each complete run prints the same,
-/// and each is longer than F where that one is.
+/// and each is longer than F where that one is. With enough fuel `run`, `trace`, `certify` and
+/// `gen --run` are done exactly if the source is strongly normalising: if each reduction of it ends.
 ///
 /// Each head that is written is the one that walks of any length give in the source's untouched net
 /// (Gonthier, Abadi and Lévy, The Geometry of Optimal Lambda Reduction, 1992). Beta reduction leads
@@ -160,8 +161,9 @@ pub fn ol<R: Threads + Wait + Sync, S: Source, W: Sink, G: Gate + Sync>(
         (λ files old new. result.status ≡ Status.Done → SaysWhenDone words.now.items files old new) }
 
     // Where nothing fails, whatever the status, unless no memory was found: what was written is the
-    // answer, a job that can be done is done, and each complete run tells the same or is longer than
-    // the fuel (`exact`, `completeness`, `every_run`).
+    // answer, a job that can be done is done, `run` with enough fuel exactly if the term is strongly
+    // normalising, and each complete run tells the same or is longer than the fuel (`exact`,
+    // `completeness`, `termination`, `every_run`).
     ensures answer_says { WhereNoneFailed S.Source W.Sink src.old src.new out.old out.new
         (λ files. SaysOfAnswer words.now.items files result.status) }
 
