@@ -25,7 +25,7 @@ def stop(text):
 
 def check_the_machine():
     if not shutil.which('rt'):
-        stop("`rt` isn't found: put the kit's folder bin/ on PATH (README.md, \"What it needs\").")
+        stop("`rt` isn't found: put the kit's folder bin/ on PATH (docs/use/INSTALL.md).")
     said = subprocess.run(['rt', 'version'], capture_output=True, text=True).stdout
     if LOGIC not in said:
         tell(f'this kit has another program logic than the proofs were last checked with ({LOGIC}): {said.strip()}. Going on.')
