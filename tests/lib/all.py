@@ -34,7 +34,7 @@ LONG = [
     Long("objects", "`--json` of `ol-bench` on 1,000 terms, read by Python", None),
     Long("rounds", "`ol-bench journal --order rounds` on 1,000 terms", None),
     Long("faults/many", "a runtime with eight faults on 300 terms", None),
-    Long("speed", "the rows of docs/RUNTIMES.md, part 4, with their times", None),
+    Long("speed", "the tables of docs/runtimes/PERFORMANCE.md", None),
 ]
 
 

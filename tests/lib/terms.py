@@ -1,4 +1,4 @@
-"""Terms for the scripts beside it: read by the grammar of docs/GRAMMAR.md, written, and drawn at random.
+"""Terms for the scripts beside it: read by the grammar of docs/use/GRAMMAR.md, written, and drawn at random.
 
 A term is a tuple: ("name", text), a name that nothing binds; ("variable", k), bound by the k-th abstraction outwards,
 counted from 0; ("abstraction", body); or ("application", function, argument).

@@ -2,7 +2,7 @@
 //!
 //! They stand apart from what they test, so that their proof does not prove that again. Each row is a
 //! part of a byte string, which is split when the test runs; what a call comes to is compared as one
-//! text (docs/LESSONS.md). The commands of docs/BENCH.md are run by tests/bench.
+//! text (docs/LESSONS.md). Whole commands are run by tests/bench.
 //!
 //! - `fakes`: a call of `bench` over the fakes, and what it comes to as one text
 //! - `rows`: rows of commands on one text and on two

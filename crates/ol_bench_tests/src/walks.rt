@@ -39,7 +39,7 @@ fn assert_walk(
     Ok(())
 }
 
-/// Five crossings of the walks of part 5 of docs/BY_HAND.md, a place below a free variable, a head
+/// Five crossings of the paths of docs/learn/BY_HAND.md, a place below a free variable, a head
 /// that is a free name, a place that isn't asked, and one without a head.
 #[test]
 fn questions_are_told(rt: HostRuntime) -> Result<(), Fail> {

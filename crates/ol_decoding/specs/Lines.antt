@@ -1,4 +1,4 @@
--- The lines of a walk: values and contexts as docs/BY_HAND.md writes them, and crossings.
+-- The lines of a walk: values and contexts as docs/learn/BY_HAND.md writes them, and crossings.
 use Rattle.std.specs.Prelude.{◌≡◌, ◌≢◌, ℕ, suc, List, [], ◌∷◌, ◌++◌, length, codes}
 use Rattle.std.specs.Fmt.{decimal}
 use Rattle.ol_net.specs.declared.parts.Kind.{Kind}

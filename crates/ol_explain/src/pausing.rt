@@ -145,7 +145,7 @@ pub fn after(
 }
 
 /// The same net, and beside each port's partner a colon and what the link of the two weighs
-/// (docs/RUNTIMES.md, "How the wave is found"): `2 app 0 3.1:0 f0:2 1.3.0:2`. This is a text of its
+/// (docs/runtimes/FORMATS.md, "Waves"): `2 app 0 3.1:0 f0:2 1.3.0:2`. This is a text of its
 /// own, which nothing reads as a net; without the colons and the weights it is that of `after`.
 pub fn after_with_weights(
     alloc: Global,

@@ -6,8 +6,8 @@ ghost use Rattle.ol_orders.specs.Laws.{WavesAreRounds};
 /// wave of each pair is the number of its round, from 1. Nothing is said of a round that was only
 /// begun, as where the fuel ends within it.
 ///
-/// A wave is found from weights of links, and no round is played: docs/RUNTIMES.md says how, in "How
-/// the wave is found".
+/// Waves are computed from weights of links, in any order of reduction (docs/runtimes/FORMATS.md,
+/// "Waves").
 pub fn waves_are_rounds()
     ensures waves { WavesAreRounds }
 {}
