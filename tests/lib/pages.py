@@ -2,23 +2,20 @@
 
     tests/pages [--write] [PAGE ..]
 
-Without names the pages are README.md, CONTRIBUTING.md, docs/*.md, examples/*.md and tests/vectors/*.md. In a page a
-command is a line of a fenced block that begins with `$ `, or an indented line that does; lines right below it that begin
-with `> ` belong to it. What it has to print, on standard output and standard error, are the lines after these: in a
-fenced block those up to the next command or the end of the block, else those with the same indent. Where its status
-isn't 0, a line `[status N]` stands at the end. A line `...` alone stands for any number of lines.
+Without names the pages are README.md, CONTRIBUTING.md, and those below docs/, examples/, library/ and tests/vectors/. In
+a page a command is a line of a fenced block that begins with `$ `, or an indented line that does; lines right below it
+that begin with `> ` belong to it. The lines after these are what it has to print, on standard output and standard
+error: in a fenced block those up to the next command or the end of the block, otherwise those with the same indent. If
+its status isn't 0, a line `[status N]` is the last. A line `...` alone stands for any number of lines.
 
-The commands of one page run in order in one empty folder, which is thrown away at the end. `ol` and `./ol` are there
-the program, so are `ol-bench` and `./ol-bench` if some command says `ol-bench`, and `examples` and `tests` are the
-folders of this repository. With --write each page gets the lines that were printed, where no `...` stands. The last line
-is 'N passed, M failed'.
-
-Commands of docs/BENCH.md are tried by tests/bench. The program is what the variable OL names; else the proved
-crates/ol/out/ol, where it is there; else `ol` on PATH; else the script `ol` at the top, whose line that its program
-isn't proved is left out (tests/lib/which_ol.py). So is `ol-bench`, by OL_BENCH and not on PATH.
+Each section of a page, from a heading `## ` to the next, is run by itself, in an empty folder that is thrown away at
+the end. `ol`, `./ol`, `ol-bench` and `./ol-bench` are the programs there (tests/lib/which_ol.py says which), and
+`examples` and `tests` are the folders of this repository. With --write each page gets the lines that were printed,
+unless a `...` is among the old ones. The last line is 'N passed, M failed'.
 """
 import collections
 import contextlib
+import glob
 import os
 import re
 import subprocess
@@ -30,7 +27,7 @@ import summing
 import which_ol
 from which_ol import TOP
 
-OF_BENCH = os.path.join(TOP, "docs", "BENCH.md")
+FOLDERS = ("docs/**", "examples", "library", "tests/vectors")
 MOST_SECONDS = 600
 # A command: the number of its line, its text, the first line of what it prints and the line past that, and its indent.
 Command = collections.namedtuple("Command", "line text first end indent")
@@ -38,36 +35,39 @@ Command = collections.namedtuple("Command", "line text first end indent")
 
 def pages():
     found = [os.path.join(TOP, name) for name in ("README.md", "CONTRIBUTING.md")]
-    for folder in ("docs", "examples", "tests/vectors"):
-        path = os.path.join(TOP, folder)
-        found += sorted(os.path.join(path, name) for name in os.listdir(path) if name.endswith(".md"))
-    return [page for page in found if page != OF_BENCH]
+    for folder in FOLDERS:
+        found += sorted(glob.glob(os.path.join(TOP, folder, "*.md"), recursive=True))
+    return found
 
 
-def commands(lines):
-    """The commands of a page, which is given as its lines."""
-    is_fenced, at = False, 0
+def sections(lines):
+    """The commands of a page, which is given as its lines: a list for each section."""
+    is_fenced, at, found = False, 0, [[]]
     while at < len(lines):
         is_fenced ^= lines[at].startswith("```")
+        if lines[at].startswith("## ") and not is_fenced:
+            found.append([])
         start = re.match(r"( *)\$ (.*)", lines[at])
         at += 1
-        if not start or bool(start.group(1)) == is_fenced:
-            continue
-        line, indent, text = at - 1, start.group(1), [start.group(2)]
-        while at < len(lines) and lines[at].startswith(indent + "> "):
-            text.append(lines[at][len(indent) + 2:])
-            at += 1
-        first = at
-        while at < len(lines) and not ends(lines[at], indent):
-            at += 1
-        yield Command(line, "\n".join(text), first, at, indent)
+        if start and bool(start.group(1)) != is_fenced:
+            command = command_at(lines, at - 1, start.group(1), is_fenced and "```")
+            found[-1].append(command)
+            at = command.end
+    return [it for it in found if it]
 
 
-def ends(line, indent):
-    """Whether what a command prints has ended above this line."""
-    if line.startswith(indent + "$ "):
-        return True
-    return not (line.startswith(indent) and line.strip()) if indent else line.startswith("```")
+def command_at(lines, line, indent, mark):
+    """The command of this line. What it prints ends above the next command, and above a line that begins with the mark; without a mark,
+    above a line that is empty or has another indent."""
+    at, text = line + 1, [lines[line][len(indent) + 2:]]
+    while at < len(lines) and (lines[at] + " ").startswith(indent + "> "):
+        text.append(lines[at][len(indent) + 2:])
+        at += 1
+    first = at
+    while at < len(lines) and not lines[at].startswith(indent + "$ ") and \
+            not (lines[at].startswith(mark) if mark else not lines[at].startswith(indent) or not lines[at].strip()):
+        at += 1
+    return Command(line, "\n".join(text), first, at, indent)
 
 
 def fits(wanted, got):
@@ -105,65 +105,64 @@ def place_for(programs):
 
 
 class Page:
-    """A page whose commands are tried, by programs that are given by their names."""
+    """A text with sections of commands: its name, its lines, and the file into which outputs may be written."""
 
-    def __init__(self, path, write):
-        self.path, self.programs, self.write = path, {}, write
-        with open(path, encoding="utf-8") as file:
-            self.lines = file.read().split("\n")
-        self.commands = list(commands(self.lines))
+    def __init__(self, name, lines, cut=sections, path=None):
+        self.name, self.lines, self.path = name, lines, path
+        self.sections = cut(lines)
 
-    def tried(self):
-        """For each command, in order, what is wrong with what it prints: lines, none where nothing is."""
-        changes = []
-        with place_for(self.programs) as (folder, environment):
-            for command in self.commands:
-                got = printed(command.text, folder, environment)
-                wanted = [line[len(command.indent):] for line in self.lines[command.first:command.end]]
-                is_right = fits(wanted, got)
-                if not is_right and self.write and "..." not in wanted:
-                    changes.append((command, got))
-                    is_right = True
-                yield [] if is_right else self.fault(command, wanted, got)
-        self.change(changes)
+    def tried(self, programs, section):
+        """For each command of a section, in order: the command, what it has to print, and what it prints."""
+        with place_for(programs) as (folder, environment):
+            return [(it, [line[len(it.indent):] for line in self.lines[it.first:it.end]], printed(it.text, folder, environment))
+                    for it in section]
 
     def fault(self, command, wanted, got):
-        place = f"{os.path.relpath(self.path, TOP)}:{command.line + 1}: $ {command.text}"
-        return [place] + ["  wanted " + line for line in wanted] + ["  got    " + line for line in got]
+        place = f"{self.name}:{command.line + 1}: $ {command.text}"
+        return "\n".join([place] + ["  wanted " + line for line in wanted] + ["  got    " + line for line in got])
 
     def change(self, changes):
-        """Writes into the page what was printed."""
-        for command, got in reversed(changes):
+        """Writes what was printed into the page."""
+        for command, got in sorted(changes, reverse=True):
             self.lines[command.first:command.end] = [command.indent + line for line in got]
-        if changes:
-            with open(self.path, "w", encoding="utf-8") as file:
-                file.write("\n".join(self.lines))
-            print(f"{os.path.relpath(self.path, TOP)}: {len(changes)} written")
+        with open(self.path, "w", encoding="utf-8") as file:
+            file.write("\n".join(self.lines))
+        print(f"{self.name}: {len(changes)} written")
 
 
-def programs_for(pages):
-    """The programs that the commands of these pages call, by their names. `ol` is always one."""
-    texts = [command.text for page in pages for command in page.commands]
-    return {name: which_ol.found(name) for name in which_ol.VARIABLES if name == "ol" or any(name in text for text in texts)}
+def read(path, cut=sections):
+    with open(path, encoding="utf-8") as file:
+        return Page(os.path.relpath(path, TOP), file.read().split("\n"), cut, path)
 
 
-def try_pages(text, words, pages):
-    """The script whose head has this text: it tries these pages, or those that the words name."""
-    asked = asking.parser(text)
-    asked.add_argument("--write", action="store_true", help="put what is printed into the pages")
-    asked.add_argument("pages", nargs="*", metavar="PAGE")
-    asked = asked.parse_args(words)
-    tried = [Page(os.path.realpath(page), asked.write) for page in asked.pages or pages]
-    found = programs_for(tried)
-    for page in tried:
-        page.programs = found
-    faults = (fault for page in tried for fault in page.tried())
+def try_pages(asked, found, programs):
+    """Tries these pages with these programs, and prints the sum."""
+    cases = [(page, section) for page in found for section in page.sections]
+    told = progress.in_pool(lambda case: (case[0], case[0].tried(programs, case[1])), cases)
     passed = failed = 0
-    for fault in progress.shown(faults, sum(len(page.commands) for page in tried)):
-        passed, failed = passed + (not fault), failed + bool(fault)
-        print("\n".join(fault), end="\n" if fault else "", flush=True)
+    changes = collections.defaultdict(list)
+    for page, answers in told:
+        for command, wanted, got in answers:
+            is_right = fits(wanted, got)
+            if not is_right and asked.write and page.path and "..." not in wanted:
+                changes[page].append((command, got))
+                is_right = True
+            passed, failed = passed + is_right, failed + (not is_right)
+            if not is_right:
+                print(page.fault(command, wanted, got), flush=True)
+    for page, its in changes.items():
+        page.change(its)
     return summing.told(summing.Sum(passed, failed))
 
 
+def words_for(text, words):
+    asked = asking.parser(text)
+    asked.add_argument("--write", action="store_true", help="put what is printed into the files")
+    asked.add_argument("pages", nargs="*", metavar="PAGE")
+    return asked.parse_args(words)
+
+
 def main(words):
-    return try_pages(__doc__, words, pages())
+    asked = words_for(__doc__, words)
+    programs = {name: which_ol.found(name) for name in which_ol.VARIABLES}
+    return try_pages(asked, [read(os.path.realpath(it)) for it in asked.pages or pages()], programs)

@@ -1,5 +1,6 @@
 //! The command line as clap is told of it.
 
+use crate::help;
 use crate::rows::{Form, Row, VERBS, Value, Verb, verb_at};
 use clap::{Arg, ArgAction, ArgMatches, Command, Error};
 use std::alloc::{AllocError, Global};
@@ -26,10 +27,18 @@ fn valued<'a>(arg: Arg<'a>, value: Value) -> Arg<'a> {
     }
 }
 
-// The argument, whose value the help calls so.
+// The argument, with this name of its value in the help.
 fn shown<'a>(arg: Arg<'a>, name: Option<&'static str>) -> Arg<'a> {
     match name {
         Some(name) => arg.value_name(name),
+        None => arg,
+    }
+}
+
+// The argument, with its value if it isn't given.
+fn defaulted<'a>(arg: Arg<'a>, default: Option<&'static str>) -> Arg<'a> {
+    match default {
+        Some(value) => arg.default_value(value),
         None => arg,
     }
 }
@@ -39,7 +48,8 @@ fn argument<'a>(alloc: Global, row: Row) -> Result<Arg<'a>, AllocError> {
     let arg = Arg::new(alloc, row.id)
         .help(row.help)
         .required(row.need.is_always());
-    shown(valued(formed(arg, row), row.value), row.shown)
+    let valued = valued(formed(arg, row), row.value);
+    defaulted(shown(valued, row.shown), row.default)
         .required_unless_present_any(row.need.others())?
         .conflicts_with_all(row.need.conflicts())
 }
@@ -52,7 +62,9 @@ fn with_row<'a>(alloc: Global, command: Command<'a>, row: Row) -> Result<Command
 
 // The command of a verb: its arguments, one after another.
 fn command_of<'a>(alloc: Global, verb: Verb) -> Result<Command<'a>, AllocError> {
-    let mut command: Command<'a> = Command::new(alloc, verb.word).about(verb.about);
+    let mut command: Command<'a> = Command::new(alloc, verb.word)
+        .about(verb.about)
+        .after_help(verb.below);
     for row in verb.rows {
         command = with_row(alloc, command, *row)?;
     }
@@ -72,7 +84,8 @@ fn with_verb<'a>(
 // The program's command, without those of verbs.
 fn program<'a>(alloc: Global) -> Result<Command<'a>, AllocError> {
     Command::new(alloc, "ol-bench")
-        .about("Answers for those who look closer at a term, a net or a journal of `ol`")
+        .about("Tools for teachers of reduction and authors of runtimes, beside `ol`")
+        .after_help(help::PROGRAM)
         .subcommand_required(true)
         .bin_name("ol-bench")
 }

@@ -3,11 +3,13 @@
 //! - `words`: what the words of a command line ask
 //! - `command`: the command line as clap is told of it
 //! - `rows`: the commands, and the arguments of each
+//! - `help`: what the help has below the arguments
 #![tactic(auto)]
 
 ghost use Rattle.ol_bench.specs.Commands.{IsWithinBounds};
 
 mod command;
+mod help;
 mod rows;
 mod words;
 

@@ -1,14 +1,15 @@
 //! The commands, and the arguments of each, as tables.
 
+use crate::help;
 use ol_limits::{MOST_EDGES, MOST_FUEL, MOST_HEADS, MOST_JOURNAL_BYTES, MOST_NODES, MOST_STEPS};
 
-/// How many moves the machine of call-by-need makes at most.
+/// The greatest number of moves of the machine of call-by-need.
 pub(crate) const MOST_MOVES: u32 = 8_000_000;
 
-/// How many crossings `walk` tells at most.
+/// The greatest number of crossings that `walk` prints.
 pub(crate) const MOST_LINES: u32 = 100_000;
 
-/// How many students `grade` compares at most.
+/// The greatest number of students of `grade`.
 pub(crate) const MOST_STUDENTS: usize = 1_000;
 
 static PAIR_ORDERS: [&str; 3] = ["least", "demand", "rounds"];
@@ -22,15 +23,15 @@ static NOTHING: [&str; 0] = [];
 /// How an argument is written.
 #[derive(Clone, Copy)]
 pub(crate) enum Form {
-    /// By its place, behind no option.
+    /// By its position, without an option.
     Bare,
-    /// As an option with two hyphens, which is called as the argument is.
+    /// As an option with two hyphens and the name of the argument.
     Long,
     /// As an option with one hyphen and this letter.
     Short(char),
 }
 
-/// Words of which one is given.
+/// Words of which an option takes a single one.
 #[derive(Clone, Copy)]
 pub(crate) enum Words {
     /// Which pairs come first.
@@ -49,7 +50,7 @@ impl Words {
     }
 }
 
-/// What is given to an argument.
+/// The value of an argument.
 #[derive(Clone, Copy)]
 pub(crate) enum Value {
     /// Nothing: it is a flag.
@@ -58,9 +59,9 @@ pub(crate) enum Value {
     Text,
     /// One text or more, up to so many.
     Texts { most: usize },
-    /// A number between these, or one of them.
+    /// A number in this closed interval.
     Number { least: u32, most: u32 },
-    /// One of these words.
+    /// A word of these.
     Word(Words),
 }
 
@@ -110,8 +111,10 @@ pub(crate) struct Row {
     pub(crate) form: Form,
     /// What is given to it.
     pub(crate) value: Value,
-    /// What the help calls its value, if not as the argument is called.
+    /// The name of its value in the help, if it isn't the name of the argument.
     pub(crate) shown: Option<&'static str>,
+    /// Its value if it isn't given.
+    pub(crate) default: Option<&'static str>,
     /// Whether it has to be given.
     pub(crate) need: Need,
     /// What the help says of it.
@@ -124,6 +127,7 @@ const FLAG: Row = Row {
     form: Form::Long,
     value: Value::Nothing,
     shown: None,
+    default: None,
     need: Need::Never,
     help: "",
 };
@@ -134,7 +138,7 @@ const TERM: Row = Row {
     form: Form::Short('e'),
     value: Value::Text,
     shown: Some("TERM"),
-    help: "the term itself, in place of its file",
+    help: "the term itself, in place of the file",
     ..FLAG
 };
 
@@ -161,28 +165,29 @@ const FILE_OF_SUBJECT: Row = Row {
 
 // The first of two files. With `-e` only the journal has a file, and its name is the first one.
 const FIRST_OF_TWO: Row = Row {
-    help: "the file with the term or the net, `-` for standard input; with -e the file with the journal",
+    help: "the file with the term or the net, `-` for standard input; with -e that with the trace",
     ..FILE
 };
 
 const JOURNAL: Row = Row {
     id: "other",
-    shown: Some("journal"),
-    help: "the file with the journal, `-` for standard input",
+    shown: Some("trace"),
+    help: "the file with the trace, `-` for standard input",
     ..FILE_OF_TERM
 };
 
 const NET: Row = Row {
     id: "net",
     need: Need::NotWithTerm,
-    help: "the file has a net, as `ol net` writes one",
+    help: "the file has a net, as `ol net` writes it; not with -e",
     ..FLAG
 };
 
 const TRANSLATION: Row = Row {
     id: "translation",
     value: Value::Number { least: 1, most: 2 },
-    help: "how the term becomes a net, 1 or 2; by itself 2",
+    default: Some("2"),
+    help: "the translation of the term into a net, 1 or 2",
     ..FLAG
 };
 
@@ -193,7 +198,8 @@ const FUEL: Row = Row {
         least: 0,
         most: MOST_FUEL,
     },
-    help: "the most interactions, by itself 200000",
+    default: Some("200000"),
+    help: "the greatest number of interactions, 0 to 8000000",
     ..FLAG
 };
 
@@ -204,7 +210,8 @@ const HEADS: Row = Row {
         least: 1,
         most: MOST_HEADS,
     },
-    help: "the most places that `demand` asks, by itself 4096",
+    default: Some("4096"),
+    help: "the greatest number of subterms that are read, 1 to 100000",
     ..FLAG
 };
 
@@ -215,13 +222,14 @@ const STEPS: Row = Row {
         least: 0,
         most: MOST_STEPS,
     },
-    help: "the most steps, by itself 100",
+    default: Some("100"),
+    help: "the greatest number of steps, 0 to 10000",
     ..FLAG
 };
 
 const JSON: Row = Row {
     id: "json",
-    help: "the answer as one JSON object on one line",
+    help: "the answer is a JSON object on a single line",
     ..FLAG
 };
 
@@ -234,7 +242,7 @@ static JOURNAL_ROWS: [Row; 7] = [
         id: "order",
         value: Value::Word(Words::PairOrders),
         need: Need::Always,
-        help: "which pairs come first",
+        help: "the next pair: of the least node, met by the read-back, or all pairs in rounds",
         ..FLAG
     },
     TERM,
@@ -248,7 +256,7 @@ static EXPLAIN_ROWS: [Row; 6] = [JSON, NET, TRANSLATION, TERM, FIRST_OF_TWO, JOU
 static AFTER_ROWS: [Row; 7] = [
     Row {
         id: "weights",
-        help: "beside each link what it weighs",
+        help: "each link with its weight",
         ..FLAG
     },
     Row {
@@ -259,7 +267,7 @@ static AFTER_ROWS: [Row; 7] = [
             most: MOST_FUEL + 1,
         },
         need: Need::Always,
-        help: "how many lines of the journal, the first of which tells its form",
+        help: "the number of lines of the trace, header included, 1 to 8000001",
         ..FLAG
     },
     NET,
@@ -272,28 +280,29 @@ static AFTER_ROWS: [Row; 7] = [
 static STEPS_ROWS: [Row; 8] = [
     Row {
         id: "leftmost",
-        help: "the leftmost redex comes first, as it does by itself",
+        help: "the same as --order leftmost; ignored if --order is given",
         ..FLAG
     },
     Row {
         id: "order",
         value: Value::Word(Words::RedexOrders),
-        help: "which redex comes next, by itself the leftmost one",
+        default: Some("leftmost"),
+        help: "the strategy",
         ..FLAG
     },
     Row {
         id: "mark",
-        help: "a line of carets under the redex that comes next",
+        help: "a line of carets under the next redex",
         ..FLAG
     },
     Row {
         id: "names",
-        help: "binders keep the names that they have in the file, primed where they would clash",
+        help: "the names of the file, with primes if names would clash",
         ..FLAG
     },
     Row {
         id: "fold",
-        help: "parts that are the value of a let at the front are written by its name",
+        help: "the value of a let at the front of the file is printed by its name",
         ..FLAG
     },
     STEPS,
@@ -307,7 +316,8 @@ static COUNTS_ROWS: [Row; 15] = [
     FUEL,
     HEADS,
     Row {
-        help: "the most steps of leftmost and applicative order and for families, by itself 1000",
+        default: Some("1000"),
+        help: "the greatest number of steps of leftmost, applicative and families, 0 to 10000",
         ..STEPS
     },
     Row {
@@ -316,37 +326,38 @@ static COUNTS_ROWS: [Row; 15] = [
             least: 0,
             most: MOST_MOVES,
         },
-        help: "the most moves of call-by-need, by itself 1000000",
+        default: Some("1000000"),
+        help: "the greatest number of moves of the machine of need, 0 to 8000000",
         ..FLAG
     },
     Row {
         id: "no-run",
-        help: "no column for `run`",
+        help: "without the column `run`",
         ..FLAG
     },
     Row {
         id: "no-demand",
-        help: "no column for `demand`",
+        help: "without the column `demand`",
         ..FLAG
     },
     Row {
         id: "no-leftmost",
-        help: "no column for leftmost order",
+        help: "without the column `leftmost`",
         ..FLAG
     },
     Row {
         id: "applicative",
-        help: "a column for applicative order",
+        help: "with the column `applicative`",
         ..FLAG
     },
     Row {
         id: "need",
-        help: "a column for call-by-need",
+        help: "with the column `need`: call-by-need",
         ..FLAG
     },
     Row {
         id: "families",
-        help: "a column for the families of redexes",
+        help: "with the column `families`: the families that leftmost order contracts",
         ..FLAG
     },
     JSON,
@@ -378,13 +389,13 @@ static WHERE_ROWS: [Row; 2] = [
             least: 0,
             most: MOST_JOURNAL_BYTES,
         },
-        help: "the place of the byte, counted from 0; by itself where the text stops being a term",
+        help: "the offset of a byte, 0 to 402653184; without it, the first syntax error is located",
         ..FLAG
     },
 ];
 
 static DERIVATION_ROWS: [Row; 1] = [Row {
-    help: "the file with one term a line, `-` for standard input",
+    help: "the file with a term on each line, `-` for standard input",
     ..FILE
 }];
 
@@ -396,7 +407,8 @@ static STORY_ROWS: [Row; 5] = [
     NET,
     TRANSLATION,
     Row {
-        help: "the most interactions, by itself 1000",
+        default: Some("1000"),
+        help: "the greatest number of interactions, 0 to 8000000",
         ..FUEL
     },
     TERM,
@@ -413,12 +425,13 @@ static TREE_ROWS: [Row; 6] = [
             most: MOST_HEADS,
         },
         need: Need::Always,
-        help: "parts of a depth below this are asked; the root is of depth 0",
+        help: "subterms of a smaller depth are searched, 0 to 100000; the root has depth 0",
         ..FLAG
     },
     TRANSLATION,
     Row {
-        help: "the most interactions for one part, by itself 10000",
+        default: Some("10000"),
+        help: "the greatest number of interactions for a subterm, 0 to 8000000; all have 8000000",
         ..FUEL
     },
     HEADS,
@@ -432,7 +445,7 @@ static WALK_ROWS: [Row; 8] = [
         value: Value::Text,
         shown: Some("path"),
         need: Need::Always,
-        help: "the place: `root`, or numbers of arguments from the root with dots between them",
+        help: "the subterm: `root`, or the numbers of arguments from the root, as in 2.1",
         ..FLAG
     },
     Row {
@@ -441,7 +454,7 @@ static WALK_ROWS: [Row; 8] = [
             least: 0,
             most: MOST_NODES,
         },
-        help: "the question for this many abstractions alone, by itself all that are asked",
+        help: "only the path for this number of abstractions, 0 to 200000; without it, all",
         ..FLAG
     },
     Row {
@@ -450,7 +463,8 @@ static WALK_ROWS: [Row; 8] = [
             least: 0,
             most: MOST_LINES,
         },
-        help: "the most crossings that are told, by itself 1000",
+        default: Some("1000"),
+        help: "the greatest number of crossings that are printed, 0 to 100000",
         ..FLAG
     },
     Row {
@@ -459,13 +473,11 @@ static WALK_ROWS: [Row; 8] = [
             least: 1,
             most: MOST_EDGES,
         },
-        help: "the most crossings of each walk, by itself 100000",
+        default: Some("100000"),
+        help: "the greatest number of crossings of a path, 1 to 10000000",
         ..FLAG
     },
-    Row {
-        help: "the most places that are asked, by itself 4096",
-        ..HEADS
-    },
+    HEADS,
     TRANSLATION,
     TERM,
     FILE_OF_TERM,
@@ -477,7 +489,7 @@ static GRADE_ROWS: [Row; 6] = [
         value: Value::Text,
         shown: Some("inputs"),
         need: Need::Always,
-        help: "the file with the inputs, one a line",
+        help: "the file with the inputs: on each line the arguments of a call",
         ..FLAG
     },
     TRANSLATION,
@@ -492,7 +504,7 @@ static GRADE_ROWS: [Row; 6] = [
         value: Value::Texts {
             most: MOST_STUDENTS,
         },
-        help: "the files with the students' functions, at most 1,000",
+        help: "the files with the students' functions, 1 to 1000",
         ..FILE
     },
 ];
@@ -504,6 +516,8 @@ pub(crate) struct Verb {
     pub(crate) word: &'static str,
     /// What the help says of it.
     pub(crate) about: &'static str,
+    /// What the help has below its arguments.
+    pub(crate) below: &'static str,
     /// Its arguments, in the order in which the help has them.
     pub(crate) rows: &'static [Row],
 }
@@ -514,7 +528,8 @@ pub(crate) const VERBS: u32 = 16;
 fn journal() -> Verb {
     Verb {
         word: "journal",
-        about: "The journal of a run in one of three orders",
+        about: "The trace of a reduction in one of three orders",
+        below: help::JOURNAL,
         rows: JOURNAL_ROWS.as_slice(),
     }
 }
@@ -522,7 +537,8 @@ fn journal() -> Verb {
 fn check() -> Verb {
     Verb {
         word: "check",
-        about: "What a journal is found to be, as `ol check` tells it, with a status for each",
+        about: "The verdict of `ol check` on a trace, with an exit status for each verdict",
+        below: help::CHECK,
         rows: CHECK_ROWS.as_slice(),
     }
 }
@@ -530,7 +546,8 @@ fn check() -> Verb {
 fn explain() -> Verb {
     Verb {
         word: "explain",
-        about: "What a journal is found to be; pairs left, what bad text wants, why a line is wrong",
+        about: "The verdict of `ol check` on a trace, and the reason",
+        below: help::EXPLAIN,
         rows: EXPLAIN_ROWS.as_slice(),
     }
 }
@@ -538,7 +555,8 @@ fn explain() -> Verb {
 fn after() -> Verb {
     Verb {
         word: "after",
-        about: "The net after the first lines of a journal, under the journal's names",
+        about: "The net after the first lines of a trace, with the names of the trace",
+        below: help::AFTER,
         rows: AFTER_ROWS.as_slice(),
     }
 }
@@ -546,7 +564,8 @@ fn after() -> Verb {
 fn steps() -> Verb {
     Verb {
         word: "steps",
-        about: "The terms of reduction in an order, one under another, with the address of each redex",
+        about: "A reduction term by term, with the address of each redex",
+        below: help::STEPS,
         rows: STEPS_ROWS.as_slice(),
     }
 }
@@ -554,7 +573,8 @@ fn steps() -> Verb {
 fn counts() -> Verb {
     Verb {
         word: "counts",
-        about: "What a term costs by ways of reducing it, a column each",
+        about: "What a term costs by several strategies, a column for each",
+        below: help::COUNTS,
         rows: COUNTS_ROWS.as_slice(),
     }
 }
@@ -562,7 +582,8 @@ fn counts() -> Verb {
 fn same() -> Verb {
     Verb {
         word: "same",
-        about: "Whether two nets are one up to the numbers of nodes, or where they differ",
+        about: "Whether two nets are equal up to the numbers of nodes, or where they differ",
+        below: help::SAME,
         rows: SAME_ROWS.as_slice(),
     }
 }
@@ -570,7 +591,8 @@ fn same() -> Verb {
 fn places() -> Verb {
     Verb {
         word: "where",
-        about: "Line and column of a byte, or of where a text stops being a term, with a caret",
+        about: "Line and column of a byte, or of the first syntax error, with a caret",
+        below: help::WHERE,
         rows: WHERE_ROWS.as_slice(),
     }
 }
@@ -578,7 +600,8 @@ fn places() -> Verb {
 fn derivation() -> Verb {
     Verb {
         word: "derivation",
-        about: "Whether each term of a derivation is one beta step from the one before it",
+        about: "Whether each term of a derivation follows from the term before by one beta step",
+        below: help::DERIVATION,
         rows: DERIVATION_ROWS.as_slice(),
     }
 }
@@ -586,7 +609,8 @@ fn derivation() -> Verb {
 fn free() -> Verb {
     Verb {
         word: "free",
-        about: "The free names of a term, each with its line and column",
+        about: "The free names of a term, with line and column",
+        below: help::FREE,
         rows: FREE_ROWS.as_slice(),
     }
 }
@@ -594,7 +618,8 @@ fn free() -> Verb {
 fn waves() -> Verb {
     Verb {
         word: "waves",
-        about: "How many pairs each wave of a run has, by rule",
+        about: "How many interactions each wave of a reduction has, by rule",
+        below: help::WAVES,
         rows: WAVES_ROWS.as_slice(),
     }
 }
@@ -602,7 +627,8 @@ fn waves() -> Verb {
 fn story() -> Verb {
     Verb {
         word: "story",
-        about: "Each step of the run that takes the least pair: nodes, births, and the pairs that are left",
+        about: "A reduction step by step: its nodes, the nodes that are created, the pairs that are left",
+        below: help::STORY,
         rows: STORY_ROWS.as_slice(),
     }
 }
@@ -610,7 +636,8 @@ fn story() -> Verb {
 fn show() -> Verb {
     Verb {
         word: "show",
-        about: "The normal form of a term, and which numerals, booleans, pairs and lists it encodes",
+        about: "The normal form of a term, and the numerals, booleans, pairs and lists that it encodes",
+        below: help::SHOW,
         rows: SHOW_ROWS.as_slice(),
     }
 }
@@ -618,7 +645,8 @@ fn show() -> Verb {
 fn tree() -> Verb {
     Verb {
         word: "tree",
-        about: "The Böhm tree of a term down to a depth, by demand, part by part",
+        about: "The Böhm tree of a term down to a depth",
+        below: help::TREE,
         rows: TREE_ROWS.as_slice(),
     }
 }
@@ -626,7 +654,8 @@ fn tree() -> Verb {
 fn walk() -> Verb {
     Verb {
         word: "walk",
-        about: "The questions that one place of a term is asked by `ol walk`, crossing by crossing",
+        about: "The paths by which `ol walk` reads a subterm, crossing by crossing",
+        below: help::WALK,
         rows: WALK_ROWS.as_slice(),
     }
 }
@@ -634,7 +663,8 @@ fn walk() -> Verb {
 fn grade() -> Verb {
     Verb {
         word: "grade",
-        about: "Whether students' functions give what a solution gives, on some inputs",
+        about: "Whether students' functions agree with a solution on some inputs",
+        below: help::GRADE,
         rows: GRADE_ROWS.as_slice(),
     }
 }

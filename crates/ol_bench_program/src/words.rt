@@ -2,7 +2,6 @@
 
 ghost use Rattle.std.specs.Prelude.{◌≤◌, length, IfOk, IfSome};
 ghost use Rattle.ol_bench.specs.Commands.{IsOneWithin, IsTwoWithin, IsWithinBounds, most_students};
-ghost use Rattle.ol_limits.specs.Limits.{most_fuel};
 
 use crate::command::matches_of;
 use crate::rows::{MOST_LINES, MOST_MOVES, MOST_STUDENTS};
@@ -13,7 +12,6 @@ use ol_decoding::Wanted;
 use ol_derivations::Bounds as Following;
 use ol_limits::{
     Fuel, Heads, MOST_EDGES, MOST_FUEL, MOST_HEADS, MOST_JOURNAL_BYTES, MOST_NODES, MOST_STEPS,
-    PLAIN_FUEL, PLAIN_HEADS,
 };
 use ol_orders::Order;
 use ol_steps::Shown;
@@ -22,30 +20,14 @@ use ol_subjects::{Layout, Subject};
 use ol_term::Translation;
 use std::alloc::Global;
 
-// How many interactions `story` tells by itself.
-const STORY_FUEL: u32 = 1_000;
-
-// How many interactions `tree` makes for a part by itself.
-const TREE_FUEL: u32 = 10_000;
-
-// How many moves the machine of call-by-need makes by itself.
-const PLAIN_MOVES: u32 = 1_000_000;
-
-// How many crossings `walk` tells by itself, and how many each walk makes.
-const PLAIN_LINES: u32 = 1_000;
-
-const PLAIN_EDGES: u32 = 100_000;
-
-// The number of an option: what it is by itself where it isn't given, and one of its ends where it
-// is beyond that.
-fn number_of(found: &ArgMatches, id: &str, least: u32, most: u32, default: u32) -> u32
+// The number of an option, between these ends. An option that has no number has the lower end.
+fn number_of(found: &ArgMatches, id: &str, least: u32, most: u32) -> u32
     requires ends { least ≤ most }
-    requires default { (least ≤ default) × (default ≤ most) }
     ensures least { least ≤ result }
     ensures most { result ≤ most }
 {
     match found.get_one::<u32>(id) {
-        None => default,
+        None => least,
         Some(number) => {
             if number < least {
                 least
@@ -59,7 +41,7 @@ fn number_of(found: &ArgMatches, id: &str, least: u32, most: u32, default: u32) 
 }
 
 fn translation_of(found: &ArgMatches) -> Translation {
-    if number_of(found, "translation", 1, 2, 2) == 1 {
+    if number_of(found, "translation", 1, 2) == 1 {
         Translation::One
     } else {
         Translation::Two
@@ -74,11 +56,14 @@ fn subject_of(found: &ArgMatches) -> Subject {
     }
 }
 
-// How many interactions a run makes at most: this many, if the words don't say.
-fn fuel_of(found: &ArgMatches, default: u32) -> Fuel
-    requires { default ≤ most_fuel }
-{
-    Fuel::of(number_of(found, "fuel", 0, MOST_FUEL, default))
+// The greatest number of interactions of a run.
+fn fuel_of(found: &ArgMatches) -> Fuel {
+    Fuel::of(number_of(found, "fuel", 0, MOST_FUEL))
+}
+
+// The greatest number of places that are read.
+fn heads_of(found: &ArgMatches) -> Heads {
+    Heads::of(number_of(found, "heads", 1, MOST_HEADS))
 }
 
 // How the answer is written.
@@ -95,8 +80,8 @@ fn bounds_of(found: &ArgMatches, fuel: Fuel, heads: Heads) -> Bounds {
     Bounds {
         fuel,
         heads,
-        steps: number_of(found, "most", 0, MOST_STEPS, 1_000),
-        moves: number_of(found, "moves", 0, MOST_MOVES, PLAIN_MOVES),
+        steps: number_of(found, "most", 0, MOST_STEPS),
+        moves: number_of(found, "moves", 0, MOST_MOVES),
     }
 }
 
@@ -136,7 +121,7 @@ fn term_of(alloc: Global, found: &ArgMatches) -> Result<Option<Given>, Error> {
     }
 }
 
-// The order of reduction, the leftmost one by itself.
+// The order of reduction.
 fn reduction_of(found: &ArgMatches) -> Reduction {
     match found.get_str("order") {
         Some("head") => Reduction::Head,
@@ -172,7 +157,7 @@ fn place_of(found: &ArgMatches) -> OnOne
     match found.get_one::<u32>("byte") {
         None => OnOne::Stop,
         Some(_) => OnOne::Where {
-            byte: number_of(found, "byte", 0, MOST_JOURNAL_BYTES, 0),
+            byte: number_of(found, "byte", 0, MOST_JOURNAL_BYTES),
         },
     }
 }
@@ -182,12 +167,12 @@ fn on_one(name: &str, found: &ArgMatches) -> OnOne
     ensures { IsOneWithin result }
 {
     let subject = subject_of(found);
-    let fuel = fuel_of(found, PLAIN_FUEL);
-    let heads = Heads::of(number_of(found, "heads", 1, MOST_HEADS, PLAIN_HEADS));
+    let fuel = fuel_of(found);
+    let heads = heads_of(found);
     match name {
         "steps" => OnOne::Steps {
             how: shown_of(found),
-            most: number_of(found, "most", 0, MOST_STEPS, 100),
+            most: number_of(found, "most", 0, MOST_STEPS),
         },
         "counts" => OnOne::Counts {
             subject,
@@ -204,10 +189,7 @@ fn on_one(name: &str, found: &ArgMatches) -> OnOne
         "derivation" => OnOne::Derivation,
         "free" => OnOne::Free,
         "waves" => OnOne::Waves { subject, fuel },
-        "story" => OnOne::Story {
-            subject,
-            fuel: fuel_of(found, STORY_FUEL),
-        },
+        "story" => OnOne::Story { subject, fuel },
         "show" => OnOne::Show {
             translation: translation_of(found),
             fuel,
@@ -215,8 +197,8 @@ fn on_one(name: &str, found: &ArgMatches) -> OnOne
         },
         "tree" => OnOne::Tree {
             translation: translation_of(found),
-            depth: number_of(found, "depth", 0, MOST_HEADS, 0),
-            fuel: fuel_of(found, TREE_FUEL),
+            depth: number_of(found, "depth", 0, MOST_HEADS),
+            fuel,
             heads,
         },
         _ => place_of(found),
@@ -232,7 +214,7 @@ fn on_two(name: &str, found: &ArgMatches) -> Option<OnTwo>
     match name {
         "after" => Some(OnTwo::After {
             subject,
-            lines: number_of(found, "lines", 1, MOST_FUEL + 1, 1),
+            lines: number_of(found, "lines", 1, MOST_FUEL + 1),
             weights: found.get_flag("weights"),
         }),
         "check" => Some(OnTwo::Check { subject, layout }),
@@ -306,8 +288,8 @@ fn grading_of(alloc: Global, found: &ArgMatches) -> Result<Asked, Error>
     let students = files_of(alloc, found, "student")?;
     let bounds = Following {
         translation: translation_of(found),
-        fuel: fuel_of(found, PLAIN_FUEL),
-        heads: Heads::of(number_of(found, "heads", 1, MOST_HEADS, PLAIN_HEADS)),
+        fuel: fuel_of(found),
+        heads: heads_of(found),
     };
     Ok(Asked::Grade {
         inputs,
@@ -352,16 +334,16 @@ fn walk_of(alloc: Global, found: &ArgMatches) -> Result<Asked, Error>
         None => Vec::new(alloc),
     };
     let question = match found.get_one::<u32>("asked") {
-        Some(_) => Some(number_of(found, "asked", 0, MOST_NODES, 0)),
+        Some(_) => Some(number_of(found, "asked", 0, MOST_NODES)),
         None => None,
     };
     let wanted = Wanted {
         translation: translation_of(found),
-        heads: Heads::of(number_of(found, "heads", 1, MOST_HEADS, PLAIN_HEADS)),
-        edges: number_of(found, "edges", 1, MOST_EDGES, PLAIN_EDGES) as u64,
+        heads: heads_of(found),
+        edges: number_of(found, "edges", 1, MOST_EDGES) as u64,
         path,
         question,
-        lines: number_of(found, "lines", 0, MOST_LINES, PLAIN_LINES),
+        lines: number_of(found, "lines", 0, MOST_LINES),
     };
     Ok(Asked::Walk { file, wanted })
 }
