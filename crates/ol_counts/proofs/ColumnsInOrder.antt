@@ -30,9 +30,6 @@ use Rattle.ol_counts.proofs.Found.{need_is_no_more_than_leftmost}
 use Rattle.ol_counts.specs.Machines.{need_count}
 use Rattle.ol_net.specs.Graph.{Graph}
 use Rattle.ol_net.specs.Numbered.{net_of}
-use Rattle.ol_parse.proofs.Files.{whole_bound, whole_named, whole_occurs}
-use Rattle.ol_parse.specs.Numbered.{names_of, number}
-use Rattle.ol_parse.specs.Parsed.{IsFileOf}
 use Rattle.ol_rules.proofs.Recount.{net_same}
 use Rattle.ol_rules.proofs.Relation.{same_sym}
 use Rattle.ol_rules.specs.Counting.{counts_of}
@@ -45,14 +42,7 @@ use Rattle.ol_translate.proofs.Whole.{translation_net}
 use Rattle.ol_translate.specs.Names.{HasNames}
 use Rattle.ol_translate.specs.Translation.{translation_of}
 use Rattle.ol_counts.specs.Columns.{HasSteps, TableIsInOrder}
-
-file_names : (bytes : List ℕ) (t : Tree) (names : List (List ℕ)) → IsFileOf bytes t names →
-    HasNames t (length names)
-file_names bytes t names f =
-    let has_names : HasNames (number f.named) (length (names_of f.named)) =
-    record { bound = whole_bound f.named; named = whole_named f.named; each = λ k b. whole_occurs f.named k b } in
-    subst (λ t. HasNames t (length names)) (sym f.tree)
-    (subst (λ names. HasNames (number f.named) (length names)) (sym f.free_names) has_names)
+use Rattle.ol_law_meaning.proofs.FileNames.{file_names}
 
 -- ---- what a tally says
 

@@ -1,12 +1,12 @@
 -- Terms of one another's conversion class, and terms put into them.
-use Rattle.std.proofs.Common.{◌≡◌, ℕ, zero, suc, ◌+◌, ◌<◌, ◌==◌, true, [], ◌∷◌, None, refl, sym, ap, ◌∙◌, subst, arith}
+use Rattle.std.proofs.Common.{◌≡◌, ℕ, zero, suc, ◌+◌, ◌<◌, ◌==◌, true, [], ◌∷◌, None, refl, ap, ◌∙◌, subst, arith}
 use Rattle.std.proofs.lemmas.Bool.{ltb-true, and_parts}
 use Rattle.std.specs.Option.{option_map}
 use Rattle.ol_beta.specs.Beta as beta
 use Rattle.ol_beta.specs.Leftmost.{IsNormal}
 use Rattle.ol_term.specs.Trees.{Tree, var, free, lam, app, is_below}
 use Rattle.ol_law_confluence.specs.Reductions.{Convertible, contracts, same, turned, joined}
-use Rattle.ol_law_confluence.proofs.Substitutions.{ren, up_ren, up_ren_twice, up, inst, point, subst_inst}
+use Rattle.ol_law_confluence.proofs.Substitutions.{ren, up, inst, point, subst_inst, inst_like}
 use Rattle.ol_counts.proofs.Normals.{lam_case, app_case}
 
 -- ---- within a term
@@ -41,40 +41,6 @@ convertible_beta b a =
     joined (contracts [] refl) (convertible_is (subst_inst a b))
 
 -- ---- variables for variables, and terms for them
-
-pub inst_like : {σ τ : ℕ → Tree} → ((y : ℕ) → σ y ≡ τ y) → (t : Tree) → inst σ t ≡ inst τ t
-inst_like h t = λ i. inst (λ y. h y i) t
-
-ren_like : {ξ ζ : ℕ → ℕ} → ((y : ℕ) → ξ y ≡ ζ y) → (t : Tree) → ren ξ t ≡ ren ζ t
-ren_like h t = λ i. ren (λ y. h y i) t
-
-ren_ren : (t : Tree) (ζ ξ : ℕ → ℕ) → ren ζ (ren ξ t) ≡ ren (λ y. ζ (ξ y)) t
-ren_ren (var y) ζ ξ = refl
-ren_ren (free f) ζ ξ = refl
-ren_ren (lam t) ζ ξ = ap lam (ren_ren t (up_ren ζ) (up_ren ξ) ∙ ren_like (up_ren_twice ζ ξ) t)
-ren_ren (app t u) ζ ξ = λ i. app (ren_ren t ζ ξ i) (ren_ren u ζ ξ i)
-
-up_after_ren : (σ : ℕ → Tree) (ξ : ℕ → ℕ) (y : ℕ) → up σ (up_ren ξ y) ≡ up (λ y. σ (ξ y)) y
-up_after_ren σ ξ zero = refl
-up_after_ren σ ξ (suc y) = refl
-
-pub inst_ren : (t : Tree) (σ : ℕ → Tree) (ξ : ℕ → ℕ) → inst σ (ren ξ t) ≡ inst (λ y. σ (ξ y)) t
-inst_ren (var y) σ ξ = refl
-inst_ren (free f) σ ξ = refl
-inst_ren (lam t) σ ξ = ap lam (inst_ren t (up σ) (up_ren ξ) ∙ inst_like (up_after_ren σ ξ) t)
-inst_ren (app t u) σ ξ = λ i. app (inst_ren t σ ξ i) (inst_ren u σ ξ i)
-
-ren_after_up : (ξ : ℕ → ℕ) (σ : ℕ → Tree) (y : ℕ) →
-    ren (up_ren ξ) (up σ y) ≡ up (λ y. ren ξ (σ y)) y
-ren_after_up ξ σ zero = refl
-ren_after_up ξ σ (suc y) = ren_ren (σ y) (up_ren ξ) suc ∙ sym (ren_ren (σ y) suc ξ)
-
-pub ren_inst : (t : Tree) (ξ : ℕ → ℕ) (σ : ℕ → Tree) →
-    ren ξ (inst σ t) ≡ inst (λ y. ren ξ (σ y)) t
-ren_inst (var y) ξ σ = refl
-ren_inst (free f) ξ σ = refl
-ren_inst (lam t) ξ σ = ap lam (ren_inst t (up_ren ξ) (up σ) ∙ inst_like (ren_after_up ξ σ) t)
-ren_inst (app t u) ξ σ = λ i. app (ren_inst t ξ σ i) (ren_inst u ξ σ i)
 
 up_var : (y : ℕ) → up var y ≡ var y
 up_var zero = refl

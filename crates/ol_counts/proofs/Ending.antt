@@ -2,7 +2,7 @@
 use Rattle.std.proofs.Common.{◌≡◌, ℕ, zero, suc, ◌+◌, ◌<◌, ◌==◌, ◌&&◌, Bool, true, false, if◌then◌else◌, inl, List, []}
 use Rattle.std.proofs.Common.{◌∷◌, length, None, Some, is_none, refl, sym, ap, ◌∙◌, subst, arith}
 use Rattle.std.proofs.lemmas.Bool.{eqb-true, ltb-true, and_parts}
-use Rattle.std.proofs.lemmas.Option.{same_Some}
+use Rattle.std.proofs.lemmas.Option.{same_Some, none-some}
 use Rattle.ol_beta.specs.Leftmost.{IsNormal}
 use Rattle.ol_demand.proofs.Onward.{is_start}
 use Rattle.ol_counts.specs.Machines.{Machine, Link, function, name, Cell, Frame, Control, goes, came, first_link}
@@ -131,9 +131,6 @@ of_state T m s e =
     ended T s.count m.control m.stack m.left m.cells m.links m.steps s.at_hand s.held s.control_is
     q.0 q.1 p.1
 
-none_some : {X : Type 0} {x : X} → None ≡ Some x → ⊥
-none_some e = absurd (cc)
-
 pub need_is_by_families : NeedIsByFamilies
 need_is_by_families T h moves n e = go (is_ended m) refl e
   where
@@ -142,7 +139,7 @@ need_is_by_families T h moves n e = go (is_ended m) refl e
 
     go : (b : Bool) → is_ended m ≡ b → (if b then Some m.steps else None) ≡ Some n → IsBy T n
     go true k q = subst (λ n. IsBy T n) (same_Some m.steps n q) (of_state T m (states T h moves) k)
-    go false k q = absurd (none_some q)
+    go false k q = absurd (none-some _ q)
 
 -- ---- the laws
 

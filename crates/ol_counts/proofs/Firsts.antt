@@ -1,7 +1,7 @@
 -- The leftmost redex, and parallel steps beside its contraction: how many leftmost steps are left.
 use Rattle.std.proofs.Common.{◌≡◌, ℕ, suc, ◌⊎◌, inl, inr}
 use Rattle.std.proofs.Common.{List, [], ◌∷◌, length, Option, None, Some, refl, sym, ap, ◌∙◌, subst}
-use Rattle.std.proofs.lemmas.Option.{same_Some}
+use Rattle.std.proofs.lemmas.Option.{same_Some, none-some}
 use Rattle.std.specs.Option.{option_map, option_or}
 use Rattle.ol_beta.specs.Leftmost.{leftmost, is_abstraction}
 use Rattle.ol_beta.specs.Leftmost as beta_steps
@@ -212,9 +212,6 @@ leads_to_head (readings.contract x r) h = head_step (head_first x) (leads_to_hea
 
 -- ---- leftmost reduction
 
-none_some : {X : Type 0} {x : X} → None ≡ Some x → ⊥
-none_some e = absurd (cc)
-
 record Mapped (f : Labelled → Labelled) (o : Option Labelled) (u : Labelled) : Type 0 where
   term : Labelled
   «is» : o ≡ Some term
@@ -222,7 +219,7 @@ record Mapped (f : Labelled → Labelled) (o : Option Labelled) (u : Labelled) :
 
 mapped : (f : Labelled → Labelled) (o : Option Labelled) (u : Labelled) →
     option_map f o ≡ Some u → Mapped f o u
-mapped f None u e = absurd (none_some e)
+mapped f None u e = absurd (none-some _ e)
 mapped f (Some t) u e = record { term = t; «is» = refl; gives = same_Some (f t) u e }
 
 app_first : (f a : Labelled) (w : Label) (at : List ℕ) (u : Labelled) → Plain f →
@@ -248,18 +245,18 @@ app_first f a w at u plain e g left right =
         let n = still_normal f h in
         subst (λ u. First (app f a w) u) m.gives
         (first_argument (plain_neutral f n plain) n (right b m.term k m.is))
-    go None None h k q = absurd (none_some q)
+    go None None h k q = absurd (none-some _ q)
 
 pub first_of : (t : Labelled) (at : List ℕ) (u : Labelled) → leftmost (erased t) ≡ Some at →
     contracted t at ≡ Some u → First t u
-first_of (var k w) at u e g = absurd (none_some e)
-first_of (free k w) at u e g = absurd (none_some e)
+first_of (var k w) at u e g = absurd (none-some _ e)
+first_of (free k w) at u e g = absurd (none-some _ e)
 first_of (lam t w) at u e g = go (first_of t) (leftmost (erased t)) refl e
   where
     go : ((at : List ℕ) (u : Labelled) → leftmost (erased t) ≡ Some at → contracted t at ≡ Some u → First t u) →
         (o : Option (List ℕ)) → leftmost (erased t) ≡ o → beta_steps.under 0 o ≡ Some at →
         First (lam t w) u
-    go next None h k = absurd (none_some k)
+    go next None h k = absurd (none-some _ k)
     go next (Some b) h k =
         let r : contracted (lam t w) (0 ∷ b) ≡ Some u =
         ap (contracted (lam t w)) (same_Some (0 ∷ b) at k) ∙ g in

@@ -1,6 +1,6 @@
 -- The machine follows the rules of call-by-need.
-use Rattle.std.proofs.Common.{◌≡◌, ℕ, zero, suc, ◌+◌, ◌<◌, ◌≤◌, ◌==◌, ◌&&◌, Bool, true, false, ◌⊎◌, inl, inr}
-use Rattle.std.proofs.Common.{List, [], ◌∷◌, ◌++◌, length, slice_get, slice_set, None, Some}
+use Rattle.std.proofs.Common.{◌≡◌, ℕ, zero, suc, ◌+◌, ◌<◌, ◌≤◌, ◌==◌, ◌&&◌, true, false, ◌⊎◌, inl, inr}
+use Rattle.std.proofs.Common.{List, [], ◌∷◌, ◌++◌, length, slice_get, slice_set, Some}
 use Rattle.std.proofs.Common.{if◌then◌else◌, refl, sym, ap, ◌∙◌, subst, arith}
 use Rattle.std.proofs.lemmas.Bool.{eqb-true, ltb-true, and_parts, cases_eq}
 use Rattle.std.proofs.lemmas.List.{length_push}
@@ -18,8 +18,10 @@ use Rattle.ol_counts.proofs.Heaps.{Sees}
 use Rattle.ol_counts.proofs.Stacks.{busy_rank, sees_var, stands_sees}
 use Rattle.ol_counts.proofs.Moving.{State}
 use Rattle.ol_counts.proofs.Finding.{after_next}
-use Rattle.ol_counts.proofs.Matching.{behind_first, slice_get_last, slice_get_kept, first_kept, var_closure}
+use Rattle.ol_counts.proofs.Matching.{behind_first, slice_get_kept, first_kept, var_closure}
 use Rattle.ol_counts.proofs.Stepping.{set_same, set_other, set_length, moves}
+use Rattle.ol_counts.proofs.Moves.{ended_if}
+use Rattle.ol_law_edges.proofs.Lists.{got_last}
 
 -- ---- what the machine has of a heap
 
@@ -123,9 +125,9 @@ heap_push n links stack Γ cells x y h s = record {
     go c l b (inl e) = record {
       cell = x;
       own = y;
-      at = ap (slice_get (Γ ++ x ∷ [])) (e ∙ sym h.size) ∙ slice_get_last Γ x;
+      at = ap (slice_get (Γ ++ x ∷ [])) (e ∙ sym h.size) ∙ got_last Γ x;
       own_at =
-          ap (slice_get (cells ++ y ∷ [])) (e ∙ sym h.own_size) ∙ slice_get_last cells y;
+          ap (slice_get (cells ++ y ∷ [])) (e ∙ sym h.own_size) ∙ got_last cells y;
       same = s;
     }
     go c l b (inr e) =
@@ -287,17 +289,6 @@ Mach control stack left cells links steps = record {
   links = links;
   steps = steps;
 }
-
-none_some : {X : Type 0} {x : X} → None ≡ Some x → ⊥
-none_some e = absurd (cc)
-
-pub ended_if : (m : Machine) (n : ℕ) → steps_if_ended m ≡ Some n → (is_ended m ≡ true) × (m.steps ≡ n)
-ended_if m n e = go (is_ended m) refl e
-  where
-    go : (b : Bool) → is_ended m ≡ b → (if b then Some m.steps else None) ≡ Some n →
-        (is_ended m ≡ true) × (m.steps ≡ n)
-    go true k q = (k, same_Some m.steps n q)
-    go false k q = absurd (none_some q)
 
 pub clash : false ≡ true → ⊥
 clash e = absurd (cc)
@@ -514,7 +505,7 @@ module _ (T : Labelled) (s : ℕ) where
           ChainOf x.size (x.more ++ (record { cell = at; behind = d }) ∷ []) (suc (length x.more)) (length Γ ∷ η)
       chain d η c = (
         d,
-        slice_get_last x.more (record { cell = at; behind = d })
+        got_last x.more (record { cell = at; behind = d })
             ∙ ap (λ a. Some (record { cell = a; behind = d })) (sym same_at),
         (let l = x.grows in let p = h.size in omega (arith, l, p)),
         chain_on x.size x.size x.more (x.more ++ (record { cell = at; behind = d }) ∷ []) (omega arith)

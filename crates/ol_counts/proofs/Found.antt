@@ -1,11 +1,11 @@
 -- The machine ends where leftmost reduction does, and isn't longer: the laws.
-use Rattle.std.proofs.Common.{◌≡◌, ℕ, suc, ◌<◌, ◌≤◌, Bool, true, false, if◌then◌else◌, ◌⊎◌, inl, inr}
-use Rattle.std.proofs.Common.{None, Some, refl, sym, ap, ◌∙◌, subst, arith}
+use Rattle.std.proofs.Common.{◌≡◌, ℕ, suc, ◌<◌, ◌≤◌, true, if◌then◌else◌, ◌⊎◌, inl, inr}
+use Rattle.std.proofs.Common.{Some, refl, sym, ap, ◌∙◌, subst, arith}
 use Rattle.std.proofs.lemmas.Bool.{cases_lt}
 use Rattle.std.proofs.lemmas.Option.{same_Some}
 use Rattle.ol_beta.specs.Leftmost.{IsNormal}
-use Rattle.ol_counts.specs.Machines.{Machine, after, begun, is_ended, steps_if_ended, need_count}
-use Rattle.ol_counts.proofs.Moves.{ends_within}
+use Rattle.ol_counts.specs.Machines.{after, begun, need_count}
+use Rattle.ol_counts.proofs.Moves.{ends_within, ended_if}
 use Rattle.ol_term.specs.Trees.{Tree, is_below}
 use Rattle.ol_law_confluence.proofs.LeftmostEnds.{leftmost_finds}
 use Rattle.ol_law_optimality.proofs.Labelling.{each_term_has_letters, leftmost_is_labelled}
@@ -40,17 +40,6 @@ counts t k x =
     let m = after x.moves (begun t) in
     let f = x.few in
     (x.moves, m.steps, sym (ends_within t x.moves x.moves m refl (omega arith) x.ends), omega (arith, f))
-
-none_some : {X : Type 0} {x : X} → None ≡ Some x → ⊥
-none_some e = absurd (cc)
-
-ended_if : (m : Machine) (n : ℕ) → steps_if_ended m ≡ Some n → (is_ended m ≡ true) × (m.steps ≡ n)
-ended_if m n e = go (is_ended m) refl e
-  where
-    go : (b : Bool) → is_ended m ≡ b → (if b then Some m.steps else None) ≡ Some n →
-        (is_ended m ≡ true) × (m.steps ≡ n)
-    go true k q = (k, same_Some m.steps n q)
-    go false k q = absurd (none_some q)
 
 -- it ends once
 one_count : (t : Tree) (i j a b : ℕ) → need_count t i ≡ Some a → need_count t j ≡ Some b → a ≡ b

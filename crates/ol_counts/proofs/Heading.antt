@@ -2,7 +2,7 @@
 use Rattle.std.proofs.Common.{zero, suc, ◌≡◌, ℕ, ◌≤◌, ◌==◌, Bool, true, false, if◌then◌else◌, List, [], ◌∷◌, ◌++◌}
 use Rattle.std.proofs.Common.{length, None, Some, refl, sym, ap, ◌∙◌, subst, arith}
 use Rattle.std.proofs.lemmas.Bool.{eqb-true, and_parts}
-use Rattle.std.proofs.lemmas.Option.{same_Some}
+use Rattle.std.proofs.lemmas.Option.{same_Some, none-some}
 use Rattle.ol_counts.specs.Machines.{Machine, Link, function, name, Cell, Frame, Control, goes, came, after, begun}
 use Rattle.ol_net.specs.Graph.{Graph}
 use Rattle.ol_term.specs.Trees.{Tree, is_below}
@@ -117,16 +117,13 @@ headed T n (came (name e)) [] left cells links steps K h x a b =
     (neutral_shape (inst h.values h.term)
     (subst (λ K. Neutral (inst h.values K)) (at_root h.stands).0 (name_neutral x))))
 
-none_some : {X : Type 0} {x : X} → None ≡ Some x → ⊥
-none_some e = absurd (cc)
-
 headed_if : (m : Machine) (n : ℕ) → steps_if_headed m ≡ Some n → (has_head m ≡ true) × (m.steps ≡ n)
 headed_if m n e = go (has_head m) refl e
   where
     go : (b : Bool) → has_head m ≡ b → (if b then Some m.steps else None) ≡ Some n →
         (has_head m ≡ true) × (m.steps ≡ n)
     go true k q = (k, same_Some m.steps n q)
-    go false k q = absurd (none_some q)
+    go false k q = absurd (none-some _ q)
 
 -- ---- the law
 

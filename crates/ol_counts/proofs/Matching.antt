@@ -13,6 +13,7 @@ use Rattle.ol_law_optimality.proofs.Putting.{up, inst, point, before_inst, inst_
 use Rattle.ol_law_optimality.proofs.Putting.{inst_ren, substituted_inst}
 use Rattle.ol_counts.proofs.Normals.{Neutral}
 use Rattle.ol_counts.proofs.Places.{inst_same}
+use Rattle.ol_law_edges.proofs.Lists.{got_last, got_left}
 
 -- ---- environments
 
@@ -49,20 +50,9 @@ found links (suc k) e (x ∷ ρ) c l =
     (sym (behind_first links k e ∙ ap (λ o. behind links k (behind_link o)) c.1))
     (found links k c.0 ρ c.2 (omega (arith, l)))
 
--- one link more
-slice_get_more : {X : Type 0} (xs ys : List X) (k : ℕ) (x : X) → slice_get xs k ≡ Some x →
-    slice_get (xs ++ ys) k ≡ Some x
-slice_get_more [] ys k x e = absurd (cc)
-slice_get_more (z ∷ xs) ys zero x e = e
-slice_get_more (z ∷ xs) ys (suc k) x e = slice_get_more xs ys k x e
-
-pub slice_get_last : {X : Type 0} (xs : List X) (x : X) → slice_get (xs ++ x ∷ []) (length xs) ≡ Some x
-slice_get_last [] x = refl
-slice_get_last (z ∷ xs) x = slice_get_last xs x
-
 pub slice_get_kept : {X : Type 0} (xs : List X) (x : X) (k : ℕ) (y : X) → slice_get xs k ≡ Some y →
     slice_get (xs ++ x ∷ []) k ≡ Some y
-slice_get_kept xs x k y e = slice_get_more xs (x ∷ []) k y e
+slice_get_kept xs x k y e = got_left xs (x ∷ []) k y e
 
 pub first_kept : (links : List Link) (x : Link) (e : ℕ) (l : Link) →
     first_link links e ≡ Some l → first_link (links ++ x ∷ []) e ≡ Some l
@@ -83,7 +73,7 @@ pub chain_new : (links : List Link) (a e : ℕ) (d : Label) (ρ : List (ℕ × L
     Chain (links ++ (record { cell = a; behind = e }) ∷ []) (suc (length links)) ((a, d) ∷ ρ)
 chain_new links a e d ρ c = (
   e,
-  slice_get_last links (record { cell = a; behind = e }),
+  got_last links (record { cell = a; behind = e }),
   chain_kept links (record { cell = a; behind = e }) e ρ c,
 )
 

@@ -7,12 +7,12 @@ use Rattle.std.proofs.lemmas.Option.{same_Some, slice_get_within}
 use Rattle.ol_term.specs.Trees.{Tree, is_below}
 use Rattle.ol_term.specs.Trees as trees
 use Rattle.ol_law_confluence.specs.Reductions.{Convertible, same, joined}
-use Rattle.ol_law_confluence.proofs.Substitutions.{ren, up, inst, point, inst_inst}
+use Rattle.ol_law_confluence.proofs.Substitutions.{ren, up, inst, point, inst_inst, inst_like, inst_ren, ren_inst}
 use Rattle.ol_counts.specs.NeedRules.{Head, free, level, WeakForm, function, name, HeapCell, waits, taken, has, Evaluates, of_free}
 use Rattle.ol_counts.specs.NeedRules.{of_lam, first_use, later_use, beta, argument, head_at, Task, closure, spine}
 use Rattle.ol_counts.specs.NeedRules.{NormalisesByNeed, into_body, into_arguments, no_argument, one_argument, ReducesByNeed}
 use Rattle.ol_counts.proofs.Conversions.{convertible_lam, convertible_app, convertible_fun, convertible_is}
-use Rattle.ol_counts.proofs.Conversions.{convertible_beta, inst_like, inst_ren, ren_inst, inst_var, below_same}
+use Rattle.ol_counts.proofs.Conversions.{convertible_beta, inst_var, below_same}
 use Rattle.ol_counts.proofs.Conversions.{Neutral, Normal}
 use Rattle.ol_counts.proofs.Heaps.{with_at, with_own, with_other}
 use Rattle.ol_counts.proofs.Stepping.{set_length}

@@ -1,7 +1,9 @@
 -- The moves of the machine: each adds at most one cell, link and step, and none is made at its end.
 use Rattle.std.proofs.Common.{◌≡◌, ℕ, zero, suc, ◌+◌, ◌-◌, ◌≤◌, Bool, true, false, List, [], ◌∷◌, length, slice_get, slice_set, Option, None, Some, is_none, ◌==◌, ◌&&◌, ◌⊎◌, inl, inr, refl, sym, ap, ◌∙◌, subst, arith}
+use Rattle.std.proofs.Common.{if◌then◌else◌}
 use Rattle.std.proofs.lemmas.List.{length_push}
 use Rattle.std.proofs.lemmas.Bool.Decides.{eqb_tells}
+use Rattle.std.proofs.lemmas.Option.{none-some, same_Some}
 use Rattle.std.specs.Prelude.{eqb, ◌≢◌}
 use Rattle.ol_term.specs.Trees as trees
 use Rattle.ol_term.specs.Trees.{Tree}
@@ -142,3 +144,11 @@ module _ (m n p : Machine) (w : Weak) where
 
   pub step_shown : m.stack ≡ [] → n ≡ m → p ≡ shown n w → p ≡ done m w m.stack
   step_shown e s f = f ∙ ap (λ (m : Machine). shown m w) s ∙ sym (ap (λ (stack : List Frame). done m w stack) e)
+
+pub ended_if : (m : Machine) (n : ℕ) → steps_if_ended m ≡ Some n → (is_ended m ≡ true) × (m.steps ≡ n)
+ended_if m n e = go (is_ended m) refl e
+  where
+    go : (b : Bool) → is_ended m ≡ b → (if b then Some m.steps else None) ≡ Some n →
+        (is_ended m ≡ true) × (m.steps ≡ n)
+    go true k q = (k, same_Some m.steps n q)
+    go false k q = absurd (none-some n q)

@@ -4,7 +4,7 @@ use Rattle.std.proofs.Common.{sym, ap, ◌∙◌, subst, arith}
 use Rattle.ol_counts.specs.Machines.{Machine, Link, Weak, Frame, Control, goes, came, first_link}
 use Rattle.ol_counts.specs.Machines.{entered, named, next, after, begun, has_name, is_ended, steps_if_ended, passed, need_count}
 use Rattle.ol_counts.specs.Machines as machine
-use Rattle.ol_counts.proofs.Moves.{ended_stays}
+use Rattle.ol_counts.proofs.Moves.{ended_stays, ended_if}
 use Rattle.ol_term.specs.Trees.{Tree, is_below}
 use Rattle.ol_term.specs.Trees as trees
 use Rattle.ol_counts.specs.NeedRules.{Head, level, WeakForm, function, name, HeapCell, has, Evaluates}
@@ -14,9 +14,10 @@ use Rattle.ol_law_optimality.proofs.Labelling.{each_term_has_letters}
 use Rattle.ol_law_optimality.specs.Labels.{Labelled}
 use Rattle.ol_counts.proofs.Ending.{begins}
 use Rattle.ol_counts.proofs.Moving.{State}
-use Rattle.ol_counts.proofs.Matching.{slice_get_last, first_kept}
+use Rattle.ol_counts.proofs.Matching.{first_kept}
 use Rattle.ol_counts.proofs.Following.{ChainOf, ValueOf, HeapOf, Grown, chain_on, heap_links, heap_push, Mach}
-use Rattle.ol_counts.proofs.Following.{EndsAfter, Onward, onward, no_name, on_left, ended_if, Ran, runs_cell, runs}
+use Rattle.ol_counts.proofs.Following.{EndsAfter, Onward, onward, no_name, on_left, Ran, runs_cell, runs}
+use Rattle.ol_law_edges.proofs.Lists.{got_last}
 
 -- cells put before what is left, the last first
 abbrev pub push : List ℕ → List ℕ → List ℕ
@@ -209,7 +210,7 @@ module _ (T : Labelled) (s : ℕ) where
             c.0,
             (
               e,
-              slice_get_last x.more l
+              got_last x.more l
                   ∙ ap (λ a. Some (record { cell = a; behind = e })) (sym same),
               (let i = x.heap_is.size in omega (arith, i)),
               chain_on x.size (suc x.size) x.more m (omega arith) g e η c.1,

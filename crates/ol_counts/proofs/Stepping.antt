@@ -9,13 +9,14 @@ use Rattle.ol_counts.specs.Machines.{Control, goes, came, first_link, behind, en
 use Rattle.ol_term.specs.Trees.{Tree, is_below}
 use Rattle.ol_term.specs.Trees as trees
 use Rattle.ol_law_optimality.specs.Labels.{Label, none, over, under, joined, Labelled, var, free, lam, app}
-use Rattle.ol_law_optimality.specs.Labels.{before, erased, substituted}
+use Rattle.ol_law_optimality.specs.Labels.{before, substituted}
 use Rattle.ol_law_optimality.specs.Reductions.{Parallel, of_redex, reduct, FamilyStep, FamilyReduces}
 use Rattle.ol_law_optimality.specs.Reductions as reductions
 use Rattle.ol_law_optimality.proofs.Putting.{ren, up, inst, before_none, inst_inst, inst_substituted, inst_reduct}
 use Rattle.ol_law_optimality.proofs.Needed.{Of}
 use Rattle.ol_law_optimality.proofs.Steps.{at_once}
 use Rattle.ol_law_optimality.proofs.Together.{parallel_same, parallel_inst}
+use Rattle.ol_law_optimality.proofs.Erasing.{erased_before}
 use Rattle.ol_counts.proofs.Heaps.{with_at, with_own, with_other, Sees, sees_after, Sound, rank, rank_own, rank_other}
 use Rattle.ol_counts.proofs.Heaps.{sees_more, sees_below, cell_values, one_cell_more, one_name_more, var_after}
 use Rattle.ol_counts.proofs.Stacks.{sees_fun, sees_arg, sees_app, sees_var, var_sees, Stands, root, under_argument}
@@ -25,7 +26,7 @@ use Rattle.ol_counts.proofs.Stacks.{SameValue, same_value, StepFurther, step_fur
 use Rattle.ol_counts.proofs.Normals.{Normal, redex_or_shape}
 use Rattle.ol_counts.proofs.Places.{shape_inside, close_at, open_at, substituted_open, closed_again, Around, below}
 use Rattle.ol_counts.proofs.Places.{in_function, onward, around_else, WholeStep, whole_step}
-use Rattle.ol_counts.proofs.Matching.{Chain, env, slice_get_last, slice_get_kept, first_kept, chain_new, put_env}
+use Rattle.ol_counts.proofs.Matching.{Chain, env, slice_get_kept, first_kept, chain_new, put_env}
 use Rattle.ol_counts.proofs.Matching.{reduct_env, Closure, Abstraction, NameOf, of_var, of_free, of_argument, WeakOf}
 use Rattle.ol_counts.proofs.Matching.{ControlOf, weak_before, name_neutral, name_more, cell_more, Found, var_closure}
 use Rattle.ol_counts.proofs.Matching.{free_closure, lam_closure, app_closure, Application}
@@ -35,6 +36,7 @@ use Rattle.ol_counts.proofs.Moving.{HasCell, HaveCells, Held, State, Looked, loo
 use Rattle.ol_counts.proofs.Moving.{enters, means, total, measure_of, Onward, Contracted, Outcome}
 use Rattle.ol_counts.proofs.Firsts.{Any, to_any, First, first_here}
 use Rattle.ol_counts.proofs.Weights.{weight, weight_ren, some_weight, weights, weights_else, less_first}
+use Rattle.ol_law_edges.proofs.Lists.{got_last}
 
 abbrev pub values_of : {n : ℕ} {T : Labelled} {stack : List Frame} {left : List ℕ} {cells : List Cell}
     {links : List Link} {steps : ℕ} {K : Labelled} → Held n T stack left cells links steps K →
@@ -187,7 +189,7 @@ module _ (T : Labelled) (n : ℕ) (stack : List Frame) (left : List ℕ)
           (record {
             cell = waits a e;
             at =
-                ap (slice_get (cells ++ waits a e ∷ [])) size ∙ slice_get_last cells (waits a e);
+                ap (slice_get (cells ++ waits a e ∷ [])) size ∙ got_last cells (waits a e);
             is_of = y.arg_is;
             sees =
                 subst (λ k. Sees (suc n) r k y.arg) (sym (rank_own n h.ranks b n refl))
@@ -277,12 +279,6 @@ family_more : {T V W : Labelled} {d : Label} {ds : List Label} → FamilyReduces
     FamilyStep d V W → FamilyReduces T (ds ++ d ∷ []) W
 family_more reductions.ready s = reductions.contract s reductions.ready
 family_more (reductions.contract x r) s = reductions.contract x (family_more r s)
-
-erased_before : (p : Label) (t : Labelled) → erased (before p t) ≡ erased t
-erased_before p (var k w) = refl
-erased_before p (free k w) = refl
-erased_before p (lam t w) = refl
-erased_before p (app f a w) = refl
 
 module _ (T : Labelled) (n : ℕ) (a : ℕ) (stack : List Frame) (left : List ℕ)
     (cells : List Cell) (links : List Link) (steps : ℕ) where
@@ -480,7 +476,7 @@ module _ (T : Labelled) (n : ℕ) (a : ℕ) (stack : List Frame) (left : List �
             of_argument
             (sees_var n h.ranks h.bound a none
             (sees_arg n h.ranks h.bound K (var a none) u.label (stands_sees u.stands))).0
-            (slice_get_last links new)
+            (got_last links new)
             (name_more n n links more h.values h.values (omega arith) (first_kept links new)
             (λ y l q. q) x);
       }
@@ -718,7 +714,7 @@ came_shown T n left cells links steps body e K h x size =
     newest : HasCell (suc n) r next_cells more U n (h.heap n)
     newest = record {
       cell = has (name 0);
-      at = ap (slice_get next_cells) size ∙ slice_get_last cells (has (name 0));
+      at = ap (slice_get next_cells) size ∙ got_last cells (has (name 0));
       is_of =
           subst (λ K. NameOf (suc n) more U 0 K) (sym (h.sound.above n (omega arith)).0)
           (of_var refl (omega arith) new_name);

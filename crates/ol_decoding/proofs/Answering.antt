@@ -8,8 +8,6 @@ use Rattle.ol_term.specs.Trees.{Tree, depth}
 use Rattle.ol_net.specs.Graph.{Graph}
 use Rattle.ol_readback.specs.Texts.{IsTextOf}
 use Rattle.ol_readback.specs.declared.answers.ReadNode.{ReadNode}
-use Rattle.ol_readback.specs.Terms.{term_of}
-use Rattle.ol_readback.proofs.OneTree.{list_is_of_one_tree}
 use Rattle.ol_beta.specs.TreeTerms.{IsTermOf, IsTreeTooDeep}
 use Rattle.ol_subjects.specs.declared.answers.End.{End}
 use Rattle.ol_subjects.specs.declared.answers.End.TheVariants.{Yes, No}
@@ -26,6 +24,7 @@ use Rattle.ol_decoding.specs.NormalFormsOfNets as net
 use Rattle.ol_decoding.proofs.Decoding.{church_found}
 use Rattle.ol_decoding.proofs.NormalForms.{is_normal_form}
 use Rattle.ol_decoding.proofs.Texts.{telling}
+use Rattle.ol_beta.proofs.OneVerdict.{one_term}
 
 pub tells : (names : List (List ℕ)) (ns : List ReadNode) (u : Tree) (printed told text : List ℕ) (b : Bool) →
     IsTextOf names ns printed → IsTermOf ns u → IsTold [] u told → (IsTrue b ↔ SomeFits u) →
@@ -34,10 +33,6 @@ tells names ns u printed told text true p i t f e = shown.fits p i t (f.0 refl) 
 tells names ns u printed told text false p i t f e = shown.none p i t (λ s. let x = f.1 s in absurd (cc)) e
 
 -- ---- a term that is too deep to be built
-
--- places stand for one term
-one_term : (ns : List ReadNode) (t u : Tree) → IsTermOf ns t → IsTermOf ns u → t ≡ u
-one_term ns t u i j = sym i.is ∙ ap term_of (list_is_of_one_tree i.tree j.tree (i.is_list ∙ sym j.is_list)) ∙ j.is
 
 numeral_told : (m : ℕ) → IsTold [] (church_term (suc m)) (line [] (codes "Church numeral " ++ decimal (suc m)))
 numeral_told m =

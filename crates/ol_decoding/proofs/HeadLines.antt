@@ -14,7 +14,7 @@ use Rattle.ol_readback.proofs.Layers.{IsBelow, below_more, in_scope_below}
 use Rattle.ol_equal.specs.Comparing.{place_at}
 use Rattle.ol_decoding.specs.WalkAnswers.{IsVarText, IsHeadLine}
 use Rattle.ol_decoding.specs.AddedLines.{AddsVar, AddsHead}
-use Rattle.ol_decoding.proofs.Trailed.{two_pieces}
+use Rattle.ol_decoding.proofs.Saying.{glue}
 
 -- a binder that is seen from one place is seen from a later one
 seen_more : (m n : ℕ) (x : ReadNode) → m ≤ n → IsSeen m x → IsSeen n x
@@ -76,7 +76,7 @@ free_put names ns v q old a new name e n ta tn =
     subst (λ (v : HeadVar). AddsVar names ns v old new) (sym e) (
       codes "free " ++ slice_index_or names (q - 1) [],
       refl,
-      two_pieces old a new (codes "free ") (slice_index_or names (q - 1) []) ta
+      glue old a new (codes "free ") (slice_index_or names (q - 1) []) ta
           (tn ∙ ap (λ (x : List ℕ). a ++ x) (sym (name_at names (q - 1) name n))),
     )
   where

@@ -1,10 +1,11 @@
 -- The places of a Church numeral's tree, and that no other list of places stands for one.
 use Rattle.std.proofs.Common.{◌≡◌, ℕ, zero, suc, ◌+◌, ◌-◌, ◌<◌, ◌≤◌, ◌==◌, ◌&&◌, if◌then◌else◌, ◌⊎◌, inl, inr}
 use Rattle.std.proofs.Common.{Bool, true, false, List, [], ◌∷◌, ◌++◌, length, drop, Option, Some, None}
-use Rattle.std.proofs.Common.{refl, sym, ap, ◌∙◌, subst, arith, eqb-true, eq-eqb, append-nil, drop-cons, length-drop}
+use Rattle.std.proofs.Common.{refl, sym, ap, ◌∙◌, subst, arith, eqb-true, eq-eqb, append-nil, length-drop}
 use Rattle.std.specs.Prelude.{slice_get}
 use Rattle.std.proofs.lemmas.List.{drop_all}
-use Rattle.std.proofs.lemmas.Option.{slice_get_within, get_or_from_slice_get}
+use Rattle.std.proofs.lemmas.Option.{slice_get_within}
+use Rattle.std.proofs.lemmas.Bool.{and_parts}
 use Rattle.ol_term.specs.Trees as tree
 use Rattle.ol_term.specs.Trees.{Tree}
 use Rattle.ol_readback.specs.Whole.{Part, term, lost, cut, none, more, count, preorder, IsInScope, IsBound, IsWholeTree}
@@ -14,6 +15,7 @@ use Rattle.ol_readback.specs.declared.answers.HeadVar.TheVariants as var
 use Rattle.ol_readback.specs.declared.answers.ReadNode.{ReadNode}
 use Rattle.ol_readback.specs.declared.answers.ReadNode.TheVariants as node
 use Rattle.ol_readback.proofs.OneTree.{list_is_of_one_tree, all_left}
+use Rattle.ol_readback.proofs.Printed.{drop_at}
 use Rattle.ol_beta.specs.TreeTerms.{IsTermOf}
 use Rattle.ol_decoding.specs.Values.{iterated, church_term}
 use Rattle.ol_decoding.specs.Numerals.{IsNumeralOf}
@@ -239,10 +241,6 @@ numeral_is_chain ns n w i =
 
 -- ---- the places, one after another
 
-split : (a b : Bool) → (a && b) ≡ true → (a ≡ true) × (b ≡ true)
-split true b e = (refl, e)
-split false b e = absurd (cc)
-
 some_one : (m n : ℕ) → Some m ≡ Some n → m ≡ n
 some_one m n e = cc
 
@@ -251,14 +249,14 @@ no_some n e = cc
 
 place_is : (l b a : ℕ) (m : ReadNode) → is_place l b a m ≡ true → m ≡ node.Head l (own b) a
 place_is l b a (node.Head k (var.Bound i j) c) e =
-    let p = split (k == l) ((c == a) && ((i == 0) && (j == b))) e in
-    let q = split (c == a) ((i == 0) && (j == b)) p.1 in
-    let r = split (i == 0) (j == b) q.1 in
+    let p = and_parts (k == l) ((c == a) && ((i == 0) && (j == b))) e in
+    let q = and_parts (c == a) ((i == 0) && (j == b)) p.1 in
+    let r = and_parts (i == 0) (j == b) q.1 in
     ap (λ k. node.Head k (var.Bound i j) c) (eqb-true k l p.0) ∙ ap (λ i. node.Head l (var.Bound i j) c) (eqb-true i 0 r.0)
     ∙ ap (λ j. node.Head l (var.Bound 0 j) c) (eqb-true j b r.1) ∙ ap (node.Head l (own b)) (eqb-true c a q.0)
 place_is l b a (node.Head k (var.Free q) c) e =
-    let p = split (k == l) ((c == a) && false) e in
-    let q = split (c == a) false p.1 in absurd (no_clash q.1)
+    let p = and_parts (k == l) ((c == a) && false) e in
+    let q = and_parts (c == a) false p.1 in absurd (no_clash q.1)
   where
     no_clash : false ≡ true → ⊥
     no_clash e = cc
@@ -336,10 +334,6 @@ finds_from c l (suc n) =
 
 -- ---- one place after another
 
-dropped : (ns : List ReadNode) (k : ℕ) (m : ReadNode) → slice_get ns k ≡ Some m → drop k ns ≡ m ∷ drop (suc k) ns
-dropped ns k m e = drop-cons ns k m (slice_get_within ns k m e)
-    ∙ ap (λ x. x ∷ drop (suc k) ns) (get_or_from_slice_get ns k m m e)
-
 abbrev chosen : ℕ → ℕ → ReadNode → List ReadNode → Bool → Option ℕ
 chosen c l m ms b = if b then numeral_from (c + 1) 0 ms else if is_place l 2 0 m then some_if_last ms c else None
 
@@ -348,13 +342,13 @@ pub one_link : (ns : List ReadNode) (c l : ℕ) (m : ReadNode) (o : Option ℕ) 
 one_link ns c l m o e h i =
     let k : c + 1 ≡ suc c = omega arith in
     ap (λ k. numeral_from (c + 1) 0 (drop k ns)) k ∙ sym (ap (chosen c l m (drop (suc c) ns)) h)
-    ∙ sym (ap (numeral_from c l) (dropped ns c m e)) ∙ i
+    ∙ sym (ap (numeral_from c l) (drop_at ns c m e)) ∙ i
 
 pub no_link : (ns : List ReadNode) (c l : ℕ) (m : ReadNode) (o : Option ℕ) → slice_get ns c ≡ Some m →
     is_place l 1 1 m ≡ false → numeral_from c l (drop c ns) ≡ o → end_at ns c l m ≡ o
 no_link ns c l m o e h i =
     sym (go (is_place l 2 0 m) (drop (suc c) ns) (c + 1 == length ns) refl (length-drop (suc c) ns))
-    ∙ sym (ap (chosen c l m (drop (suc c) ns)) h) ∙ sym (ap (numeral_from c l) (dropped ns c m e)) ∙ i
+    ∙ sym (ap (chosen c l m (drop (suc c) ns)) h) ∙ sym (ap (numeral_from c l) (drop_at ns c m e)) ∙ i
   where
     within : c < length ns
     within = slice_get_within ns c m e

@@ -1,6 +1,7 @@
 -- A term has one value of each encoding at most, and one text is told of it.
 use Rattle.std.proofs.Common.{◌≡◌, ℕ, zero, suc, ◌+◌, ◌≤◌, List, [], ◌∷◌, ◌++◌, inl, inr, Option, Some}
 use Rattle.std.proofs.Common.{refl, sym, ap, ◌∙◌, subst, arith}
+use Rattle.std.proofs.lemmas.Option.{same_Some}
 use Rattle.std.specs.Option.{option_map}
 use Rattle.std.specs.List.{flat_map}
 use Rattle.ol_law_edges.specs.Edges.{IsIn}
@@ -11,12 +12,12 @@ use Rattle.ol_decoding.specs.Told.{lines, within, AreTold, IsTold}
 use Rattle.ol_decoding.specs.Told as tell
 use Rattle.ol_decoding.specs.ValueLaws.{NumeralIsOne, ValueIsOne, ToldIsOne}
 use Rattle.ol_decoding.specs.Decoders.{boolean_of, church_of, list_of, pair_of, scott_of}
-use Rattle.ol_decoding.proofs.Decoding.{some_one, boolean_found, church_found, list_found, pair_found, scott_found}
+use Rattle.ol_decoding.proofs.Decoding.{boolean_found, church_found, list_found, pair_found, scott_found}
 
 pub numeral_is_one : NumeralIsOne
 numeral_is_one m n = (
-  λ e. some_one m n (sym (church_found m) ∙ ap church_of e ∙ church_found n),
-  λ e. some_one m n (sym (scott_found m) ∙ ap scott_of e ∙ scott_found n),
+  λ e. same_Some m n (sym (church_found m) ∙ ap church_of e ∙ church_found n),
+  λ e. same_Some m n (sym (scott_found m) ∙ ap scott_of e ∙ scott_found n),
 )
 
 abbrev value_at : ℕ → Tree → Option Value
@@ -38,7 +39,7 @@ is_found t (value.scott n) h = ap (option_map value.scott) (subst (λ t. scott_o
 
 pub value_is_one : ValueIsOne
 value_is_one t v w h k e =
-    some_one v w (sym (is_found t v h) ∙ ap (λ n. value_at n t) e ∙ is_found t w k)
+    same_Some v w (sym (is_found t v h) ∙ ap (λ n. value_at n t) e ∙ is_found t w k)
 
 -- ---- one list of values
 

@@ -8,6 +8,7 @@ use Rattle.ol_readback.specs.declared.answers.ReadNode.{ReadNode}
 use Rattle.ol_readback.specs.declared.answers.ReadNode.TheVariants as node
 use Rattle.ol_readback.specs.Whole.{Part, term, lost, cut, none, more, count, preorder, IsWholeTree}
 use Rattle.ol_readback.proofs.OneTree.{count_one, list_is_of_one_tree}
+use Rattle.ol_readback.proofs.Printed.{drop_at}
 use Rattle.ol_equal.specs.Comparing.{place_at}
 use Rattle.ol_equal.specs.Paths.{PathLeads, root, inside, first, later, IsPathTo}
 use Rattle.ol_equal.specs.Walking.{args_of, State, back, walked}
@@ -151,12 +152,6 @@ found_first ns path w = record {
   leads = λ js n r. subst (λ (m : ℕ). PathLeads true w.tree js m) (omega arith) r;
   only = λ js m r. (m, r, omega arith);
 }
-
-drop_at : (ns : List ReadNode) (at : ℕ) (n : ReadNode) → slice_get ns at ≡ Some n → drop at ns ≡ n ∷ drop (suc at) ns
-drop_at [] zero n e = absurd (cc)
-drop_at [] (suc at) n e = absurd (cc)
-drop_at (m ∷ ns) zero n e = let f : m ≡ n = cc in ap (λ (x : ReadNode). x ∷ ns) f
-drop_at (m ∷ ns) (suc at) n e = drop_at ns at n e
 
 drop_drop : (m n : ℕ) (ns : List ReadNode) → drop (m + n) ns ≡ drop n (drop m ns)
 drop_drop zero n ns = ap (λ (i : ℕ). drop i ns) (omega arith)

@@ -2,17 +2,12 @@
 use Rattle.std.proofs.Common.{ℕ, false, List, ◌++◌, ◌∷◌, [], length, sym, subst}
 use Rattle.ol_term.specs.declared.translations.Translation.{Translation}
 use Rattle.ol_term.specs.Trees.{Tree}
-use Rattle.ol_parse.specs.Numbered.{names_of, number}
-use Rattle.ol_parse.specs.Parsed.{IsFileOf}
-use Rattle.ol_parse.proofs.Files.{whole_bound, whole_named, whole_occurs}
 use Rattle.ol_net.specs.Graph.{Graph}
-use Rattle.ol_net.specs.Nets.{NamedNet, NamedPort, SameNet}
+use Rattle.ol_net.specs.Nets.{NamedNet}
 use Rattle.ol_net.specs.Numbered.{net_of}
 use Rattle.ol_rules.proofs.Relation.{same_sym}
-use Rattle.ol_context.specs.Contexts.{Context}
-use Rattle.ol_context.specs.Paths.{Path, ends, goes, HaveSamePaths}
+use Rattle.ol_context.specs.Paths.{HaveSamePaths}
 use Rattle.ol_translate.specs.Translation.{translation_of}
-use Rattle.ol_translate.specs.Names.{HasNames}
 use Rattle.ol_readback.specs.Frames.{Frame}
 use Rattle.ol_readback.specs.Heads.{head, no_head}
 use Rattle.ol_readback.specs.ReadTrees.{Subterm, framed}
@@ -21,16 +16,13 @@ use Rattle.ol_readback.specs.Sources as heads
 use Rattle.ol_readback.specs.declared.answers.ReadNode.{ReadNode}
 use Rattle.ol_readback.proofs.Kept.{heads_are_kept}
 use Rattle.ol_law_meaning.proofs.Based.{tree_shows}
+use Rattle.ol_law_meaning.proofs.FileNames.{file_names}
 use Rattle.ol_subjects.specs.Subjects.{IsTerm, IsNetOfTerm}
 use Rattle.ol_subjects.specs.Readied.{IsReady}
 use Rattle.ol_subjects.specs.declared.answers.End.{End}
 use Rattle.ol_decoding.specs.ToldTrees.{ShowTerm, IsTreeAnswer, told}
 use Rattle.ol_decoding.specs.TreesOfNets.{TellsNet}
-
-path_same : {A : Type 0} (M N : NamedNet A) → SameNet M N →
-    {p : NamedPort A} {c d : Context} {q : ℕ} → Path M p c q d → Path N p c q d
-path_same M N s (ends l) = ends ((s.links _ _).0 l)
-path_same M N s (goes l h x r) = goes ((s.links _ _).0 l) ((s.nodes _ _ _).0 h) x (path_same M N s r)
+use Rattle.ol_invariance.proofs.SameNets.{same_path}
 
 module _ (N M : NamedNet ℕ) (same : HaveSamePaths N M) where
   moved : {F : List Frame} {ss : List Subterm} {ns : List ReadNode} → HaveHeadsOf N false F ss ns →
@@ -42,13 +34,6 @@ module _ (N M : NamedNet ℕ) (same : HaveSamePaths N M) where
   moved {F = F} {ss = s ∷ ss} (heads.found {n = n} {k = k} {v = v} {ls = ls} h r) = heads.found
       (heads_are_kept N M same (F ++ framed s 0 ∷ []) (length F) (head n v k ls) h) (moved r)
 
-has_names : (bytes : List ℕ) (t : Tree) (names : List (List ℕ)) → IsFileOf bytes t names → HasNames t (length names)
-has_names bytes t names f =
-    let h : HasNames (number f.named) (length (names_of f.named)) =
-    record { bound = whole_bound f.named; named = whole_named f.named; each = λ k b. whole_occurs f.named k b } in
-    subst (λ t. HasNames t (length names)) (sym f.tree)
-    (subst (λ names. HasNames (number f.named) (length names)) (sym f.free_names) h)
-
 show_term : (τ : Translation) (bytes : List ℕ) (t : Tree) (names : List (List ℕ)) (net : Graph)
     (ns : List ReadNode) → IsTerm τ bytes t names → IsNetOfTerm τ t names net → HasHeadsOf (net_of net) false ns →
     ShowTerm ns t
@@ -56,11 +41,11 @@ show_term τ bytes t names net ns f n h T e =
     let N = net_of net in
     let M = translation_of τ t (length names) in
     let same : HaveSamePaths N M = λ p c q d. (
-      λ r. path_same N M n.same r,
-      λ r. path_same M N (same_sym N M n.same) r,
+      λ r. same_path N M n.same r,
+      λ r. same_path M N (same_sym N M n.same) r,
     ) in
     let own : HasHeadsOf M false ns = moved N M same h in
-    tree_shows τ t (length names) (has_names bytes t names f.file) false T (subst (HasHeadsOf M false) (sym e) own)
+    tree_shows τ t (length names) (file_names bytes t names f.file) false T (subst (HasHeadsOf M false) (sym e) own)
 
 pub told_of : (bytes : List ℕ) (τ : Translation) (depth many fuel : ℕ) (t : Tree) (names : List (List ℕ)) (g : Graph)
     (text : List ℕ) (e : End) → IsReady τ bytes t names g → TellsNet g names depth many fuel text e →

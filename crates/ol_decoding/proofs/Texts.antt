@@ -5,14 +5,16 @@ use Rattle.std.specs.Prelude.{is_some}
 use Rattle.std.specs.Option.{option_map}
 use Rattle.std.specs.List.{flat_map}
 use Rattle.std.proofs.lemmas.List.{append-nil}
+use Rattle.std.proofs.lemmas.Option.{none-some, same_Some}
 use Rattle.ol_term.specs.Trees.{Tree, var, free, lam, app, is_below}
 use Rattle.ol_decoding.specs.Values.{Value, parts_of}
 use Rattle.ol_decoding.specs.Values as value
 use Rattle.ol_decoding.specs.Told.{lines, within, AreTold, IsTold}
 use Rattle.ol_decoding.specs.Told as tell
 use Rattle.ol_decoding.specs.Decoders.{of, values, boolean_of, church_of, list_of, pair_of, scott_of, items_of, is_var, told}
-use Rattle.ol_decoding.proofs.Decoding.{guarded, mapped, no_some, some_one}
+use Rattle.ol_decoding.proofs.Decoding.{guarded}
 use Rattle.ol_decoding.proofs.Fitting.{all_of}
+use Rattle.ol_law_edges.proofs.Options.{mapped}
 
 -- ---- the parts of the values that are found
 
@@ -94,7 +96,7 @@ pairs number f a b None e h k = plain number (lam (app (app f a) b)) refl e
 pairs number f a b (Some p) e h k =
     let t = lam (app (app f a) b) in
     let g = guarded (is_var 0 f && (is_below 0 a && is_below 0 b)) (Some (a, b)) p e in
-    let s : (a, b) ≡ p = some_one (a, b) p g.1 in
+    let s : (a, b) ≡ p = same_Some (a, b) p g.1 in
     let y = told (within number 2) None b in
     let second : AreTold number 2 (b ∷ []) (y ++ []) = more_of number 2 b [] y [] k tell.none in
     let both = more_of number 1 a (b ∷ []) (told (within number 1) None a) y h
@@ -122,12 +124,12 @@ telling number (Some k) (app (app c t) rest) = λ ts e.
     (telling (within number k) None t) (telling number (Some (k + 1)) rest m.0 m.1))
 telling number (Some k) (var j) = λ ts e.
     let g = guarded (j == 0) (Some []) ts e in
-    subst (λ ts. AreTold number k ts []) (some_one [] ts g.1) tell.none
-telling number (Some k) (app (var j) rest) = λ ts e. absurd (no_some ts e)
-telling number (Some k) (app (free j) rest) = λ ts e. absurd (no_some ts e)
-telling number (Some k) (app (lam t) rest) = λ ts e. absurd (no_some ts e)
-telling number (Some k) (free j) = λ ts e. absurd (no_some ts e)
-telling number (Some k) (lam t) = λ ts e. absurd (no_some ts e)
+    subst (λ ts. AreTold number k ts []) (same_Some [] ts g.1) tell.none
+telling number (Some k) (app (var j) rest) = λ ts e. absurd (none-some ts e)
+telling number (Some k) (app (free j) rest) = λ ts e. absurd (none-some ts e)
+telling number (Some k) (app (lam t) rest) = λ ts e. absurd (none-some ts e)
+telling number (Some k) (free j) = λ ts e. absurd (none-some ts e)
+telling number (Some k) (lam t) = λ ts e. absurd (none-some ts e)
 
 -- ---- the text, by what the term is
 

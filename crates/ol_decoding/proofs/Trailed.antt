@@ -26,9 +26,6 @@ pub five_pieces : (old a b c d e v w x y z : List ℕ) → a ≡ old ++ v → b 
     e ≡ d ++ z → e ≡ old ++ (v ++ (w ++ (x ++ (y ++ z))))
 five_pieces old a b c d e v w x y z i j k l m = rw (m, l, k, j, i) (simp append_assoc)
 
-pub two_pieces : (old a b v w : List ℕ) → a ≡ old ++ v → b ≡ a ++ w → b ≡ old ++ (v ++ w)
-two_pieces old a b v w i j = rw (j, i) (append_assoc old v w)
-
 pub three_pieces : (old a b c v w x : List ℕ) → a ≡ old ++ v → b ≡ a ++ w → c ≡ b ++ x → c ≡ old ++ (v ++ (w ++ x))
 three_pieces old a b c v w x i j k = rw (k, j, i) (simp append_assoc)
 

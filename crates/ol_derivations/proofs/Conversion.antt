@@ -1,15 +1,9 @@
 -- Terms that are told to be `not convertible` aren't.
-use Rattle.std.proofs.Common.{ℕ, List, [], ◌∷◌, subst}
-use Rattle.ol_beta.specs.Roads.{RoadLeads}
+use Rattle.std.proofs.Common.{[], ◌∷◌}
 use Rattle.ol_beta.proofs.Redexes.{no_leftmost}
 use Rattle.ol_law_confluence.proofs.Meetings.{convertible_normal}
-use Rattle.ol_law_meaning.specs.Shows.{ready, contract, BetaReduces}
-use Rattle.ol_term.specs.Trees.{Tree}
+use Rattle.ol_law_confluence.proofs.PrintedTrees.{road_beta}
 use Rattle.ol_derivations.specs.Conversion.{ApartIsNotConvertible}
-
-road_beta : (road : List (List ℕ)) (t v : Tree) → RoadLeads t road v → BetaReduces t v
-road_beta [] t v e = subst (λ v. BetaReduces t v) e ready
-road_beta (at ∷ road) t v h = contract {at = at} tt h.2.1.0 (road_beta road h.2.0 v h.2.1.1)
 
 pub apart_is_not_convertible : ApartIsNotConvertible
 apart_is_not_convertible t u h c =

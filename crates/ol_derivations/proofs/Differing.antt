@@ -1,11 +1,9 @@
 -- What two trees that differ have where they differ has different texts.
-use Rattle.std.proofs.Common.{◌≡◌, ℕ, zero, suc, ◌+◌, ◌<◌, ◌≤◌, ◌^◌, inl, inr, Bool, true, false, cond, Option, Some, None, List, [], ◌∷◌, ◌++◌, length, length-append, get_or, codes, refl, sym, ap, ◌∙◌, subst, arith}
+use Rattle.std.proofs.Common.{◌≡◌, ℕ, zero, suc, ◌+◌, ◌<◌, ◌≤◌, ◌^◌, inl, inr, Option, Some, None, List, [], ◌∷◌, ◌++◌, length, length-append, get_or, codes, refl, sym, ap, ◌∙◌, subst, arith}
 use Rattle.std.specs.Prelude.{◌≢◌, slice_index}
-use Rattle.std.specs.Str.{bytes_eq}
 use Rattle.std.proofs.lemmas.Bool.{cases_order}
 use Rattle.std.proofs.lemmas.List.{length-map}
 use Rattle.ol_limits.specs.Limits.{most_term_bytes}
-use Rattle.ol_term.specs.NameLists.{without}
 use Rattle.ol_net.specs.declared.parts.Kind.{Kind}
 use Rattle.ol_net.specs.Numbered.{net_of}
 use Rattle.ol_context.specs.Short.{live}
@@ -48,21 +46,13 @@ use Rattle.ol_derivations.proofs.Alone.{net_is}
 use Rattle.ol_derivations.proofs.Bounded.{sum_lams, few_binders, few_round}
 use Rattle.ol_derivations.proofs.Commas.{bare_lacks, head_lacks, question, full_stop}
 use Rattle.ol_derivations.proofs.Spelled.{text_of, application_file}
+use Rattle.ol_term.proofs.Binders.{without_short}
 
 -- ---- few names
 
-few_without : (x : List ℕ) (ys : List (List ℕ)) → length (without x ys) ≤ length ys
-few_without x [] = omega arith
-few_without x (y ∷ ys) = go (bytes_eq x y) (few_without x ys)
-  where
-    go : (b : Bool) → length (without x ys) ≤ length ys →
-        length (cond b (without x ys) (y ∷ without x ys)) ≤ suc (length ys)
-    go true h = omega (arith, h)
-    go false h = omega (arith, h)
-
 few_once : (xs : List (List ℕ)) → length (once xs) ≤ length xs
 few_once [] = omega arith
-few_once (x ∷ xs) = let h = few_once xs in let k = few_without x (once xs) in omega (arith, h, k)
+few_once (x ∷ xs) = let h = few_once xs in let k = without_short x (once xs) in omega (arith, h, k)
 
 few_unbound : (x : List ℕ) (o : Option ℕ) → length (unbound x o) ≤ 1
 few_unbound x (Some k) = omega arith

@@ -2,8 +2,7 @@
 use Rattle.std.proofs.Common.{◌≡◌, ℕ, zero, suc, ◌+◌, ◌-◌, ◌<◌, ◌≤◌, inl, inr, Bool, true, false, nat_lt, List, [], ◌∷◌, ◌++◌, length, take, refl, sym, ap, ◌∙◌, subst, subst₂, arith, append_assoc, append-nil, if◌then◌else◌}
 use Rattle.std.specs.Prelude.{slice_index_or}
 use Rattle.std.proofs.lemmas.List.{take-append-le, length-append}
-use Rattle.std.proofs.lemmas.Bool.{cases_lt}
-use Rattle.std.proofs.lemmas.Bool.Decides.{nat_tests}
+use Rattle.std.proofs.lemmas.Bool.{cases_lt, le-ltb, lt-ltb}
 use Rattle.ol_readback.specs.Texts.{rounds}
 use Rattle.ol_readback.specs.Whole.{Part, term, lost, cut, none, more, count, preorder, IsInScope, IsBound, IsWholeTree}
 use Rattle.ol_readback.specs.declared.answers.HeadVar.{HeadVar}
@@ -23,16 +22,10 @@ abbrev pub held : ℕ → List ReadNode → List (ℕ × ℕ)
 held i [] = []
 held i (n ∷ ns) = held (suc i) ns ++ (if nat_lt (gone ns (0, 0)).0 (args_of n) then (i, lams_of n) ∷ [] else [])
 
-not_less : (a b : ℕ) → b ≤ a → nat_lt a b ≡ false
-not_less a b h = grind (arith, nat_tests)
-
-less : (a b : ℕ) → a < b → nat_lt a b ≡ true
-less a b h = grind (arith, nat_tests)
-
 -- nor does a place without arguments
 one_passed : (n : ReadNode) → args_of n ≡ 0 → (i : ℕ) (ns : List ReadNode) → held i (n ∷ ns) ≡ held (i + 1) ns
 one_passed n e i ns =
-    let high : nat_lt (gone ns (0, 0)).0 (args_of n) ≡ false = not_less (gone ns (0, 0)).0 (args_of n) (omega arith) in
+    let high : nat_lt (gone ns (0, 0)).0 (args_of n) ≡ false = le-ltb (gone ns (0, 0)).0 (args_of n) (omega arith) in
     ap (λ b. held (suc i) ns ++ (if b then (i, lams_of n) ∷ [] else [])) high ∙ append-nil (held (suc i) ns)
     ∙ ap (λ m. held m ns) (let q : suc i ≡ i + 1 = omega arith in q)
 
@@ -43,7 +36,7 @@ none_held (term l v ts) i ns c r e =
     let inside = preorder ts ++ ns in
     let g = gone-append (preorder ts) ns (0, 0) ∙ ap (gone (preorder ts)) e ∙ over ts c r in
     let high : nat_lt (gone inside (0, 0)).0 (count ts) ≡ false =
-    ap (λ (s : ℕ × ℕ). nat_lt s.0 (count ts)) g ∙ not_less (count ts + c) (count ts) (omega arith) in
+    ap (λ (s : ℕ × ℕ). nat_lt s.0 (count ts)) g ∙ le-ltb (count ts + c) (count ts) (omega arith) in
     ap (λ b. held (suc i) inside ++ (if b then (i, l) ∷ [] else [])) high ∙ append-nil (held (suc i) inside)
     ∙ none_held ts (suc i) ns c r e
     ∙ ap (λ m. held m ns) (let q : suc i + length (preorder ts) ≡ i + suc (length (preorder ts)) = omega arith in q)
@@ -114,7 +107,7 @@ module _ (rs : List ℕ) where
       (let m = length-append before (t ∷ []) in omega (arith, m, e)) (omega (arith, lt)) in
       let s = stands ts n (omega (arith, lt)) in
       let low : nat_lt (gone (take n (preorder ts)) (0, 0)).0 (count ts) ≡ true =
-      ap (λ (s : ℕ × ℕ). nat_lt s.0 (count ts)) (s.walks 0) ∙ less s.before (count ts) s.low in
+      ap (λ (s : ℕ × ℕ). nat_lt s.0 (count ts)) (s.walks 0) ∙ lt-ltb s.before (count ts) s.low in
       let outer = held (suc i) (take n (preorder ts)) in
       moved ss ((i, l) ∷ ss) i (suc i) (suc n) n (node.Head l v (count ts) ∷ preorder ts) (preorder ts) inner
       (ap (λ b. (outer ++ (if b then (i, l) ∷ [] else [])) ++ ss) low ∙ append_assoc outer ((i, l) ∷ []) ss)

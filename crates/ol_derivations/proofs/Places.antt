@@ -1,6 +1,6 @@
 -- Names in a table.
 use Rattle.std.proofs.Common.{◌≡◌, ℕ, suc, ◌+◌, ◌<◌, ◌≤◌, List, [], ◌∷◌, ◌++◌, length, Option, Some, None, cond, refl, sym, ap, ◌∙◌, arith}
-use Rattle.std.specs.Prelude.{◌≢◌, ◌&&◌, true, max, slice_get, slice_index_or}
+use Rattle.std.specs.Prelude.{◌≢◌, ◌&&◌, max, slice_get, slice_index_or}
 use Rattle.std.specs.List.{position_from}
 use Rattle.std.specs.Str.{bytes_eq}
 use Rattle.std.proofs.lemmas.List.{append-nil}
@@ -13,6 +13,7 @@ use Rattle.ol_parse.specs.Grammar.{var}
 use Rattle.ol_parse.specs.Numbered.{position_of, free_at}
 use Rattle.ol_parse.specs.Resolving.{add_unless}
 use Rattle.ol_parse.proofs.Places.{free_named, free_numbered}
+use Rattle.ol_parse.proofs.Files.{free_below}
 use Rattle.ol_derivations.specs.Tables.{put_unless, in_table}
 
 -- a name that is in no place has none
@@ -75,10 +76,6 @@ within_kept table names t u e w =
     let d = ap depth e ∙ depth_kept table names t in
     let a = w.0 in
     let b = w.1 in (omega (arith, s, a), omega (arith, d, b))
-
-free_below : (d : ℕ) (o : Option ℕ) → is_below d (free_at o) ≡ true
-free_below d None = refl
-free_below d (Some k) = refl
 
 pub below_kept : (table names : List (List ℕ)) (t : Tree) (d : ℕ) → is_below d (in_table table names t) ≡ is_below d t
 below_kept table names (tree.var k) d = refl

@@ -4,6 +4,7 @@ use Rattle.std.proofs.Common.{append_assoc, append-nil}
 use Rattle.std.proofs.lemmas.List.{map-append, take_more}
 use Rattle.std.specs.Prelude.{IsSome, Bool, ◌==◌, if◌then◌else◌, get_or}
 use Rattle.std.proofs.lemmas.Bool.{eqb-true}
+use Rattle.std.proofs.lemmas.Option.{none-some}
 use Rattle.std.specs.Option.{option_map}
 use Rattle.ol_term.specs.Trees.{Tree, var, free, lam, app}
 use Rattle.ol_beta.specs.Beta.{contracted, applied}
@@ -15,12 +16,9 @@ use Rattle.ol_derivations.specs.Searches.{placed}
 clash : false ≡ true → ⊥
 clash e = cc
 
-no_some : {A : Type 0} (x : A) → None ≡ Some x → ⊥
-no_some x e = cc
-
 pub not_none : (o : Option Tree) → IsSome o → o ≡ None → ⊥
 not_none None s e = clash s
-not_none (Some t) s e = no_some t (sym e)
+not_none (Some t) s e = none-some t (sym e)
 
 -- ---- of each of a list
 
@@ -85,20 +83,20 @@ are_redexes (app f a) =
 -- ---- each redex has its address there
 
 of_map : (f : Tree → Tree) (o : Option Tree) (s : Tree) → option_map f o ≡ Some s → (x : Tree) × (o ≡ Some x)
-of_map f None s e = absurd (no_some s e)
+of_map f None s e = absurd (none-some s e)
 of_map f (Some x) s e = (x, refl)
 
 each_here : (P : List ℕ → Type 0) (f a s : Tree) → Each P (here f a) → applied f a ≡ Some s → P []
-each_here P (var k) a s h e = absurd (no_some s e)
-each_here P (free k) a s h e = absurd (no_some s e)
+each_here P (var k) a s h e = absurd (none-some s e)
+each_here P (free k) a s h e = absurd (none-some s e)
 each_here P (lam b) a s h e = h.0
-each_here P (app g c) a s h e = absurd (no_some s e)
+each_here P (app g c) a s h e = absurd (none-some s e)
 
 -- where a redex below an abstraction, or beside an application, stands
 lower : (P : List ℕ → Type 0) (b s : Tree) (m : ℕ) (at : List ℕ) (x : Bool) → (m == 0) ≡ x →
     ((s : Tree) → contracted b at ≡ Some s → P (0 ∷ at)) →
     (if x then option_map lam (contracted b at) else None) ≡ Some s → P (m ∷ at)
-lower P b s m at false e h c = absurd (no_some s c)
+lower P b s m at false e h c = absurd (none-some s c)
 lower P b s m at true e h c =
     let o = of_map lam (contracted b at) s c in
     subst (λ m. P (m ∷ at)) (sym (eqb-true m 0 e)) (h o.0 o.1)
@@ -106,7 +104,7 @@ lower P b s m at true e h c =
 at_argument : (P : List ℕ → Type 0) (f a s : Tree) (m : ℕ) (at : List ℕ) (x : Bool) → (m == 2) ≡ x →
     ((s : Tree) → contracted a at ≡ Some s → P (2 ∷ at)) →
     (if x then option_map (app f) (contracted a at) else None) ≡ Some s → P (m ∷ at)
-at_argument P f a s m at false e h c = absurd (no_some s c)
+at_argument P f a s m at false e h c = absurd (none-some s c)
 at_argument P f a s m at true e h c =
     let o = of_map (app f) (contracted a at) s c in
     subst (λ m. P (m ∷ at)) (sym (eqb-true m 2 e)) (h o.0 o.1)
@@ -123,9 +121,9 @@ at_function P f a s m at true e h k c =
 
 pub each_redex : (P : List ℕ → Type 0) (t : Tree) → Each P (redexes t) → (at : List ℕ) (s : Tree) →
     contracted t at ≡ Some s → P at
-each_redex P (var k) h at s e = absurd (no_some s e)
-each_redex P (free k) h at s e = absurd (no_some s e)
-each_redex P (lam b) h [] s e = absurd (no_some s e)
+each_redex P (var k) h at s e = absurd (none-some s e)
+each_redex P (free k) h at s e = absurd (none-some s e)
+each_redex P (lam b) h [] s e = absurd (none-some s e)
 each_redex P (lam b) h (m ∷ at) s e =
     lower P b s m at (m == 0) refl
     (λ x c. each_redex (λ at. P (0 ∷ at)) b (each_of_map P (λ at. 0 ∷ at) (redexes b) h) at x c) e

@@ -1,5 +1,6 @@
 -- If the answer is Yes, each term comes from the one before it.
 use Rattle.std.proofs.Common.{◌≡◌, ℕ, Bool, true, false, List, [], ◌∷◌, Option, Some, None, refl, sym, ap, ◌∙◌, inl, inr}
+use Rattle.std.proofs.lemmas.Bool.{and_parts}
 use Rattle.std.specs.Prelude.{◌&&◌, ◌⊎◌, if◌then◌else◌}
 use Rattle.ol_term.specs.Trees.{Tree}
 use Rattle.ol_beta.specs.Beta.{contracted}
@@ -16,11 +17,6 @@ use Rattle.ol_derivations.specs.DerivationLaws.{AreTerms, no_line, passed, one_m
 
 clash : false ≡ true → ⊥
 clash h = absurd (cc)
-
-both_true : (a b : Bool) → (a && b) ≡ true → (a ≡ true) × (b ≡ true)
-both_true true true h = (refl, refl)
-both_true true false h = absurd (clash h)
-both_true false b h = absurd (clash h)
 
 -- terms are right behind the last one before them, where there is one
 abbrev IsRight : Option (ℕ × Tree) → List Tree → Type 0
@@ -61,7 +57,7 @@ right : {n : ℕ} {terms : Terms} {lines : List (List ℕ)} {text : List ℕ} {f
     AreLines n terms lines text fine → fine ≡ true → HasTerms terms lines
 right {terms = terms} none f = ([], no_line, right_end terms.last)
 right (more {fine = fine} {all = all} {lines = lines} is rest) f =
-    let b = both_true fine all f in right_line lines is b.0 (right rest b.1)
+    let b = and_parts fine all f in right_line lines is b.0 (right rest b.1)
 
 -- lines that aren't all left out have a term
 some_term : {table lines : List (List ℕ)} {ts : List Tree} → AreTerms table lines ts → all_left_out lines ≡ false →

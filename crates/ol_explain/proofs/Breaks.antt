@@ -19,6 +19,8 @@ use Rattle.ol_view.specs.Forms.{header_of}
 use Rattle.ol_view.specs.LineReading.{is_digit, number_on, front_number, place_on, name_on, front_name, behind, all_rules, front_rule}
 use Rattle.ol_view.proofs.Entries.{rule_sound as rule_sound_of}
 use Rattle.ol_view.proofs.Numerals.{number_complete, name_complete, name_sound, front_sound}
+use Rattle.ol_view.proofs.Fronts.{header_long}
+use Rattle.ol_view.proofs.AtPlaces.{rule_before}
 use Rattle.ol_explain.specs.declared.wanting.Field.{Field}
 use Rattle.ol_explain.specs.declared.wanting.Field.TheVariants as field
 use Rattle.ol_explain.specs.Fields.{IsField, Begins, IsEnd}
@@ -236,16 +238,6 @@ After field.Rule t = option_map (λ (r : Rule × List ℕ). r.1) (front_rule t)
 After field.Number t = option_map (λ (r : ℕ × List ℕ). r.1) (front_number t)
 After field.Name t = option_map (λ (r : NodeName × List ℕ). r.1) (front_name t)
 
-pub rule_read : (r : Rule) (c : ℕ) (rest : List ℕ) → front_rule (rule_text r ++ c ∷ rest) ≡ Some (r, c ∷ rest)
-rule_read rule.Beta c rest = refl
-rule_read rule.Fan c rest = refl
-rule_read rule.Croissant c rest = refl
-rule_read rule.Bracket c rest = refl
-rule_read rule.CrossFan c rest = refl
-rule_read rule.CrossCroissant c rest = refl
-rule_read rule.CrossBracket c rest = refl
-rule_read rule.Erase c rest = refl
-
 pub no_digit : (c : ℕ) → (c ≡ 10) ⊎ (c ≡ 32) → is_digit c ≡ false
 no_digit c (inl e) = ap is_digit e
 no_digit c (inr e) = ap is_digit e
@@ -254,20 +246,16 @@ pub not_dot : (c : ℕ) → (c ≡ 10) ⊎ (c ≡ 32) → (c == 46) ≡ false
 not_dot c (inl e) = ap (λ c. c == 46) e
 not_dot c (inr e) = ap (λ c. c == 46) e
 
-header_length : (form : Form) → length (header_of form) ≡ 11
-header_length One = refl
-header_length Two = refl
-
 pub after_field : (f : Field) (u : List ℕ) (c : ℕ) (t : List ℕ) → IsField f u → IsEnd f c →
     After f (u ++ c ∷ t) ≡ Some (c ∷ t)
 after_field field.Header u c t (form, e) end =
-    let n = header_length form in
+    let n = header_long form in
     let z = ap length e in
     let y = length-append u (10 ∷ []) in
     ap (λ (s : List ℕ). Some s) (drop_at u (c ∷ t) 10 (omega arith))
 after_field field.Rule u c t (r, e) end =
     ap (λ (u : List ℕ). After field.Rule (u ++ c ∷ t)) e
-    ∙ ap (λ o. option_map (λ (r : Rule × List ℕ). r.1) o) (rule_read r c t)
+    ∙ ap (λ o. option_map (λ (r : Rule × List ℕ). r.1) o) (rule_before r c t)
 after_field field.Number u c t (n, l, e) end =
     ap (λ (u : List ℕ). After field.Number (u ++ c ∷ t)) e
     ∙ ap (λ o. option_map (λ (r : ℕ × List ℕ). r.1) o) (number_complete n c t l (no_digit c end))
@@ -367,7 +355,7 @@ other_begun read (m, e) = (m, (Two, ap (λ (s : List ℕ). s ++ 10 ∷ []) e))
 
 pub whole_header : (read : List ℕ) → length read ≡ 10 → Begins field.Header read → IsField field.Header read
 whole_header read l (m, (form, e)) =
-    let n = header_length form in
+    let n = header_long form in
     let z = ap length e in
     let y = length-append (read ++ m) (10 ∷ []) in
     let x = length-append read m in
@@ -379,7 +367,7 @@ whole_header read l (m, (form, e)) =
 
 pub header_ten : (read : List ℕ) → IsField field.Header read → length read ≡ 10
 header_ten read (form, e) =
-    let n = header_length form in
+    let n = header_long form in
     let z = ap length e in
     let y = length-append read (10 ∷ []) in
     omega arith

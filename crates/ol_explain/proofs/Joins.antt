@@ -26,9 +26,9 @@ use Rattle.ol_view.specs.Checks.{start_net_of_graph, IsRunTold}
 use Rattle.ol_orders.specs.declared.replaying.Replay.{Replay}
 use Rattle.ol_orders.specs.Replays.{net_here, names_of, IsReplay, ReplaysNamed, AreApart}
 use Rattle.ol_orders.proofs.KeptRuns.{run_named, advanced}
+use Rattle.ol_orders.proofs.Steps.{entries_on}
 use Rattle.ol_explain.specs.Explained.{IsJoinedAfter}
 use Rattle.ol_explain.specs.Followed.{IsTold, IsOff}
-use Rattle.ol_explain.proofs.Leaving.{taken_on}
 use Rattle.ol_explain.proofs.Steps as steps
 use Rattle.ol_explain.proofs.WhyNot.{named}
 
@@ -198,7 +198,7 @@ module _ (old : Graph) (net : IsNet (net_of old)) (r again : Replay) (u : IsRepl
       taken = steps.written old again s.replay x.1.before x.0 (0 + length (take k r.run.journal)) e x.1.step same
           (run_net start x.1.before 0 (take k r.run.journal) (start_net (net_of old) net) (start_named (net_of old)) x.1.run)
           next adv
-          ∙ ap (λ es. es ++ e ∷ []) s.taken ∙ sym (taken_on r.run.journal k e at);
+          ∙ ap (λ es. es ++ e ∷ []) s.taken ∙ sym (entries_on r.run.journal k e at);
       apart = λ j N l run' linked. go j N run' linked (cases_lt j k) l;
     }
       where

@@ -115,15 +115,6 @@ rising_first (suc k) (e ∷ es) h = ((λ d i. h.0 d (in_taken k es d i)), rising
 
 -- ---- pieces
 
-pub taken_on : (es : List Entry) (k : ℕ) (e : Entry) → slice_get es k ≡ Some e →
-    take (k + 1) es ≡ take k es ++ e ∷ []
-taken_on es k e h = ap (λ k. take k es) (let q : k + 1 ≡ suc k = omega arith in q) ∙ go es k h
-  where
-    go : (es : List Entry) (k : ℕ) → slice_get es k ≡ Some e → take (suc k) es ≡ take k es ++ e ∷ []
-    go [] k h = absurd (cc)
-    go (d ∷ es) zero h = let q : d ≡ e = cc in ap (λ (d : Entry). d ∷ []) q
-    go (d ∷ es) (suc k) h = ap (λ (es : List Entry). d ∷ es) (go es k h)
-
 pub got_behind : (ws : List ℕ) (n k : ℕ) → slice_get ws (n + k) ≡ slice_get (drop n ws) k
 got_behind ws zero k = ap (slice_get ws) (let q : 0 + k ≡ k = omega arith in q)
 got_behind [] (suc n) k = refl

@@ -6,8 +6,8 @@ use Rattle.ol_parse.specs.Grammar.{Token}
 use Rattle.ol_parse.specs.Texts.{Class, blank, hash, letter, sign, lead, class_of, in_word, token_of, is_word, IsLine, IsGap}
 use Rattle.ol_parse.specs.Texts.{gap_none, gap_blank, gap_comment, IsLastGap, last_gap, last_comment, AreInWord, IsToken}
 use Rattle.ol_parse.specs.Texts.{token_sign, token_letter, token_word, Spells, spells_none, spells_one}
-use Rattle.ol_places.proofs.Lengths.{token_some}
 use Rattle.ol_places.specs.Lets.{let_start}
+use Rattle.ol_parse.proofs.Sizes.{some_byte}
 
 -- ---- lists
 
@@ -84,7 +84,7 @@ token_line (token_letter {b = b} e) = (not_feed b (λ f. no_blank_lead (sym e �
 token_line (token_word {b = b} {w = w} e h) = word_line (b ∷ w) (ap in_word e, h)
 
 token_begins : {k : Token} {a : List ℕ} → IsToken k a → (bs rest : List ℕ) → a ++ bs ≡ 10 ∷ rest → ⊥
-token_begins {a = a} t bs rest e = go a (token_line t) (token_some t) e
+token_begins {a = a} t bs rest e = go a (token_line t) (some_byte t) e
   where
     go : (a : List ℕ) → IsLine a → 0 < length a → a ++ bs ≡ 10 ∷ rest → ⊥
     go [] l h e = absurd (omega arith)

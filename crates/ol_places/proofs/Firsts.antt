@@ -8,7 +8,8 @@ use Rattle.ol_parse.specs.Texts.{is_word, IsToken, Spells, spells_none, spells_o
 use Rattle.ol_places.specs.declared.tokens.Kind.{Kind}
 use Rattle.ol_places.specs.Tokens.{kind_token, IsFirstToken}
 use Rattle.ol_places.specs.Gaps.{gap_length}
-use Rattle.ol_places.proofs.Lengths.{last_gap_is, token_some, gap_is as gap_length_is}
+use Rattle.ol_places.proofs.Lengths.{last_gap_is, gap_is as gap_length_is}
+use Rattle.ol_parse.proofs.Sizes.{some_byte}
 
 -- the token that comes first has this many bytes, whatever it is
 abbrev IsLength : List ℕ → ℕ → Type 0
@@ -21,7 +22,7 @@ pub none_first : (rest behind : List ℕ) → behind ≡ drop (gap_length false 
 none_first rest behind f z after tokens (spells_none last) = tt
 none_first rest behind f z after tokens (spells_one {g = g} {a = a} {bs = bs} between apart t s) =
     let l = gap_length_is between t bs in
-    let some = token_some t in
+    let some = some_byte t in
     let b = ap length (f ∙ ap (λ j. drop j (g ++ (a ++ bs))) l ∙ drop-append_seam g (a ++ bs)) in
     let n = length-append a bs in
     absurd (omega arith)

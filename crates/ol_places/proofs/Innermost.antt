@@ -7,11 +7,11 @@ use Rattle.ol_parse.specs.Grammar.{Named, Token, name, let_key, in_key, equals}
 use Rattle.ol_parse.specs.Texts.{Spells, spells_none, spells_one, IsText, BeginsText}
 use Rattle.ol_places.specs.declared.tokens.FirstToken.{FirstToken}
 use Rattle.ol_places.specs.Tokens.{kind_token, IsFirstToken}
-use Rattle.ol_places.proofs.Lengths.{token_some}
 use Rattle.ol_places.specs.Lets.{let_start, IsOpenLet, IsInnermostLet}
 use Rattle.ol_places.specs.Scanned.{lets_after, lets_from, IsLast, nothing, top, IsLastLet}
 use Rattle.ol_places.proofs.Cuts.{Seam, inside, beyond, no_false, seam, head_of, tail_of, none_ends, Cut, cut}
 use Rattle.ol_places.proofs.Nesting.{Each, Rising, scan, Waits, Opened, IsBalanced, term_balanced, defined_balanced}
+use Rattle.ol_parse.proofs.Sizes.{some_byte}
 
 -- ---- token by token
 
@@ -105,7 +105,7 @@ starts_within (spells_none g) j l = absurd (omega arith)
 starts_within (spells_one {g = g} {a = a} {bs = bs} i apart t s) zero l =
     let m = length-append g (a ++ bs) in
     let n = length-append a bs in
-    let h = token_some t in
+    let h = some_byte t in
     omega arith
 starts_within (spells_one {g = g} {a = a} {bs = bs} i apart t s) (suc j) l =
     let m = length-append g (a ++ bs) in

@@ -107,8 +107,3 @@ token_is (token_word {b = b} {w = w} e h) = ap (λ c. token_by c (b ∷ w)) e
 pub token_exact : (token : List ℕ) (c : Class) (x : Token) → c ≡ class_of (slice_index token 0) → x ≡ token_by c token →
     (k : Token) → IsToken k token → x ≡ k
 token_exact token c x e f k t = f ∙ ap (λ d. token_by d token) e ∙ token_is t
-
-pub token_some : {k : Token} {a : List ℕ} → IsToken k a → 0 < length a
-token_some (token_sign e) = omega arith
-token_some (token_letter e) = omega arith
-token_some (token_word e h) = omega arith

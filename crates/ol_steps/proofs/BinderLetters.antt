@@ -16,11 +16,7 @@ use Rattle.ol_parse.specs.Numbered.{position_of, numbered, free_at, var_at}
 use Rattle.ol_steps.specs.Lettered.{lettered}
 use Rattle.ol_steps.specs.BinderLaws.{LettersAreRead}
 use Rattle.ol_steps.proofs.Catching.{some_there, free_place}
-
--- t binders, the innermost first
-abbrev scope : List (List ℕ) → ℕ → List (List ℕ)
-scope names zero = []
-scope names (suc t) = binder_name names t ∷ scope names t
+use Rattle.ol_readback.proofs.Renumbered.{scope}
 
 abbrev is : List ℕ → List ℕ → Bool
 is x = λ y. bytes_eq x y

@@ -1,16 +1,15 @@
 -- No binder takes a name that isn't its own.
-use Rattle.std.proofs.Common.{◌≡◌, ℕ, zero, suc, ◌+◌, ◌-◌, ◌<◌, ◌≤◌, ◌⊎◌, inl, inr, Bool, true, false, ◌||◌, cond, nat_lt}
+use Rattle.std.proofs.Common.{◌≡◌, ℕ, zero, suc, ◌+◌, ◌-◌, ◌<◌, ◌≤◌, ◌⊎◌, inl, inr, Bool, true, false, ◌||◌, cond}
 use Rattle.std.proofs.Common.{List, [], ◌∷◌, ◌++◌, length, Option, Some, None, refl, sym, ap, ◌∙◌, arith}
 use Rattle.std.specs.Prelude.{if◌then◌else◌, slice_get, slice_index_or}
 use Rattle.std.specs.List.{position_from}
 use Rattle.std.specs.Str.{bytes_eq}
-use Rattle.std.proofs.lemmas.Bool.{and_parts, or_parts, cases_lt, ltb-true, lt-ltb}
+use Rattle.std.proofs.lemmas.Bool.{and_parts, or_parts, cases_lt, ltb-true, lt-ltb, le-ltb}
 use Rattle.std.proofs.lemmas.Slice.Eq.{bytes_eq-Decides}
 use Rattle.ol_term.specs.Trees as tree
 use Rattle.ol_term.specs.Trees.{Tree, is_below, is_named_below}
 use Rattle.ol_term.specs.NameLists.{NoNameTwice}
 use Rattle.ol_term.specs.BinderNames.{is_among}
-use Rattle.ol_term.proofs.BinderTexts.{not_same}
 use Rattle.ol_parse.specs.Grammar as grammar
 use Rattle.ol_parse.specs.Numbered.{position_of, numbered, free_at, var_at}
 use Rattle.ol_steps.specs.Binders.{Binders, leaf, lam, app, Fits}
@@ -18,6 +17,7 @@ use Rattle.ol_steps.specs.Naming.{used, primed, named}
 use Rattle.ol_steps.specs.BinderLaws.{NoneIsCaught}
 use Rattle.ol_steps.proofs.Among.{among_both}
 use Rattle.ol_steps.proofs.Primes.{primed_is_least}
+use Rattle.ol_readback.proofs.Renumbered.{first_place}
 
 abbrev is : List ℕ → List ℕ → Bool
 is x = λ y. bytes_eq x y
@@ -60,20 +60,6 @@ absent x y xs other e =
 itself : (x : List ℕ) (xs : List (List ℕ)) → position_of x (x ∷ xs) ≡ Some 0
 itself x xs = ap (λ (b : Bool). cond {A = Option ℕ} b (Some 0) (position_from (is x) 1 xs)) ((bytes_eq-Decides x x).1 refl)
 
-at_first : (ns : List (List ℕ)) (x : List ℕ) (k i : ℕ) → slice_get ns k ≡ Some x →
-    ((j : ℕ) → j < k → slice_get ns j ≡ Some x → ⊥) → position_from (is x) i ns ≡ Some (i + k)
-at_first [] x k i e h = absurd (cc)
-at_first (y ∷ ns) x zero i e h =
-    let same : y ≡ x = cc in
-    let n : i ≡ i + 0 = omega arith in
-    ap (λ (b : Bool). cond {A = Option ℕ} b (Some i) (position_from (is x) (i + 1) ns))
-    (ap (λ (z : List ℕ). bytes_eq x z) same ∙ (bytes_eq-Decides x x).1 refl) ∙ ap (λ (n : ℕ). Some n) n
-at_first (y ∷ ns) x (suc k) i e h =
-    let n : i + 1 + k ≡ i + suc k = omega arith in
-    ap (λ (b : Bool). cond {A = Option ℕ} b (Some i) (position_from (is x) (i + 1) ns))
-    (not_same x y (λ s. h 0 (omega arith) (ap (λ (y : List ℕ). Some y) (sym s))))
-    ∙ at_first ns x k (i + 1) e (λ j l. h (suc j) (omega arith)) ∙ ap (λ (n : ℕ). Some n) n
-
 pub some_there : (names : List (List ℕ)) (k : ℕ) → k < length names → slice_get names k ≡ Some (slice_index_or names k [])
 some_there [] k h = absurd (omega arith)
 some_there (x ∷ names) zero h = refl
@@ -85,7 +71,7 @@ free_place names k once h =
     let x = slice_index_or names k [] in
     let there = some_there names k h in
     let n : 0 + k ≡ k = omega arith in
-    at_first names x k 0 there (λ j l e. let same = once j k x e there in omega (arith, l, same)) ∙ ap (λ (n : ℕ). Some n) n
+    first_place names x k 0 there (λ j l e. let same = once j k x e there in omega (arith, l, same)) ∙ ap (λ (n : ℕ). Some n) n
 
 -- ---- names that stand for what they are to
 
@@ -104,13 +90,6 @@ outside d names (tree.lam t) h = outside (d + 1) names t h
 outside d names (tree.app f a) h =
     let p = and_parts (is_below d f) (is_below d a) h in (outside d names f p.0, outside d names a p.1)
 
-not_lt : (k n : ℕ) → n ≤ k → nat_lt k n ≡ false
-not_lt k n h = go (nat_lt k n) refl
-  where
-    go : (b : Bool) → nat_lt k n ≡ b → b ≡ false
-    go true e = let l = ltb-true k n e in absurd (omega (arith, l, h))
-    go false e = refl
-
 -- a name of a binder further out isn't the new one, where that isn't used
 other_name : (d k : ℕ) (names round : List (List ℕ)) (y : List ℕ) → d + 1 ≤ k →
     is_among (used (d + 1) names round (tree.var k)) y ≡ false →
@@ -118,7 +97,7 @@ other_name : (d k : ℕ) (names round : List (List ℕ)) (y : List ℕ) → d + 
 other_name d k names round y l u =
     let x = slice_index_or round (k - (d + 1)) [] in
     (or_parts (bytes_eq x y) false
-    (ap (λ (b : Bool). is_among (if b then [] else x ∷ []) y) (sym (not_lt k (d + 1) l)) ∙ u)).0
+    (ap (λ (b : Bool). is_among (if b then [] else x ∷ []) y) (sym (le-ltb k (d + 1) l)) ∙ u)).0
 
 -- the innermost binder that isn't left out
 new_place : (d k : ℕ) (round : List (List ℕ)) (y : List ℕ) → k ≡ d →

@@ -1,24 +1,22 @@
 -- No closed value is left in a folded tree, but for a redex and what it stands in.
-use Rattle.std.proofs.Common.{◌≡◌, ℕ, zero, suc, ◌+◌, ◌⊎◌, inl, inr, Bool, true, false, nat_lt, List, [], ◌∷◌, Option, Some, None}
+use Rattle.std.proofs.Common.{◌≡◌, ℕ, zero, suc, ◌+◌, ◌⊎◌, inl, inr, Bool, true, false, List, [], ◌∷◌, Option, Some, None}
 use Rattle.std.proofs.Common.{refl, sym, ap, ◌∙◌, subst, arith, eqb-true}
 use Rattle.std.specs.Prelude.{◌==◌, if◌then◌else◌, slice_get, IsSome}
-use Rattle.std.specs.Option.{option_map}
-use Rattle.std.proofs.lemmas.Bool.{and_parts, ltb-true}
+use Rattle.std.proofs.lemmas.Bool.{and_parts}
 use Rattle.std.proofs.lemmas.Option.{same_Some}
 use Rattle.ol_term.specs.Trees.{Tree, var, free, lam, app, is_below, is_named_below}
 use Rattle.ol_beta.specs.Beta.{contracted}
 use Rattle.ol_steps.specs.Folded.{is_same, value_at, or_name, all_folded, folded_round}
 use Rattle.ol_steps.specs.LetLaws.{subterm_along, IsOffTheWay, NothingIsLeft}
 use Rattle.ol_steps.proofs.Same.{same_itself}
+use Rattle.ol_beta.proofs.Redexes.{body_move, side_move}
+use Rattle.ol_strategies.proofs.Finals.{no_less}
 
 clash : false ≡ true → ⊥
 clash e = absurd (cc)
 
 no_tree : (v : Tree) → None ≡ Some v → ⊥
 no_tree v e = absurd (cc)
-
-below_none : (k : ℕ) → nat_lt k 0 ≡ true → ⊥
-below_none k h = let l = ltb-true k 0 h in absurd (omega (arith, l))
 
 -- ---- a value
 
@@ -41,7 +39,7 @@ has_number n (w ∷ vs) (suc k) v e h = later (is_same w v) (has_number (n + 1) 
 -- a part that may have become a name hasn't become one, if it has no names
 not_named : (o : Option ℕ) (u : Tree) → is_named_below 0 (or_name o u) ≡ true → o ≡ None
 not_named None u h = refl
-not_named (Some k) u h = absurd (below_none k h)
+not_named (Some k) u h = absurd (no_less k h)
 
 named_or : (o : Option ℕ) (u : Tree) → o ≡ None → or_name o u ≡ u
 named_or o u e = ap (λ (p : Option ℕ). or_name p u) e
@@ -76,28 +74,6 @@ root_is (free j) v e = same_Some (free j) v e
 root_is (lam t) v e = same_Some (lam t) v e
 root_is (app f a) v e = same_Some (app f a) v e
 
--- the move of an address to a redex, and the rest of it
-pub body_move : (t : Tree) (m : ℕ) (at : List ℕ) → IsSome (contracted (lam t) (m ∷ at)) → (m ≡ 0) × IsSome (contracted t at)
-body_move t m at h = go (m == 0) refl (contracted t at) h
-  where
-    go : (b : Bool) → (m == 0) ≡ b → (o : Option Tree) → IsSome (if b then option_map lam o else None) → (m ≡ 0) × IsSome o
-    go true e (Some u) h = (eqb-true m 0 e, refl)
-    go true e None h = absurd (cc)
-    go false e o h = absurd (cc)
-
-pub side_move : (f a : Tree) (m : ℕ) (at : List ℕ) → IsSome (contracted (app f a) (m ∷ at)) →
-    ((m ≡ 1) × IsSome (contracted f at)) ⊎ ((m ≡ 2) × IsSome (contracted a at))
-side_move f a m at h = go (m == 1) (m == 2) refl refl (contracted f at) (contracted a at) h
-  where
-    go : (p q : Bool) → (m == 1) ≡ p → (m == 2) ≡ q → (o w : Option Tree) →
-        IsSome (if p then option_map (λ g. app g a) o else if q then option_map (app f) w else None) →
-        ((m ≡ 1) × IsSome o) ⊎ ((m ≡ 2) × IsSome w)
-    go true q i j (Some u) w h = inl (eqb-true m 1 i, refl)
-    go true q i j None w h = absurd (cc)
-    go false true i j o (Some u) h = inr (eqb-true m 2 j, refl)
-    go false true i j o None h = absurd (cc)
-    go false false i j o w h = absurd (cc)
-
 -- beside the way to a redex, one move on
 further : (m : ℕ) (redex at : List ℕ) → IsOffTheWay (Some (m ∷ redex)) (m ∷ at) → IsOffTheWay (Some redex) at
 further m redex at h rest e = h rest (ap (λ (x : List ℕ). m ∷ x) e)
@@ -105,8 +81,8 @@ further m redex at h rest e = h rest (ap (λ (x : List ℕ). m ∷ x) e)
 module _ (n : ℕ) (vs : List Tree) (k : ℕ) (v : Tree) (among : slice_get vs k ≡ Some v) (below : is_below 0 v ≡ true)
     (named : is_named_below 0 v ≡ true) where
   not_whole : (t : Tree) → all_folded n vs t ≡ v → ⊥
-  not_whole (var j) e = below_none j (subst (λ (x : Tree). is_below 0 x ≡ true) (sym e) below)
-  not_whole (free j) e = below_none j (subst (λ (x : Tree). is_named_below 0 x ≡ true) (sym e) named)
+  not_whole (var j) e = no_less j (subst (λ (x : Tree). is_below 0 x ≡ true) (sym e) below)
+  not_whole (free j) e = no_less j (subst (λ (x : Tree). is_named_below 0 x ≡ true) (sym e) named)
   not_whole (lam t) e =
       let is = unchanged n vs (lam t) (subst (λ (x : Tree). is_named_below 0 x ≡ true) (sym e) named) in
       part_is_none n vs k v (lam t) (lam (all_folded n vs t)) among named (sym is ∙ e) e

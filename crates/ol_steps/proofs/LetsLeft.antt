@@ -14,7 +14,7 @@ use Rattle.ol_steps.specs.Contraction.{put_in, contracted}
 use Rattle.ol_steps.specs.Fronts.{lets_of_term, lets_of_body}
 use Rattle.ol_steps.specs.Lets.{let_names, is_let_at}
 use Rattle.ol_steps.specs.LetLaws.{redex_binder, IsAmongOthers, TextHasLets, LetGoes, LetsStay}
-use Rattle.ol_steps.proofs.Complete.{body_move, side_move}
+use Rattle.ol_beta.proofs.Redexes.{body_move, side_move}
 
 clash : false ≡ true → ⊥
 clash e = absurd (cc)

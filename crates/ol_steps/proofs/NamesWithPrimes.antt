@@ -1,5 +1,5 @@
 -- Names with primes are names of the grammar, and so are those of a term that is named.
-use Rattle.std.proofs.Common.{◌≡◌, ℕ, ◌<◌, Bool, true, false, ◌&&◌, cond, nat_eq, List, [], ◌∷◌, ◌++◌, length, refl}
+use Rattle.std.proofs.Common.{◌≡◌, ℕ, ◌<◌, Bool, true, false, ◌&&◌, nat_eq, List, [], ◌∷◌, ◌++◌, length, refl}
 use Rattle.std.proofs.Common.{sym, ap, ◌∙◌, subst, arith, length-append, not, Option, None, Some}
 use Rattle.std.specs.Prelude.{slice_index_or, ◌+◌, ◌-◌, zero, suc, if◌then◌else◌, ◌==◌}
 use Rattle.std.specs.Str.{bytes_eq}
@@ -7,12 +7,12 @@ use Rattle.std.proofs.lemmas.Bool.{and_parts, and_right, ltb-true}
 use Rattle.ol_term.specs.Trees as tree
 use Rattle.ol_term.specs.Trees.{Tree, is_below, is_named_below}
 use Rattle.ol_term.specs.BinderNames.{is_among}
-use Rattle.ol_parse.specs.Grammar.{Named, var, lam, app, Token, name, let_key, in_key}
-use Rattle.ol_parse.specs.Texts.{letter, class_of, in_word, token_of, is_word, AreInWord, IsToken, token_sign, token_letter, token_word, IsName, IsText}
+use Rattle.ol_parse.specs.Grammar.{Named, var, lam, app, Token, name}
+use Rattle.ol_parse.specs.Texts.{letter, class_of, in_word, is_word, AreInWord, IsToken, token_sign, token_letter, token_word, IsName, IsText}
 use Rattle.ol_parse.specs.Numbered.{names_of, number}
 use Rattle.ol_parse.specs.Parsed.{AreNames}
 use Rattle.ol_parse.proofs.Files.{whole_bound, whole_named}
-use Rattle.ol_parse.proofs.Words.{names_good}
+use Rattle.ol_parse.proofs.Words.{names_good, both}
 use Rattle.ol_parse.proofs.Spelling.{sign_no_word}
 use Rattle.ol_steps.specs.Binders as binders
 use Rattle.ol_steps.specs.Binders.{Binders, binders_of, Fits}
@@ -39,6 +39,7 @@ use Rattle.ol_steps.proofs.Fitting.{source_fits, contracted_fits}
 use Rattle.ol_steps.proofs.Worded.{names_differ, text_has_names}
 use Rattle.ol_steps.proofs.Catching.{none_is_caught}
 use Rattle.ol_steps.proofs.Spelled.{named_is_read}
+use Rattle.ol_readback.proofs.WordTokens.{no_keyword}
 
 -- each name of some binders is a name of the grammar
 abbrev pub HasNames : Binders → Type 0
@@ -84,13 +85,6 @@ no_in b (c ∷ w) =
     not_empty : (w : List ℕ) → bytes_eq (w ++ 39 ∷ []) [] ≡ false
     not_empty [] = refl
     not_empty (e ∷ w) = refl
-
-no_keyword : (w : List ℕ) → bytes_eq w (108 ∷ 101 ∷ 116 ∷ []) ≡ false →
-    bytes_eq w (105 ∷ 110 ∷ []) ≡ false → token_of w ≡ name w
-unfolding token_of
-no_keyword w h k =
-    ap (λ (b : Bool). cond {A = Token} b let_key (cond {A = Token} (bytes_eq w (105 ∷ 110 ∷ [])) in_key (name w))) h
-    ∙ ap (λ (b : Bool). cond {A = Token} b in_key (name w)) k
 
 -- one prime more
 prime_name : (x : List ℕ) → IsName x → IsName (x ++ 39 ∷ [])
@@ -241,10 +235,6 @@ reads_again order bytes source v terms i walk =
 
 -- ---- what is folded is read again
 
-both_names : (xs ys : List (List ℕ)) → AreNames xs → AreNames ys → AreNames (xs ++ ys)
-both_names [] ys h i = i
-both_names (x ∷ xs) ys h i = (h.0, both_names xs ys h.1 i)
-
 words_of_lets : (n : ℕ) (s : Binders) → HasNames s → AreNames (let_names n s)
 words_of_lets zero s h = tt
 words_of_lets (suc n) binders.leaf h = tt
@@ -272,7 +262,7 @@ let_words names (x ∷ later) t h =
     let more = names_of_lets (if_small (lets names later) (beta.contracted t [])) in
     let b = is_closed (value_of t) && not (is_among (names ++ later) x) in
     subst AreNames (sym (names_more names later x t))
-    (both_names more (names_of_lets (row_if b x (value_of t)))
+    (both more (names_of_lets (row_if b x (value_of t)))
     (words_behind names later (beta.contracted t []) (λ u. let_words names later u h.1))
     (one_word b x (value_of t) h.0))
 
@@ -309,7 +299,7 @@ folded_placed names n t s at v w good once words r =
     let l : length names + length g.values ≡ length g.names = ap (λ (k : ℕ). length names + k) (sym (rows_even names later t))
     ∙ sym (length-append names (names_of_lets (lets names later t))) in
     record {
-      good = both_names names (names_of_lets (lets names later t)) good (let_words names later t (words_of_lets n s words));
+      good = both names (names_of_lets (lets names later t)) good (let_words names later t (words_of_lets n s words));
       once = lets_differ names later t once;
       bound = f.below 0 r.bound;
       placed = ap (λ (k : ℕ). is_named_below k x) (sym l) ∙ f.named r.placed;

@@ -20,6 +20,7 @@ use Rattle.ol_strategies.proofs.Rounds.{return_is_endless}
 use Rattle.ol_steps.specs.Steps.{Walk, starts, goes}
 use Rattle.ol_steps.specs.StepLaws.{HasNoEnd, HasNone, ReturnIsEndless, ReturnHasNone}
 use Rattle.ol_steps.proofs.WeakHeads.{weak_none}
+use Rattle.ol_steps.proofs.Unfoldings.{some_is}
 
 -- ---- a walk leads from each of its terms to the last one
 
@@ -74,10 +75,6 @@ there : (o : Option (List ℕ)) → IsSome o → (at : List ℕ) × (o ≡ Some 
 there None h = absurd (cc)
 there (Some at) h = (at, refl)
 
-some_of : (o : Option Tree) (u : Tree) → o ≡ Some u → IsSome o
-some_of None u e = absurd (cc)
-some_of (Some v) u e = refl
-
 leftmost_leads : {t u : Tree} → LeftmostReduces t u → (n : ℕ) × Leads order.Leftmost n t u
 leftmost_leads ready = (0, refl)
 leftmost_leads (contract {u = x} {at = at} c e r) =
@@ -94,7 +91,7 @@ head_leads : {t u : Tree} → HeadReduces t u → (n : ℕ) × Leads order.Head 
 head_leads ready = (0, refl)
 head_leads {t} (contract {u = x} {at = at} c e r) =
     let l = head_leads r in
-    (suc l.0, (x, (at, (at_head_address t at).1 (c, some_of (contracted t at) x e), e), l.1))
+    (suc l.0, (x, (at, (at_head_address t at).1 (c, some_is (contracted t at) x e), e), l.1))
 
 head_forever : (t : Tree) → HasNoEnd order.Head t → (u : Tree) → HeadReduces t u → HasHeadRedex u
 head_forever t h u r =

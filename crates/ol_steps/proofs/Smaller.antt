@@ -7,6 +7,7 @@ use Rattle.ol_term.specs.Trees.{Tree, var, free, lam, app, is_below, is_named_be
 use Rattle.ol_beta.specs.Beta.{IsWithin}
 use Rattle.ol_steps.specs.Folded.{value_at, or_name, all_folded, folded_round, folded_at}
 use Rattle.ol_steps.proofs.Values.{leads_to}
+use Rattle.ol_parse.proofs.Files.{more_named}
 
 -- what holds of a folded tree u of t, where n names and those of the values are there
 pub record IsFoldOf (n all : ℕ) (t u : Tree) : Type 0 where
@@ -30,18 +31,10 @@ some_depth (app f a) = omega arith
 further : (k n m : ℕ) → n ≤ m → nat_lt k n ≡ true → nat_lt k m ≡ true
 further k n m h e = let l = ltb-true k n e in lt-ltb k m (omega (arith, l, h))
 
-stays : (n m : ℕ) (t : Tree) → n ≤ m → is_named_below n t ≡ true → is_named_below m t ≡ true
-stays n m (var k) h e = refl
-stays n m (free k) h e = further k n m h e
-stays n m (lam t) h e = stays n m t h e
-stays n m (app f a) h e =
-    let p = and_parts (is_named_below n f) (is_named_below n a) e in
-    and_from (is_named_below m f) (is_named_below m a) (stays n m f h p.0) (stays n m a h p.1)
-
 itself : (n all : ℕ) (t : Tree) → n ≤ all → IsFoldOf n all t t
 itself n all t h = record {
   below = λ d e. e;
-  named = λ e. stays n all t h e;
+  named = λ e. more_named n all t h e;
   size = omega arith;
   deep = omega arith;
 }
@@ -113,7 +106,7 @@ pub is_fold_of : (n : ℕ) (vs : List Tree) (at : Option (List ℕ)) (t : Tree) 
 is_fold_of n vs None t = fold_of n vs t
 is_fold_of n vs (Some at) t = round_of n vs at t
 
--- a tree that steps are made from stays one
+-- a tree that steps are made from more_named one
 pub still_within : (n all : ℕ) (t u : Tree) → IsFoldOf n all t u → IsWithin t → IsWithin u
 still_within n all t u h w =
     let s = h.size in

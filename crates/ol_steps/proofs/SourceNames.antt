@@ -6,6 +6,7 @@ use Rattle.std.specs.List.{position_from}
 use Rattle.std.specs.Str.{bytes_eq}
 use Rattle.std.proofs.lemmas.Bool.{cases_lt, lt-ltb}
 use Rattle.std.proofs.lemmas.Slice.Eq.{bytes_eq-Decides}
+use Rattle.std.proofs.lemmas.Option.{same_Some}
 use Rattle.ol_term.specs.Trees as tree
 use Rattle.ol_term.specs.Trees.{Tree}
 use Rattle.ol_term.specs.NameLists.{IsFirstPlace, without}
@@ -32,9 +33,6 @@ same_bytes x = (bytes_eq-Decides x x).1 refl
 unlike : (x y : List ℕ) → bytes_eq x y ≡ false → y ≡ x → ⊥
 unlike x y e s = clash (sym e ∙ ap (λ (z : List ℕ). bytes_eq x z) s ∙ same_bytes x)
 
-item : (x y : List ℕ) → Some x ≡ Some y → x ≡ y
-item x y e = cc
-
 -- ---- places in a list
 
 at_head : (x y : List ℕ) (ys : List (List ℕ)) → bytes_eq x y ≡ true → IsFirstPlace (y ∷ ys) x 0
@@ -47,7 +45,7 @@ at_tail : (x y : List ℕ) (ys : List (List ℕ)) (j : ℕ) → bytes_eq x y ≡
 at_tail x y ys j e f = record { here = f.here; before = before_it }
   where
     before_it : (m : ℕ) → m < suc j → slice_get (y ∷ ys) m ≡ Some x → ⊥
-    before_it zero l s = unlike x y e (item y x s)
+    before_it zero l s = unlike x y e (same_Some y x s)
     before_it (suc m) l s = f.before m (omega (arith, l)) s
 
 place_from : (x : List ℕ) (xs : List (List ℕ)) (i k : ℕ) → position_from (is x) i xs ≡ Some k →
@@ -75,12 +73,12 @@ none_there x (y ∷ ys) i h j s = go (λ p j s. none_there x ys (i + 1) p j s) (
         bytes_eq x y ≡ b → cond {A = Option ℕ} b (Some i) (position_from (is x) (i + 1) ys) ≡ None →
         (j : ℕ) → slice_get (y ∷ ys) j ≡ Some x → ⊥
     go more true e p j s = absurd (cc)
-    go more false e p zero s = unlike x y e (item y x s)
+    go more false e p zero s = unlike x y e (same_Some y x s)
     go more false e p (suc j) s = more p j s
 
 name_there : (xs : List (List ℕ)) (k : ℕ) (x : List ℕ) → slice_get xs k ≡ Some x → slice_index_or xs k [] ≡ x
 name_there [] k x e = absurd (cc)
-name_there (y ∷ ys) zero x e = item y x e
+name_there (y ∷ ys) zero x e = same_Some y x e
 name_there (y ∷ ys) (suc k) x e = name_there ys k x e
 
 -- ---- each free name of a term is in its list

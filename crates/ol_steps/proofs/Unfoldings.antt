@@ -18,21 +18,12 @@ use Rattle.ol_steps.specs.LetLaws.{redex_binder, IsAmongOthers, LeadsToRedex}
 use Rattle.ol_steps.proofs.Complete.{nothing_is_left}
 use Rattle.ol_steps.proofs.LetsLeft.{let_goes, lets_stay, text_has_lets}
 use Rattle.ol_steps.proofs.Rows.{values_are_closed}
+use Rattle.ol_steps.proofs.Walks.{binders_more, unfolding_more}
 use Rattle.ol_steps.specs.Steps.{Walk, starts, goes, unfolds, binders_after, next_binders, last_binders, begun, unfolding_after, last_unfolding}
 use Rattle.ol_steps.specs.Unfoldings.{let_of_step, lets_unfolded, EndsInUnfoldings, no_step, another_step, one_more, LetsAreUnfolded, NoValueIsShown}
 use Rattle.ol_steps.specs.declared.showing.Unfolding.{Unfolding}
 
 -- ---- one term more
-
-binders_on : (order : Order) (s : Binders) (terms : List Tree) (v : Tree) →
-    last_binders order s (terms ++ v ∷ []) ≡ next_binders order v (last_binders order s terms)
-binders_on order s [] v = refl
-binders_on order s (t ∷ terms) v = binders_on order (next_binders order t s) terms v
-
-unfolding_on : (order : Order) (u : Unfolding) (terms : List Tree) (v : Tree) →
-    last_unfolding order u (terms ++ v ∷ []) ≡ unfolding_after order (last_unfolding order u terms) v
-unfolding_on order u [] v = refl
-unfolding_on order u (t ∷ terms) v = unfolding_on order (unfolding_after order u t) terms v
 
 unfolded_on : (order : Order) (u : Unfolding) (s : Binders) (terms : List Tree) (v : Tree) →
     lets_unfolded order u s (terms ++ v ∷ []) ≡ lets_unfolded order u s terms
@@ -144,7 +135,7 @@ in_a_row : (order : Order) (n : ℕ) {t v : Tree} {terms : List Tree} → Walk o
 in_a_row order n starts = no_step
 in_a_row order n (goes {terms = terms} {u = u} walk new step within) =
     subst (λ (w : Unfolding). EndsInUnfoldings order n (terms ++ u ∷ []) w.hidden)
-    (sym (unfolding_on order (begun n) terms u))
+    (sym (unfolding_more order (begun n) terms u))
     (row_by order n terms u (last_unfolding order (begun n) terms)
     (unfolds (last_unfolding order (begun n) terms).left (next order u)) refl refl (in_a_row order n walk))
 
@@ -177,14 +168,14 @@ along order n t s h e (goes {terms = terms} {u = u} {v = v} walk new step within
     let one = subst (λ (o : Option (List ℕ)). StepOn n (let_names n s) gone x u r o) (sym step.1)
     (step_at n (let_names n s) gone x u r step.0 before.0 before.1
     (some_is (beta.contracted u step.0) v step.2)) in (
-      subst (λ (b : Binders). Fits v b) (sym (binders_on order s terms u))
+      subst (λ (b : Binders). Fits v b) (sym (binders_more order s terms u))
           (fits_on u v r step.0 (next order u) before.0 step.1 step.2),
       subst (λ (xs : List (List ℕ)). IsSoFar n (let_names n s) xs (last_unfolding order (begun n) (terms ++ u ∷ []))
           (last_binders order s (terms ++ u ∷ []))) (sym (unfolded_on order (begun n) s terms u))
           (subst (λ (y : Unfolding). IsSoFar n (let_names n s) (gone ++ let_of_step x.left (next order u) r) y
-          (last_binders order s (terms ++ u ∷ []))) (sym (unfolding_on order (begun n) terms u))
+          (last_binders order s (terms ++ u ∷ []))) (sym (unfolding_more order (begun n) terms u))
           (subst (λ (b : Binders). IsSoFar n (let_names n s) (gone ++ let_of_step x.left (next order u) r)
-          (unfolding_after order x u) b) (sym (binders_on order s terms u)) one)),
+          (unfolding_after order x u) b) (sym (binders_more order s terms u)) one)),
     )
 
 pub lets_are_unfolded : LetsAreUnfolded

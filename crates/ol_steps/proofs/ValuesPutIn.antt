@@ -1,8 +1,8 @@
 -- If values are put in the places of their names again, a tree is what it was.
-use Rattle.std.proofs.Common.{◌≡◌, ℕ, ◌+◌, ◌-◌, ◌≤◌, Bool, true, false, nat_lt, List, [], ◌∷◌, Option, Some, None}
-use Rattle.std.proofs.Common.{refl, sym, ap, ◌∙◌, arith}
+use Rattle.std.proofs.Common.{◌≡◌, ℕ, ◌+◌, ◌-◌, ◌≤◌, Bool, true, false, List, [], ◌∷◌, Option, Some, None}
+use Rattle.std.proofs.Common.{refl, sym, ap, ◌∙◌}
 use Rattle.std.specs.Prelude.{◌==◌, if◌then◌else◌, slice_index_or}
-use Rattle.std.proofs.lemmas.Bool.{and_parts, ltb-true}
+use Rattle.std.proofs.lemmas.Bool.{and_parts, le-ltb}
 use Rattle.ol_term.specs.Trees as tree
 use Rattle.ol_term.specs.Trees.{Tree, var, free, lam, app, is_named_below}
 use Rattle.ol_steps.specs.Binders as binders
@@ -10,13 +10,6 @@ use Rattle.ol_steps.specs.Binders.{Binders, Fits}
 use Rattle.ol_steps.specs.Folded.{value_at, or_name, all_folded, folded_round, folded_at, pruned}
 use Rattle.ol_steps.specs.LetLaws.{unfolded, UnfoldedIsTerm, NoValueNoChange, NothingIsPruned, FoldedFits}
 use Rattle.ol_steps.proofs.Values.{leads_to}
-
-not_below : (k n : ℕ) → n ≤ k → nat_lt k n ≡ false
-not_below k n h = go (nat_lt k n) refl
-  where
-    go : (b : Bool) → nat_lt k n ≡ b → b ≡ false
-    go true e = let l = ltb-true k n e in absurd (omega (arith, l, h))
-    go false e = refl
 
 -- a part that may have become a name
 part : (n : ℕ) (vs : List Tree) (t u : Tree) → unfolded n vs u ≡ t → unfolded n vs (or_name (value_at n vs t) u) ≡ t
@@ -26,7 +19,7 @@ part n vs t u e = go (value_at n vs t) refl
     go None i = e
     go (Some k) i =
         let l = leads_to n vs t k i in
-        ap (λ (b : Bool). if b then free k else slice_index_or vs (k - n) (free k)) (not_below k n l.from)
+        ap (λ (b : Bool). if b then free k else slice_index_or vs (k - n) (free k)) (le-ltb k n l.from)
         ∙ l.value (free k)
 
 unfolds : (n : ℕ) (vs : List Tree) (t : Tree) → is_named_below n t ≡ true → unfolded n vs (all_folded n vs t) ≡ t

@@ -1,5 +1,5 @@
 -- The text of a walk, step by step.
-use Rattle.std.proofs.Common.{◌≡◌, ℕ, ◌+◌, ◌-◌, ◌<◌, ◌≤◌, Bool, List, [], ◌∷◌, ◌++◌, append_assoc, length, codes, Option, Some, None, IsSome, true, false}
+use Rattle.std.proofs.Common.{◌≡◌, ℕ, ◌+◌, ◌-◌, ◌<◌, ◌≤◌, Bool, List, [], ◌∷◌, ◌++◌, append_assoc, length, codes, Option, Some, true, false}
 use Rattle.std.proofs.Common.{refl, sym, ap, ◌∙◌, subst, arith}
 use Rattle.std.specs.Prelude.{slice_get, if◌then◌else◌}
 use Rattle.std.proofs.lemmas.List.{append-nil, length_push}
@@ -7,7 +7,6 @@ use Rattle.ol_term.specs.Trees.{Tree, tree_of, is_below, is_named_below}
 use Rattle.ol_beta.specs.Beta.{contracted, IsWithin, IsPastAfter}
 use Rattle.ol_strategies.specs.Redexes.{next}
 use Rattle.ol_strategies.specs.Ends.{IsEnd}
-use Rattle.ol_strategies.proofs.Nexts.{next_is_redex}
 use Rattle.ol_strategies.specs.declared.orders.Order.{Order}
 use Rattle.ol_strategies.specs.declared.orders.Reached.{Reached}
 use Rattle.ol_subjects.specs.declared.answers.End.TheVariants.{No}
@@ -23,14 +22,6 @@ use Rattle.ol_steps.specs.Steps.{binders_after, next_binders, last_binders, line
 use Rattle.ol_steps.specs.Steps.{unfolding_after, last_unfolding, unfold_line, last_line, past_line, return_line}
 use Rattle.ol_steps.specs.Steps.{reached_words, reached_end, Tells, ends, returns, left, past}
 use Rattle.ol_steps.specs.declared.showing.Unfolding.{Unfolding}
-
--- what an order contracts next is no fault of contraction
-pub no_fault : (o : Order) (t : Tree) (at : List ℕ) → next o t ≡ Some at → contracted t at ≡ None → ⊥
-no_fault o t at e none = absent (contracted t at) none (next_is_redex o t at e)
-  where
-    absent : (o : Option Tree) → o ≡ None → IsSome o → ⊥
-    absent None e h = absurd (cc)
-    absent (Some u) e h = absurd (cc)
 
 -- a step from a term that is new
 walk_more : {o : Order} {t v : Tree} {terms : List Tree} → Walk o t terms v → IsNew terms v → (at : List ℕ) →
@@ -57,7 +48,7 @@ binders_more order s [] v = refl
 binders_more order s (t ∷ terms) v = binders_more order (next_binders order t s) terms v
 
 -- how far lets are unfolded behind one term more
-unfolding_more : (order : Order) (u : Unfolding) (terms : List Tree) (v : Tree) →
+pub unfolding_more : (order : Order) (u : Unfolding) (terms : List Tree) (v : Tree) →
     last_unfolding order u (terms ++ v ∷ []) ≡ unfolding_after order (last_unfolding order u terms) v
 unfolding_more order u [] v = refl
 unfolding_more order u (t ∷ terms) v = unfolding_more order (unfolding_after order u t) terms v

@@ -1,79 +1,25 @@
 -- Each name of a text's term is a name of the grammar, and no free name stands twice in its list.
 use Rattle.std.proofs.Common.{◌≡◌, ℕ, zero, suc, ◌+◌, List, [], ◌∷◌, ◌++◌, map, Bool, true, false, ◌||◌, cond}
-use Rattle.std.proofs.Common.{Some, refl, sym, ap, ◌∙◌, subst}
+use Rattle.std.proofs.Common.{Some, refl, sym, ap, ◌∙◌}
 use Rattle.std.specs.Prelude.{slice_get}
 use Rattle.std.specs.Str.{bytes_eq}
 use Rattle.std.proofs.lemmas.Bool.{or_parts}
 use Rattle.std.proofs.lemmas.Slice.Eq.{bytes_eq-Decides}
+use Rattle.std.proofs.lemmas.Option.{same_Some}
 use Rattle.ol_term.specs.NameLists.{NoNameTwice, without}
 use Rattle.ol_term.specs.BinderNames.{is_among}
 use Rattle.ol_term.proofs.BinderTexts.{among_at}
-use Rattle.ol_parse.specs.Grammar.{Named, var, lam, app, Token, name, let_key, in_key, lambda, dot}
-use Rattle.ol_parse.specs.Grammar.{equals, open_bracket, close_bracket, lams, IsTerm, term_body}
+use Rattle.ol_parse.specs.Grammar.{Named, var, lam, app, Token, name, in_key, dot}
+use Rattle.ol_parse.specs.Grammar.{close_bracket, lams, IsTerm, term_body}
 use Rattle.ol_parse.specs.Grammar.{term_spine, term_both, IsSpine, spine_one, spine_more, IsAtom}
 use Rattle.ol_parse.specs.Grammar.{atom_name, atom_brackets, IsBody, body_lambda, body_let}
-use Rattle.ol_parse.specs.Texts.{token_of, is_word, IsToken, token_sign, token_letter, token_word}
-use Rattle.ol_parse.specs.Texts.{IsName, Spells, spells_none, spells_one, IsText}
+use Rattle.ol_parse.specs.Texts.{IsText}
 use Rattle.ol_parse.specs.Numbered.{free_in, once, names_of}
 use Rattle.ol_parse.specs.Parsed.{AreNames}
-use Rattle.ol_parse.proofs.Spelling.{sign_no_word}
 use Rattle.ol_steps.specs.BinderLaws.{AllNames, TextHasNames}
+use Rattle.ol_parse.proofs.Words.{spelled_good, left, right, AreGood}
 
 -- ---- tokens
-
-abbrev IsGood : Token → Type 0
-IsGood (name x) = IsName x
-IsGood _ = Unit {0}
-
-abbrev AreGood : List Token → Type 0
-AreGood [] = Unit {0}
-AreGood (k ∷ ks) = IsGood k × AreGood ks
-
-no_word_good : (k : Token) → is_word k ≡ false → IsGood k
-no_word_good (name x) h = absurd (cc)
-no_word_good let_key h = tt
-no_word_good in_key h = tt
-no_word_good lambda h = tt
-no_word_good dot h = tt
-no_word_good equals h = tt
-no_word_good open_bracket h = tt
-no_word_good close_bracket h = tt
-
-spelled_by : (w x : List ℕ) → token_of w ≡ name x → w ≡ x
-unfolding token_of
-spelled_by w x h = go (bytes_eq w (108 ∷ 101 ∷ 116 ∷ [])) (bytes_eq w (105 ∷ 110 ∷ [])) h
-  where
-    go : (a b : Bool) → cond a let_key (cond b in_key (name w)) ≡ name x → w ≡ x
-    go true b h = absurd (cc)
-    go false true h = absurd (cc)
-    go false false h = cc
-
-word_good : (w : List ℕ) (k : Token) → token_of w ≡ k → IsToken k w → IsGood k
-word_good w (name x) h i = subst (λ v. IsToken (name x) v) (spelled_by w x h) i
-word_good w let_key h i = tt
-word_good w in_key h i = tt
-word_good w lambda h i = tt
-word_good w dot h i = tt
-word_good w equals h i = tt
-word_good w open_bracket h i = tt
-word_good w close_bracket h i = tt
-
-token_good : {k : Token} {a : List ℕ} → IsToken k a → IsGood k
-token_good (token_sign {k = k} {b = b} e) = no_word_good k (sign_no_word b k e)
-token_good (token_letter e) = tt
-token_good (token_word {b = b} {w = w} e i) = word_good (b ∷ w) (token_of (b ∷ w)) refl (token_word e i)
-
-spelled_good : {after : Bool} {ks : List Token} {bs : List ℕ} → Spells after ks bs → AreGood ks
-spelled_good (spells_none i) = tt
-spelled_good (spells_one i n t s) = (token_good t, spelled_good s)
-
-left : (a b : List Token) → AreGood (a ++ b) → AreGood a
-left [] b h = tt
-left (k ∷ a) b h = (h.0, left a b h.1)
-
-right : (a b : List Token) → AreGood (a ++ b) → AreGood b
-right [] b h = h
-right (k ∷ a) b h = right a b h.1
 
 row_good : (xs : List (List ℕ)) → AreGood (map name xs) → AreNames xs
 row_good [] h = tt
@@ -121,9 +67,6 @@ AreApart (x ∷ xs) = (is_among xs x ≡ false) × AreApart xs
 clash : false ≡ true → ⊥
 clash e = cc
 
-item : (x y : List ℕ) → Some x ≡ Some y → x ≡ y
-item x y e = cc
-
 -- what is left out isn't there, and what wasn't there still isn't
 left_out : (x : List ℕ) (ys : List (List ℕ)) → is_among (without x ys) x ≡ false
 left_out x [] = refl
@@ -164,9 +107,9 @@ not_twice : (xs : List (List ℕ)) → AreApart xs → NoNameTwice xs
 not_twice [] h j k x e f = absurd (cc)
 not_twice (y ∷ ys) h zero zero x e f = refl
 not_twice (y ∷ ys) h zero (suc k) x e f =
-    absurd (clash (sym h.0 ∙ among_at ys k y (f ∙ ap (λ (z : List ℕ). Some z) (sym (item y x e)))))
+    absurd (clash (sym h.0 ∙ among_at ys k y (f ∙ ap (λ (z : List ℕ). Some z) (sym (same_Some y x e)))))
 not_twice (y ∷ ys) h (suc j) zero x e f =
-    absurd (clash (sym h.0 ∙ among_at ys j y (e ∙ ap (λ (z : List ℕ). Some z) (sym (item y x f)))))
+    absurd (clash (sym h.0 ∙ among_at ys j y (e ∙ ap (λ (z : List ℕ). Some z) (sym (same_Some y x f)))))
 not_twice (y ∷ ys) h (suc j) (suc k) x e f = ap suc (not_twice ys h.1 j k x e f)
 
 pub names_differ : (t : Named) → NoNameTwice (names_of t)

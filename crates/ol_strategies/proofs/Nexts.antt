@@ -10,10 +10,12 @@ use Rattle.ol_beta.specs.Leftmost.{is_abstraction, under, leftmost, IsNormal}
 use Rattle.ol_beta.proofs.Redexes.{no_under, no_leftmost, leftmost_first, map_some, some_map, map_none, both_none, abstraction_applied}
 use Rattle.ol_law_meaning.specs.Shows.{IsHeadAddress}
 use Rattle.ol_strategies.specs.Redexes.{head_redex, weak_head_redex, root_if, applicative_redex, is_value, value_redex}
+use Rattle.ol_strategies.specs.Redexes.{next}
 use Rattle.ol_strategies.specs.Searches.{spine_redex, is_ready, strict_redex}
 use Rattle.ol_strategies.specs.Laws.{NextIsRedex, HeadIsLeftmost, WeakHeadIsHead, HeadIsAtHeadAddress}
 use Rattle.ol_strategies.specs.Laws.{ApplicativeIsInnermost}
 use Rattle.ol_strategies.specs.declared.orders.Order.TheVariants as order
+use Rattle.ol_strategies.specs.declared.orders.Order.{Order}
 
 -- ---- the searches are of the orders
 
@@ -149,6 +151,9 @@ next_is_redex order.Head t at e = (leftmost_first t at (head_leftmost t at e)).0
 next_is_redex order.WeakHead t at e = (leftmost_first t at (head_leftmost t at (weak_head t at e))).0
 next_is_redex order.Applicative t at e = strict_is_redex true t at (strict_applicative t ∙ e)
 next_is_redex order.Value t at e = strict_is_redex false t at (strict_value t ∙ e)
+
+pub no_fault : (o : Order) (t : Tree) (at : List ℕ) → next o t ≡ Some at → contracted t at ≡ None → ⊥
+no_fault o t at a c = let h = next_is_redex o t at a in absurd (cc)
 
 -- ---- the innermost redex
 

@@ -7,9 +7,10 @@ use Rattle.ol_beta.specs.declared.contracting.BetaFault.{BetaFault}
 use Rattle.ol_strategies.specs.Redexes.{next}
 use Rattle.ol_strategies.specs.declared.orders.Order.{Order}
 use Rattle.ol_counts.specs.Ordered.{LeadsWithin, ended, short, past}
-use Rattle.ol_counts.proofs.OneStepMore.{leads_on, no_fault, past_on}
+use Rattle.ol_counts.proofs.OneStepMore.{leads_on, past_on}
 use Rattle.ol_counts.proofs.ordered.steps_to_end.Goals as goal
 use Rattle.ol_counts.proofs.ordered.steps_to_end.Goals.{then-size-via-then-size, then-size-via-else-size+then-depth}
+use Rattle.ol_strategies.proofs.Nexts.{no_fault}
 
 larger : (n m k : ℕ) → n ≡ k → m < n → m < k
 larger n m k e l = omega arith

@@ -1,8 +1,8 @@
 use Rattle.std.proofs.Common.{◌++◌, ◌∷◌, [], append_assoc, take, sym, ap, ◌∙◌, arith}
 use Rattle.std.proofs.lemmas.List.{append-nil, take_all}
 use Rattle.ol_diamond.proofs.Weighed.{there_is}
-use Rattle.ol_explain.proofs.Leaving.{taken_on}
 use Rattle.ol_explain.proofs.left.append.Goals as goal
+use Rattle.ol_orders.proofs.Steps.{entries_on}
 
 pub loop-k-init : goal.loop-k-init
 loop-k-init c = sym (append-nil c.args.journal.now)
@@ -21,7 +21,7 @@ loop-k-preserved c =
     ∙ ap (λ es. es ++ e ∷ []) c.loop-k.invariant
     ∙ append_assoc c.args.journal.now (take c.loop-k.k c.args.more.now) (e ∷ [])
     ∙ ap (λ es. c.args.journal.now ++ es)
-    (sym (taken_on c.args.more.now c.loop-k.k e (sym c.get.ensures ∙ c.in-Some.is)))
+    (sym (entries_on c.args.more.now c.loop-k.k e (sym c.get.ensures ∙ c.in-Some.is)))
 
 pub returns : goal.returns
 returns c =

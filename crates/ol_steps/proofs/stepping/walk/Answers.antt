@@ -11,8 +11,9 @@ use Rattle.ol_steps.specs.declared.showing.Place.{Place}
 use Rattle.ol_steps.specs.EarlierTerms.{terms_of, glossary_of}
 use Rattle.ol_steps.specs.Steps.{IsNew, Tells, shown_line, step_lines, unfold_line}
 use Rattle.ol_steps.proofs.EarlierTerms.{kept_length}
-use Rattle.ol_steps.proofs.Walks.{tells_ends, tells_returns, tells_left, tells_past, walked_begin, walked_more, made_so_far, no_fault}
+use Rattle.ol_steps.proofs.Walks.{tells_ends, tells_returns, tells_left, tells_past, walked_begin, walked_more, made_so_far}
 use Rattle.ol_steps.proofs.stepping.walk.Goals as goal
+use Rattle.ol_strategies.proofs.Nexts.{no_fault}
 
 pub loop-here-init : goal.loop-here-init
 loop-here-init c =
