@@ -4,7 +4,7 @@ use Rattle.std.proofs.Common.{Bool, true, false, List, [], ◌∷◌, ◌++◌, 
 use Rattle.std.proofs.Common.{refl, sym, ap, ◌∙◌, subst, arith, eqb-true, eq-eqb, append-nil, length-drop}
 use Rattle.std.specs.Prelude.{slice_get}
 use Rattle.std.proofs.lemmas.List.{drop_all}
-use Rattle.std.proofs.lemmas.Option.{slice_get_within}
+use Rattle.std.proofs.lemmas.Option.{slice_get_within, same_Some, none-some}
 use Rattle.std.proofs.lemmas.Bool.{and_parts}
 use Rattle.ol_term.specs.Trees as tree
 use Rattle.ol_term.specs.Trees.{Tree}
@@ -241,12 +241,6 @@ numeral_is_chain ns n w i =
 
 -- ---- the places, one after another
 
-some_one : (m n : ℕ) → Some m ≡ Some n → m ≡ n
-some_one m n e = cc
-
-no_some : (n : ℕ) → None ≡ Some n → ⊥
-no_some n e = cc
-
 place_is : (l b a : ℕ) (m : ReadNode) → is_place l b a m ≡ true → m ≡ node.Head l (own b) a
 place_is l b a (node.Head k (var.Bound i j) c) e =
     let p = and_parts (k == l) ((c == a) && ((i == 0) && (j == b))) e in
@@ -287,8 +281,8 @@ link_no_end l m e f =
     omega arith
 
 last_some : (ms : List ReadNode) (c n : ℕ) → some_if_last ms c ≡ Some n → (ms ≡ []) × (n ≡ c)
-last_some [] c n e = (refl, sym (some_one c n e))
-last_some (m ∷ ms) c n e = absurd (no_some n e)
+last_some [] c n e = (refl, sym (same_Some c n e))
+last_some (m ∷ ms) c n e = absurd (none-some n e)
 
 record IsFound (c l : ℕ) (ms : List ReadNode) (n : ℕ) : Type 0 where
   more : ℕ
@@ -296,14 +290,14 @@ record IsFound (c l : ℕ) (ms : List ReadNode) (n : ℕ) : Type 0 where
   places : ms ≡ chain l more
 
 found_from : (c l : ℕ) (ms : List ReadNode) (n : ℕ) → numeral_from c l ms ≡ Some n → IsFound c l ms n
-found_from c l [] n e = absurd (no_some n e)
+found_from c l [] n e = absurd (none-some n e)
 found_from c l (m ∷ ms) n e = go (is_place l 1 1 m) refl (λ f. found_from (c + 1) 0 ms n f)
   where
     ends : (b : Bool) → is_place l 2 0 m ≡ b → (if b then some_if_last ms c else None) ≡ Some n → IsFound c l (m ∷ ms) n
     ends true h f =
         let p = last_some ms c n f in
         record { more = 0; is = omega arith; places = ap (λ ms. m ∷ ms) p.0 ∙ ap (λ m. m ∷ []) (place_is l 2 0 m h) }
-    ends false h f = absurd (no_some n f)
+    ends false h f = absurd (none-some n f)
 
     go : (b : Bool) → is_place l 1 1 m ≡ b → (numeral_from (c + 1) 0 ms ≡ Some n → IsFound (c + 1) 0 ms n) →
         IsFound c l (m ∷ ms) n
@@ -368,7 +362,7 @@ pub all_links : (ns : List ReadNode) (c l : ℕ) (o : Option ℕ) → length ns 
 all_links ns c l o h e = sym (ap (numeral_from c l) (drop_all c ns h)) ∙ e
 
 pub numeral_is : (ns : List ReadNode) (o : Option ℕ) → IsWholeTree ns → o ≡ numeral_from 0 2 ns → IsNumeralOf ns o
-numeral_is ns None w e = λ n i. no_some (0 + n) (e ∙ ap (numeral_from 0 2) (numeral_is_chain ns n w i) ∙ finds_from 0 2 n)
+numeral_is ns None w e = λ n i. none-some (0 + n) (e ∙ ap (numeral_from 0 2) (numeral_is_chain ns n w i) ∙ finds_from 0 2 n)
 numeral_is ns (Some n) w e =
     let f = found_from 0 2 ns n (sym e) in
     chain_is_numeral ns n (f.places ∙ (let h = f.is in let g : f.more ≡ n = omega arith in ap (chain 2) g))
