@@ -22,7 +22,7 @@ use Rattle.ol_words.specs.declared.jobs.Job.{Job}
 use Rattle.ol_words.specs.declared.jobs.Job.TheVariants as jobs
 use Rattle.ol_cli.proofs.AnyRun.{any_run_ends}
 use Rattle.ol_cli.proofs.OneAnswer.{OfFile, too_long, refused, has_term, OfTree, too_deep, too_large, done, of_file_answer}
-use Rattle.ol_cli.proofs.OneAnswer.{file_names, one_job, own_job}
+use Rattle.ol_cli.proofs.OneAnswer.{one_job, own_job}
 use Rattle.ol_cli.proofs.OnePrint.{ends_or_runs_out, start_is_net, start_is_named}
 use Rattle.ol_cli.proofs.Sourced.{one_name}
 use Rattle.ol_cli.proofs.Statuses.{settled}
@@ -36,6 +36,7 @@ use Rattle.ol_cli.specs.TermFiles.{IsTermFile}
 use Rattle.ol_cli.specs.Termination.{EndsExactly, JobEndsExactly, run_fuel}
 use Rattle.ol_cli.specs.declared.status.Status.{Status}
 use Rattle.ol_cli.specs.declared.status.Status.TheVariants.{Done, Spent, NoMemory}
+use Rattle.ol_law_meaning.proofs.FileNames.{file_names}
 
 -- ---- a term
 
