@@ -11,10 +11,11 @@ use Rattle.ol_law_edges.specs.Edges.{IsIn}
 use Rattle.ol_law_edges.proofs.Lists.{in_map, in_map_of}
 use Rattle.ol_law_optimality.specs.HeadFamilies.{HasSoManyDifferent}
 use Rattle.ol_law_optimality.specs.Readings.{AreDifferent}
-use Rattle.ol_law_optimality.specs.Labels.{Label, Labelled, erased, contracted, degree, LeftmostContracts, ready, contract}
+use Rattle.ol_law_optimality.specs.Labels.{Label, Labelled, erased, contracted, degree, LeftmostContracts, ready}
+use Rattle.ol_law_optimality.specs.Labels.{contract}
 use Rattle.ol_term.specs.Trees.{Tree}
-use Rattle.ol_families.specs.Counts.{IsShortLabelled, IsLongLabelled, AreShortLabelled, ReducesLabelled, FamilyCountIsOne}
-use Rattle.ol_families.specs.Counts.{ended, short, past, long}
+use Rattle.ol_families.specs.Counts.{IsShortLabelled, IsLongLabelled, AreShortLabelled, ReducesLabelled}
+use Rattle.ol_families.specs.Counts.{FamilyCountIsOne, ended, short, past, long}
 use Rattle.ol_families.specs.Letters.{letters_of, most_letters}
 use Rattle.ol_families.proofs.Renaming.{renamed, relabelled, numbered, reduces_too, erased_too, letters_in_too}
 use Rattle.ol_families.proofs.Renaming.{letters_of_too, up_to_letters, AreOneUpToLetters}

@@ -15,7 +15,8 @@ use Rattle.ol_law_optimality.specs.Labels.{Label, none, Labelled, erased, Leftmo
 use Rattle.ol_law_optimality.specs.Labels as labels
 use Rattle.ol_term.specs.Trees.{Tree}
 use Rattle.ol_families.specs.declared.degrees.Letter.{Letter}
-use Rattle.ol_families.specs.Counts.{IsShortLabelled, AreShortLabelled, ReducesLabelled, IsFamilyCount, ended, short, past, long}
+use Rattle.ol_families.specs.Counts.{IsShortLabelled, AreShortLabelled, ReducesLabelled, IsFamilyCount, ended, short}
+use Rattle.ol_families.specs.Counts.{past, long}
 use Rattle.ol_families.specs.Letters.{letters, letters_of, most_letters}
 use Rattle.ol_families.specs.Held.{Held, bare, lettered, contracted, degree, held_letters}
 use Rattle.ol_families.specs.Steps.{AreLetters}

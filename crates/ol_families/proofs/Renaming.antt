@@ -11,8 +11,8 @@ use Rattle.ol_law_edges.specs.Edges.{IsIn}
 use Rattle.ol_law_edges.proofs.Lists.{in_left, in_right}
 use Rattle.ol_law_optimality.specs.Families.{labels_in, HaveOwnLetters, IsLetter}
 use Rattle.ol_law_optimality.specs.Readings.{AreDifferent}
-use Rattle.ol_law_optimality.specs.Labels.{Label, none, atom, over, under, joined, Labelled, var, free, lam, app, erased}
-use Rattle.ol_law_optimality.specs.Labels.{before, shifted, substituted, applied, contracted, degree}
+use Rattle.ol_law_optimality.specs.Labels.{Label, none, atom, over, under, joined, Labelled, var, free, lam, app}
+use Rattle.ol_law_optimality.specs.Labels.{erased, before, shifted, substituted, applied, contracted, degree}
 use Rattle.ol_law_optimality.specs.Labels.{degree_of_abstraction, LeftmostContracts, ready, contract}
 use Rattle.ol_term.specs.Trees.{Tree, term_size}
 use Rattle.ol_term.specs.Trees as trees

@@ -14,16 +14,14 @@ use Rattle.ol_readback.specs.Terms.{HasAllHeads}
 use Rattle.ol_readback.specs.declared.answers.ReadNode.{ReadNode}
 use Rattle.ol_readback.proofs.OneTree.{all_left, all_right}
 use Rattle.ol_demand.specs.Chains as chain
-use Rattle.ol_demand.specs.Demands.{Asking, ChainEnds, IsFound, exits, lost, spent, place_of}
-use Rattle.ol_demand.specs.Demands.{next, Turn, rewrites, one_more, finds, Turns, begins, and_then}
-use Rattle.ol_demand.specs.Demands.{IsDemandRun}
+use Rattle.ol_demand.specs.Demands.{Asking, ChainEnds, IsFound, exits, lost, spent, place_of, next, Turn, rewrites}
+use Rattle.ol_demand.specs.Demands.{one_more, finds, Turns, begins, and_then, IsDemandRun}
 use Rattle.ol_demand.proofs.Chains.{no_path_at}
 use Rattle.ol_law_completeness.specs.Laws.{CrossesNoStuck}
 use Rattle.ol_law_completeness.specs.Least.{IsEnough, done, past, place, unknown, headless, MeetsNone}
 use Rattle.ol_law_completeness.specs.Least.{EnoughAsItIs, EnoughWithoutHeads}
 use Rattle.ol_law_completeness.proofs.Lasting.{Lasts, lasts_here, no_path_lasts}
-use Rattle.ol_law_completeness.proofs.Longer.{broken_meets_none, longer_meet_none}
-use Rattle.ol_law_completeness.proofs.Longer.{spent_meet_none}
+use Rattle.ol_law_completeness.proofs.Longer.{broken_meets_none, longer_meet_none, spent_meet_none}
 use Rattle.ol_law_completeness.proofs.Tracing.{chain_is_on_path}
 use Rattle.ol_demand.proofs.SourceHeads.{first_is}
 

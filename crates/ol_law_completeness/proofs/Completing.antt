@@ -1,6 +1,5 @@
 -- Demand order is complete.
-use Rattle.std.proofs.Common.{◌≡◌, ℕ, suc, ◌+◌, ◌<◌, ◌≤◌, Bool, List, [], ◌∷◌, ◌++◌, length, refl}
-use Rattle.std.proofs.Common.{sym, subst, arith}
+use Rattle.std.proofs.Common.{◌≡◌, ℕ, suc, ◌+◌, ◌<◌, ◌≤◌, Bool, List, [], ◌∷◌, ◌++◌, length, refl, sym, subst, arith}
 use Rattle.ol_net.specs.Nets.{NamedNet, free}
 use Rattle.ol_context.specs.Contexts.{Level}
 use Rattle.ol_context.specs.Paths.{Path, HaveSamePaths}
@@ -29,8 +28,7 @@ use Rattle.ol_law_meaning.proofs.Shapes.{normal_of}
 use Rattle.ol_law_meaning.proofs.Showing.{headed}
 use Rattle.ol_law_meaning.proofs.Based.{term_seen}
 use Rattle.ol_readback.proofs.Forests.{frame_last}
-use Rattle.ol_law_completeness.specs.Complete.{AreRead, done, enough, place, IsReadWithin}
-use Rattle.ol_law_completeness.specs.Complete.{DemandIsComplete, HeadIsRead}
+use Rattle.ol_law_completeness.specs.Complete.{AreRead, done, enough, place, IsReadWithin, DemandIsComplete, HeadIsRead}
 use Rattle.ol_law_completeness.specs.Rows.{row, inversions}
 use Rattle.ol_law_completeness.proofs.HeadsFound.{has_head}
 use Rattle.ol_law_completeness.proofs.Ending.{heads_are_read}

@@ -1,13 +1,14 @@
 -- Labelled terms are normalised by the rules if redexes of too great a degree aren't contracted.
 -- Used in Traces and Ending.
-use Rattle.std.proofs.Common.{◌≡◌, ℕ, zero, suc, ◌+◌, ◌<◌, ◌≤◌, Bool, true, false, ◌⊎◌, inl, inr, refl, sym, subst, arith}
+use Rattle.std.proofs.Common.{◌≡◌, ℕ, zero, suc, ◌+◌, ◌<◌, ◌≤◌, Bool, true, false, ◌⊎◌, inl, inr, refl, sym, subst}
+use Rattle.std.proofs.Common.{arith}
 use Rattle.std.proofs.lemmas.Bool.{cases_lt}
 use Rattle.ol_law_optimality.specs.Readings.{label_of}
 use Rattle.ol_law_optimality.proofs.Putting.{ren, up, inst}
 use Rattle.ol_law_optimality.proofs.Putting.{point, substituted_inst, inst_reduct, ren_reduct, before_reduct}
 use Rattle.ol_law_optimality.specs.Reductions.{reduct}
-use Rattle.ol_law_optimality.specs.Labels.{Label, none, atom, over, under, joined, Labelled, var, free, lam, app, before}
-use Rattle.ol_law_optimality.specs.Labels.{substituted}
+use Rattle.ol_law_optimality.specs.Labels.{Label, none, atom, over, under, joined, Labelled, var, free, lam, app}
+use Rattle.ol_law_optimality.specs.Labels.{before, substituted}
 use Rattle.ol_law_confluence.proofs.Substitutions.{up_ren}
 
 -- how many overlined and underlined words stand in a word

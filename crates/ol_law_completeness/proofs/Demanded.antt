@@ -1,15 +1,13 @@
 -- The net that a demand run leaves is enough for the places that it was asked for: what it read
 -- while it rewrote can be read again from its last net, by walks that meet no active pair.
-use Rattle.std.proofs.Common.{◌≡◌, ℕ, ◌<◌, ◌≤◌, ◌⊎◌, inl, inr, List, [], ◌∷◌, ◌++◌, length, refl}
-use Rattle.std.proofs.Common.{sym, subst, arith}
+use Rattle.std.proofs.Common.{◌≡◌, ℕ, ◌<◌, ◌≤◌, ◌⊎◌, inl, inr, List, [], ◌∷◌, ◌++◌, length, refl, sym, subst, arith}
 use Rattle.ol_net.specs.Nets.{NamedNet}
 use Rattle.ol_rules.specs.declared.journal.NodeName.{NodeName}
 use Rattle.ol_rules.specs.declared.journal.Entry.{Entry}
 use Rattle.ol_readback.specs.Heads.{Answer}
 use Rattle.ol_readback.specs.ReadTrees.{Subterm, whole_term}
 use Rattle.ol_readback.specs.declared.answers.ReadNode.{ReadNode}
-use Rattle.ol_demand.specs.Demands.{Asking, next, Turn, rewrites, one_more, finds, Turns, begins}
-use Rattle.ol_demand.specs.Demands.{and_then}
+use Rattle.ol_demand.specs.Demands.{Asking, next, Turn, rewrites, one_more, finds, Turns, begins, and_then}
 use Rattle.ol_demand.specs.Laws.{IsStart}
 use Rattle.ol_demand.proofs.Turning.{IsKept, turns_kept}
 use Rattle.ol_law_completeness.specs.Laws.{CrossesNoStuck}

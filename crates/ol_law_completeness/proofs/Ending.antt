@@ -1,7 +1,6 @@
 -- The turns of demand order, each against the paths of the places that are left.
-use Rattle.std.proofs.Common.{◌≡◌, ℕ, zero, suc, ◌+◌, ◌<◌, ◌≤◌, ◌⊎◌, inl, inr, List, [], ◌∷◌, ◌++◌}
-use Rattle.std.proofs.Common.{length, map, take, refl, sym, ap, ◌∙◌, subst, arith, append-nil}
-use Rattle.std.proofs.Common.{append_assoc, length-append}
+use Rattle.std.proofs.Common.{◌≡◌, ℕ, zero, suc, ◌+◌, ◌<◌, ◌≤◌, ◌⊎◌, inl, inr, List, [], ◌∷◌, ◌++◌, length, map, take}
+use Rattle.std.proofs.Common.{refl, sym, ap, ◌∙◌, subst, arith, append-nil, append_assoc, length-append}
 use Rattle.std.proofs.lemmas.Bool.{cases_lt}
 use Rattle.std.proofs.lemmas.List.{length_push, take-append-le, take_all}
 use Rattle.ol_net.specs.declared.parts.Rule.{Rule}
@@ -23,15 +22,13 @@ use Rattle.ol_readback.specs.declared.answers.ReadNode.TheVariants as node
 use Rattle.ol_readback.proofs.One.{exit_is_one}
 use Rattle.ol_demand.specs.Chains as chain
 use Rattle.ol_demand.specs.Chains.{Ends}
-use Rattle.ol_demand.specs.Demands.{Asking, asks, ChainEnds, Meets, IsFound, exits, lost, spent}
-use Rattle.ol_demand.specs.Demands.{place_of, next, Turn, rewrites, one_more, finds, Turns, begins}
-use Rattle.ol_demand.specs.Demands.{and_then, IsDemandRun, GoesOn}
+use Rattle.ol_demand.specs.Demands.{Asking, asks, ChainEnds, Meets, IsFound, exits, lost, spent, place_of, next, Turn}
+use Rattle.ol_demand.specs.Demands.{rewrites, one_more, finds, Turns, begins, and_then, IsDemandRun, GoesOn}
 use Rattle.ol_demand.specs.Laws.{IsStart}
 use Rattle.ol_demand.proofs.Chains.{no_path_at, path_at}
 use Rattle.ol_demand.proofs.Turning.{IsKept, turns_kept}
 use Rattle.ol_law_completeness.specs.Laws.{CrossesNoStuck}
-use Rattle.ol_law_completeness.specs.Complete.{AreRead, done, enough, place, StaysClear, ReadsFirst}
-use Rattle.ol_law_completeness.specs.Complete.{HeadsAreRead}
+use Rattle.ol_law_completeness.specs.Complete.{AreRead, done, enough, place, StaysClear, ReadsFirst, HeadsAreRead}
 use Rattle.ol_law_completeness.proofs.Costs.{first_after}
 use Rattle.ol_law_completeness.proofs.Chaining.{chain_ends}
 use Rattle.ol_law_completeness.proofs.Listing.{step_turn}

@@ -19,7 +19,8 @@ use Rattle.ol_law_meaning.proofs.Parts.{bare_lacks, key, IsInside, inside_under}
 use Rattle.ol_law_meaning.proofs.States.{Before, before_arg, H, L, if_true, if_false}
 use Rattle.ol_law_meaning.proofs.Turns.{turn_out}
 use Rattle.ol_law_meaning.specs.Sites.{Site, self, spot_in}
-use Rattle.ol_law_meaning.specs.Spots.{Wire, bound, name, under, occurs, left, IsRight, root, wire, Spot, at, body, fun, arg}
+use Rattle.ol_law_meaning.specs.Spots.{Wire, bound, name, under, occurs, left, IsRight, root, wire, Spot, at, body, fun}
+use Rattle.ol_law_meaning.specs.Spots.{arg}
 use Rattle.ol_term.specs.Trees.{Tree, var, free, lam, app, is_below}
 use Rattle.ol_term.specs.declared.translations.Translation.{Translation}
 use Rattle.ol_term.specs.declared.translations.Translation.TheVariants.{One, Two}

@@ -10,8 +10,7 @@ use Rattle.ol_law_optimality.specs.Labels as labels
 use Rattle.ol_law_optimality.specs.Redexes.{put}
 use Rattle.ol_law_optimality.specs.Routes.{Crossing, rise}
 use Rattle.ol_law_meaning.proofs.Fans.{Merges, outside_wire}
-use Rattle.ol_law_meaning.proofs.Parts.{Has, argument, has_lam, Wires, has_app, has_app_to}
-use Rattle.ol_law_meaning.proofs.Parts.{has_head, applied_root}
+use Rattle.ol_law_meaning.proofs.Parts.{Has, argument, has_lam, Wires, has_app, has_app_to, has_head, applied_root}
 use Rattle.ol_net.specs.Nets.{NamedNet, NamedPort, slot, HasNode, Linked, IsNet, port_under}
 use Rattle.ol_net.specs.Numbered.{numbered_port}
 use Rattle.ol_net.specs.declared.parts.Kind.{Kind}
@@ -24,8 +23,7 @@ use Rattle.ol_term.specs.Trees.{Tree, var, free, lam, app, is_below}
 use Rattle.ol_term.specs.declared.translations.Translation.{Translation}
 use Rattle.ol_term.specs.declared.translations.Translation.TheVariants.{One, Two}
 use Rattle.ol_translate.proofs.Joints.{few_wires}
-use Rattle.ol_translate.specs.Translation.{Subnet, subnet_of, applied, bare_variable, wire_of}
-use Rattle.ol_translate.specs.Translation.{slot_port, bound_port}
+use Rattle.ol_translate.specs.Translation.{Subnet, subnet_of, applied, bare_variable, wire_of, slot_port, bound_port}
 use Rattle.ol_law_completeness.proofs.Links.{Goes, stays, goes_on, goes_at, goes_to, upwards, Link, single}
 use Rattle.ol_law_completeness.proofs.Traces.{Env, pushed, Starts, ToBinder, own, boxed, Trace}
 use Rattle.ol_law_optimality.proofs.Untouched.{put_last}

@@ -1,7 +1,6 @@
 -- Over birth names: a pair that a chain meets stays, until it is rewritten itself; and a run that
 -- rewrites it may do so first.
-use Rattle.std.proofs.Common.{◌≡◌, ℕ, suc, List, [], ◌∷◌, length, ◌⊎◌, inl, inr, refl, sym, ap, ◌∙◌}
-use Rattle.std.proofs.Common.{subst}
+use Rattle.std.proofs.Common.{◌≡◌, ℕ, suc, List, [], ◌∷◌, length, ◌⊎◌, inl, inr, refl, sym, ap, ◌∙◌, subst}
 use Rattle.ol_law_edges.specs.Edges.{IsIn}
 use Rattle.ol_net.specs.Nets.{NamedNet, slot, SameNet, IsPrincipalOf}
 use Rattle.ol_context.specs.Contexts.{Context}

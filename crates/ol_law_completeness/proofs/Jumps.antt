@@ -1,14 +1,14 @@
 -- Walks over a term from root to root: each jump goes into a part by its root or comes out of it, and
 -- goes along the wire of a variable, from its abstraction to an occurrence or back, at once.
 -- Used in Putting, Redexes, Rules and Crossings.
-use Rattle.std.proofs.Common.{◌≡◌, ℕ, suc, ◌+◌, ◌<◌, ◌≤◌, Bool, true, false, refl, sym, ap, ◌∙◌}
-use Rattle.std.proofs.Common.{subst, arith}
+use Rattle.std.proofs.Common.{◌≡◌, ℕ, suc, ◌+◌, ◌<◌, ◌≤◌, Bool, true, false, refl, sym, ap, ◌∙◌, subst, arith}
 use Rattle.std.proofs.lemmas.Bool.{or_left, or_right}
 use Rattle.ol_context.specs.Contexts.{Level, empty, o, star, Context, cons}
 use Rattle.ol_law_meaning.proofs.Addresses.{left_one, right_one, sides_apart}
 use Rattle.ol_law_meaning.proofs.Lifts.{same_is}
 use Rattle.ol_law_meaning.specs.Sites.{Site, self, in_lam, in_function, in_argument, spot_in}
-use Rattle.ol_law_meaning.specs.Spots.{Wire, bound, name, under, occurs, left, IsRight, root, wire, Spot, at, body, fun, arg}
+use Rattle.ol_law_meaning.specs.Spots.{Wire, bound, name, under, occurs, left, IsRight, root, wire, Spot, at, body, fun}
+use Rattle.ol_law_meaning.specs.Spots.{arg}
 use Rattle.ol_term.specs.Trees.{Tree, var, free, lam, app}
 use Rattle.ol_term.specs.declared.translations.Translation.{Translation}
 

@@ -1,12 +1,10 @@
 -- A chain that meets no pair meets none after a step, whatever pair was rewritten. So what can be
 -- read from a net by walks that meet no active pair can be read so from each net that it is
 -- rewritten to.
-use Rattle.std.proofs.Common.{◌≡◌, ℕ, zero, suc, ◌<◌, List, [], ◌∷◌, inl, inr, refl}
-use Rattle.std.proofs.Common.{ap, subst, arith}
+use Rattle.std.proofs.Common.{◌≡◌, ℕ, zero, suc, ◌<◌, List, [], ◌∷◌, inl, inr, refl, ap, subst, arith}
 use Rattle.ol_invariance.proofs.Runs.{run_keeps as paths_kept}
 use Rattle.ol_net.specs.declared.parts.Rule.{Rule}
-use Rattle.ol_net.specs.Nets.{NamedNet, NamedPort, free, slot, Linked, IsNet, IsPort}
-use Rattle.ol_net.specs.Nets.{IsPrincipalOf, IsSlotOf}
+use Rattle.ol_net.specs.Nets.{NamedNet, NamedPort, free, slot, Linked, IsNet, IsPort, IsPrincipalOf, IsSlotOf}
 use Rattle.ol_context.specs.Contexts.{Context, Level, up}
 use Rattle.ol_context.specs.Paths.{Path, inward, outward, HaveSamePaths}
 use Rattle.ol_context.proofs.Exits.{path_one}
@@ -31,8 +29,7 @@ use Rattle.ol_law_completeness.specs.Least.{IsEnough, done, past, place, unknown
 use Rattle.ol_law_completeness.proofs.Chaining.{chain_ends}
 use Rattle.ol_law_completeness.proofs.Ending.{path_port}
 use Rattle.ol_demand.proofs.Staying.{link_stays, node_was, alone_stays}
-use Rattle.ol_law_completeness.proofs.Frozen.{clean_stays, pair_link}
-use Rattle.ol_law_completeness.proofs.Frozen.{meets_of, leaves_of, not_both}
+use Rattle.ol_law_completeness.proofs.Frozen.{clean_stays, pair_link, meets_of, leaves_of, not_both}
 use Rattle.ol_law_completeness.proofs.Tracing.{chain_is_on_path}
 
 -- ---- after one step

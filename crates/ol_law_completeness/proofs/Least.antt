@@ -1,6 +1,5 @@
 -- Demand order is least.
-use Rattle.std.proofs.Common.{◌≡◌, ℕ, suc, ◌≤◌, ◌⊎◌, inl, inr, List, [], ◌∷◌, length, refl, sym}
-use Rattle.std.proofs.Common.{◌∙◌, subst, arith}
+use Rattle.std.proofs.Common.{◌≡◌, ℕ, suc, ◌≤◌, ◌⊎◌, inl, inr, List, [], ◌∷◌, length, refl, sym, ◌∙◌, subst, arith}
 use Rattle.ol_law_edges.specs.Edges.{IsIn}
 use Rattle.ol_invariance.proofs.Runs.{run_keeps as paths_kept}
 use Rattle.ol_net.specs.Nets.{NamedNet, IsNet, net_under}
@@ -16,12 +15,10 @@ use Rattle.ol_diamond.specs.Laws.{RunByBirths}
 use Rattle.ol_diamond.specs.Runs.{BirthPair, IsSamePair, IsPairRun, pair_under, AreBirths}
 use Rattle.ol_diamond.specs.Runs as pairs
 use Rattle.ol_diamond.proofs.Confluence.{pair_sym, pair_trans}
-use Rattle.ol_diamond.proofs.Journals.{IsBefore, on_before, still_before, Together, one_on, pair_is}
-use Rattle.ol_diamond.proofs.Journals.{by_number, start_renamed, start_net, birth_follows}
-use Rattle.ol_diamond.proofs.Journals.{AreSamePairs, same_pairs}
-use Rattle.ol_diamond.proofs.OneThreadRuns.{start_alike}
+use Rattle.ol_diamond.proofs.Journals.{IsBefore, on_before, still_before, Together, one_on, pair_is, by_number}
+use Rattle.ol_diamond.proofs.Journals.{start_renamed, start_net, birth_follows, AreSamePairs, same_pairs}
+use Rattle.ol_diamond.proofs.OneThreadRuns.{start_alike, run_net}
 use Rattle.ol_diamond.proofs.Renaming.{IsRenamed, under_renamed, renamed_under}
-use Rattle.ol_diamond.proofs.OneThreadRuns.{run_net}
 use Rattle.ol_demand.specs.Laws.{IsStart, ArePairsOf}
 use Rattle.ol_demand.proofs.Turning.{turns_kept}
 use Rattle.ol_law_completeness.specs.Least.{Meets, MeetsNone, DemandIsLeast}

@@ -37,9 +37,8 @@ use Rattle.ol_diamond.proofs.OneThreadRuns.{run_net}
 use Rattle.ol_law_levels.proofs.Stuck.{stuck_pairs_stop}
 use Rattle.ol_law_levels.proofs.Terms.{term_is_levelled}
 use Rattle.ol_law_completeness.specs.Complete.{StaysClear, IsReadWithin}
-use Rattle.ol_law_completeness.specs.Terms.{LevelledCrossesNoStuck, NormalFormIsRead}
-use Rattle.ol_law_completeness.specs.Terms.{HeadNormalFormIsRead, PlacesAreOfTerm}
-use Rattle.ol_law_completeness.specs.Terms.{ReadsExactlyNormalForms}
+use Rattle.ol_law_completeness.specs.Terms.{LevelledCrossesNoStuck, NormalFormIsRead, HeadNormalFormIsRead}
+use Rattle.ol_law_completeness.specs.Terms.{PlacesAreOfTerm, ReadsExactlyNormalForms}
 use Rattle.ol_law_completeness.proofs.Completing.{costs_of, head_at}
 use Rattle.ol_law_completeness.proofs.Ending.{heads_are_read}
 use Rattle.ol_law_completeness.proofs.Normalizing.{normal_form_has_heads}

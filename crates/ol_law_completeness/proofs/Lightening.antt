@@ -11,8 +11,7 @@ use Rattle.ol_net.specs.Parts.{arity}
 use Rattle.ol_net.specs.declared.parts.Kind.{Kind}
 use Rattle.ol_net.specs.declared.parts.Kind.TheVariants as kind
 use Rattle.ol_rules.specs.Laws.{IsFresh}
-use Rattle.ol_rules.specs.Rewriting.{Action, action_of, NodeOf, left, of_f, of_g}
-use Rattle.ol_rules.specs.Rewriting.{Rewrites}
+use Rattle.ol_rules.specs.Rewriting.{Action, action_of, NodeOf, left, of_f, of_g, Rewrites}
 use Rattle.ol_law_completeness.specs.Walks.{ComesDown}
 use Rattle.ol_law_completeness.specs.Weights.{weight, weights, WeighsAtMost}
 use Rattle.ol_law_completeness.specs.BoundedRuns.{StepLightens}

@@ -16,10 +16,8 @@ use Rattle.ol_rules.specs.Names.{comes_before, IsNamed}
 use Rattle.ol_rules.specs.Laws.{AreNamedBefore, IsFresh}
 use Rattle.ol_rules.specs.Rewriting.{IsStep}
 use Rattle.ol_rules.specs.Runs.{IsEntryStep}
-use Rattle.ol_rules.proofs.OneRun.{name_same, name_test, fresh_names}
-use Rattle.ol_rules.proofs.Relation.{net_kept}
-use Rattle.ol_rules.proofs.Relation.{next as step_next}
-use Rattle.ol_rules.proofs.OneRun.{one_name}
+use Rattle.ol_rules.proofs.OneRun.{name_same, name_test, fresh_names, one_name}
+use Rattle.ol_rules.proofs.Relation.{net_kept, next as step_next}
 use Rattle.ol_readback.specs.Frames.{Frame, asked}
 use Rattle.ol_readback.specs.ReadTrees.{Subterm}
 use Rattle.ol_demand.specs.Chains.{met, Ends}

@@ -27,9 +27,9 @@ use Rattle.ol_term.specs.declared.translations.Translation.{Translation}
 use Rattle.ol_translate.proofs.Counts.{times}
 use Rattle.ol_translate.proofs.Joints.{few_wires, times-bracketed}
 use Rattle.ol_translate.proofs.Walks.{length-bracket_nodes}
-use Rattle.ol_translate.specs.Translation.{Subnet, subnet_of, applied, application, application_to, bare_variable, wire_of}
-use Rattle.ol_translate.specs.Translation.{slot_port, bound_port, erasers, bracket_nodes, bracket_links, past_brackets}
-use Rattle.ol_translate.specs.Translation.{fans, fan_nodes, fan_links, merged, reconnected}
+use Rattle.ol_translate.specs.Translation.{Subnet, subnet_of, applied, application, application_to, bare_variable}
+use Rattle.ol_translate.specs.Translation.{wire_of, slot_port, bound_port, erasers, bracket_nodes, bracket_links}
+use Rattle.ol_translate.specs.Translation.{past_brackets, fans, fan_nodes, fan_links, merged, reconnected}
 use Rattle.ol_law_completeness.proofs.Crossings.{Till, comes, and_then, moved, sooner, by_turn}
 use Rattle.ol_law_completeness.proofs.Falling.{bare_stand, if_bare, Stand, room}
 use Rattle.ol_law_completeness.proofs.Onward.{back_link, left_out, right_out}

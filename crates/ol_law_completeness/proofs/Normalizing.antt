@@ -23,8 +23,7 @@ use Rattle.ol_law_meaning.proofs.Walking.{normal_or_step}
 use Rattle.ol_law_meaning.proofs.LeftmostSteps.{leftmost_step, same_step}
 use Rattle.ol_law_meaning.proofs.LeftmostRoads.{IsNeutral, arg_leftmost, variable_neutral}
 use Rattle.ol_law_meaning.proofs.LeftmostRoads.{abstracted_none, tree_reached}
-use Rattle.ol_law_meaning.proofs.Endings.{some_none, rest_of, after_head, within, within_lam}
-use Rattle.ol_law_meaning.proofs.Endings.{within_arg, no_redex}
+use Rattle.ol_law_meaning.proofs.Endings.{some_none, rest_of, after_head, within, within_lam, within_arg, no_redex}
 use Rattle.ol_law_meaning.proofs.Matched.{chain_grows}
 use Rattle.ol_law_meaning.proofs.Showing.{SeenAt, AllSeen, nil, next, headed, chain_more}
 use Rattle.ol_law_meaning.proofs.Based.{term_seen, tree_shows}

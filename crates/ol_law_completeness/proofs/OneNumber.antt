@@ -1,7 +1,6 @@
 -- A net tells one number of inversions, for the law `inversions_are_one`; and where these are of all
 -- places, it tells it whatever number of places is spoken of, which Within uses too.
-use Rattle.std.proofs.Common.{◌≡◌, ℕ, suc, ◌+◌, ◌<◌, ◌≤◌, List, [], ◌∷◌, ◌++◌, length, refl}
-use Rattle.std.proofs.Common.{sym, ap, ◌∙◌, subst, arith}
+use Rattle.std.proofs.Common.{◌≡◌, ℕ, suc, ◌+◌, ◌<◌, ◌≤◌, List, [], ◌∷◌, ◌++◌, length, refl, sym, ap, ◌∙◌, subst, arith}
 use Rattle.std.proofs.lemmas.List.{length-append}
 use Rattle.ol_net.specs.declared.parts.Kind.{Kind}
 use Rattle.ol_net.specs.Nets.{NamedNet, NamedPort, free, slot, HasNode, Linked, IsNet}
@@ -19,8 +18,7 @@ use Rattle.ol_readback.specs.declared.answers.ReadNode.TheVariants as node
 use Rattle.ol_readback.proofs.Forests.{frame_last}
 use Rattle.ol_readback.proofs.One.{head_one}
 use Rattle.ol_demand.specs.Demands.{place_of}
-use Rattle.ol_law_completeness.specs.Complete.{AreRead, done, enough, place}
-use Rattle.ol_law_completeness.specs.Complete.{InversionsAreOne, AllInversionsAreOne}
+use Rattle.ol_law_completeness.specs.Complete.{AreRead, done, enough, place, InversionsAreOne, AllInversionsAreOne}
 use Rattle.ol_law_completeness.specs.Rows.{rise, fall, row, inversions}
 
 -- ---- all places

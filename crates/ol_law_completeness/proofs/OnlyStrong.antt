@@ -51,13 +51,14 @@ use Rattle.ol_term.specs.declared.translations.Translation.{Translation}
 use Rattle.ol_translate.proofs.Whole.{translation_net}
 use Rattle.ol_translate.specs.Names.{HasNames}
 use Rattle.ol_translate.specs.Translation.{subnet_of, translation_of}
-use Rattle.ol_law_completeness.proofs.Degrees.{size, Weak, at_redex, at_function, argument_of, degree_of, Norm, of_var, of_free}
-use Rattle.ol_law_completeness.proofs.Degrees.{of_app, plain, of_lam, of_redex, too_great, all_norm}
+use Rattle.ol_law_completeness.proofs.Degrees.{size, Weak, at_redex, at_function, argument_of, degree_of, Norm, of_var}
+use Rattle.ol_law_completeness.proofs.Degrees.{of_free, of_app, plain, of_lam, of_redex, too_great, all_norm}
 use Rattle.ol_law_completeness.proofs.First.{unlabelled, erased_unlabelled, port_of, H, L, first}
 use Rattle.ol_law_completeness.proofs.Links.{Goes, goes_at, goes_to, goes_row, goes_carries, Link, single}
 use Rattle.ol_law_completeness.proofs.Traces.{Env, AtEnd, Starts, own, Trace, steps}
 use Rattle.ol_law_completeness.proofs.Nodes.{holds_map}
-use Rattle.ol_law_completeness.specs.EndsExactly.{OnlyStronglyNormalisingEnds, OneThreadEndsExactly, EveryRunEndsExactly, RunsAreWithin}
+use Rattle.ol_law_completeness.specs.EndsExactly.{OnlyStronglyNormalisingEnds, OneThreadEndsExactly}
+use Rattle.ol_law_completeness.specs.EndsExactly.{EveryRunEndsExactly, RunsAreWithin}
 
 -- ---- a step without its labels
 

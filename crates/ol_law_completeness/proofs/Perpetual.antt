@@ -1,14 +1,12 @@
 -- Terms that the rules build are strongly normalising: the fundamental lemma of perpetuality
 -- (van Raamsdonk, Severi, Sorensen and Xi, Perpetual reductions in lambda calculus, 1999).
 -- Used in Strong.
-use Rattle.std.proofs.Common.{◌≡◌, ℕ, Bool, true, false, List, [], ◌∷◌, Some, None, refl}
-use Rattle.std.proofs.Common.{sym, ap, ◌∙◌, subst}
+use Rattle.std.proofs.Common.{◌≡◌, ℕ, Bool, true, false, List, [], ◌∷◌, Some, None, refl, sym, ap, ◌∙◌, subst}
 use Rattle.std.specs.Prelude.{◌==◌, if◌then◌else◌}
 use Rattle.std.specs.Option.{option_map}
 use Rattle.ol_beta.specs.Beta.{substituted, contracted}
 use Rattle.ol_beta.specs.Beta as beta_steps
-use Rattle.ol_law_confluence.specs.Reductions.{WeakStep, weak_beta, weak_before}
-use Rattle.ol_law_confluence.specs.Reductions.{Parallel, of_redex}
+use Rattle.ol_law_confluence.specs.Reductions.{WeakStep, weak_beta, weak_before, Parallel, of_redex}
 use Rattle.ol_law_confluence.specs.Reductions as parallel
 use Rattle.ol_law_confluence.proofs.Contractions.{parallel_beta}
 use Rattle.ol_law_confluence.proofs.Parallels.{parallel_same, parallel_subst}

@@ -17,13 +17,11 @@ use Rattle.ol_readback.specs.declared.answers.ReadNode.{ReadNode}
 use Rattle.ol_readback.specs.declared.answers.ReadNode.TheVariants as node
 use Rattle.ol_demand.specs.Chains as chain
 use Rattle.ol_demand.specs.Chains.{Ends}
-use Rattle.ol_demand.specs.Demands.{Asking, asks, ChainEnds, IsFound, exits, lost, spent}
-use Rattle.ol_demand.specs.Demands.{Turn, one_more, finds, Turns, begins, and_then, place_of}
-use Rattle.ol_demand.specs.Demands.{IsDemandRun}
+use Rattle.ol_demand.specs.Demands.{Asking, asks, ChainEnds, IsFound, exits, lost, spent, Turn, one_more, finds, Turns}
+use Rattle.ol_demand.specs.Demands.{begins, and_then, place_of, IsDemandRun}
 use Rattle.ol_demand.proofs.Chains.{path_at}
 use Rattle.ol_law_completeness.specs.Laws.{CrossesNoStuck}
-use Rattle.ol_law_completeness.specs.Least.{CanBeRead, IsEnough, past, place, unknown, headless}
-use Rattle.ol_law_completeness.specs.Least.{ReadAsItIs}
+use Rattle.ol_law_completeness.specs.Least.{CanBeRead, IsEnough, past, place, unknown, headless, ReadAsItIs}
 use Rattle.ol_law_completeness.proofs.AsItIs.{enough_without_heads}
 use Rattle.ol_law_completeness.proofs.Beside.{Beside, one_more_beside, finds_beside, not_tried}
 use Rattle.ol_law_completeness.proofs.Chaining.{chain_ends}

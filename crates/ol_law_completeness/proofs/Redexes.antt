@@ -2,8 +2,7 @@
 -- argument, it is one over the contraction, but for the jumps through the redex, of which no five follow
 -- one another.
 -- Used in Rules.
-use Rattle.std.proofs.Common.{◌≡◌, ℕ, zero, suc, ◌+◌, ◌<◌, ◌≤◌, Bool, true, false, refl, sym, ap, ◌∙◌}
-use Rattle.std.proofs.Common.{subst, arith}
+use Rattle.std.proofs.Common.{◌≡◌, ℕ, zero, suc, ◌+◌, ◌<◌, ◌≤◌, Bool, true, false, refl, sym, ap, ◌∙◌, subst, arith}
 use Rattle.ol_context.specs.Contexts.{Level, o, star, Context, cons}
 use Rattle.ol_context.proofs.Contexts.{head_eq, tail_eq}
 use Rattle.ol_law_confluence.specs.Reductions.{WeakStep, weak_beta, weak_before}
@@ -15,9 +14,8 @@ use Rattle.ol_term.specs.Trees.{Tree, lam, app}
 use Rattle.ol_term.specs.declared.translations.Translation.{Translation}
 use Rattle.ol_law_completeness.specs.StrongNormalisation.{argument}
 use Rattle.ol_law_completeness.proofs.Jumps.{Reached, reached_one, Jump, to_body, to_var, to_fun, to_arg, from_body}
-use Rattle.ol_law_completeness.proofs.Jumps.{from_var, from_fun, from_arg, in_body, in_fun, in_arg, Ends, ends}
-use Rattle.ol_law_completeness.proofs.Jumps.{Bounded, more, stuck, at_root, goes_on, out_of_arg, out_of_fun}
-use Rattle.ol_law_completeness.proofs.Jumps.{function_bounded}
+use Rattle.ol_law_completeness.proofs.Jumps.{from_var, from_fun, from_arg, in_body, in_fun, in_arg, Ends, ends, Bounded}
+use Rattle.ol_law_completeness.proofs.Jumps.{more, stuck, at_root, goes_on, out_of_arg, out_of_fun, function_bounded}
 use Rattle.ol_law_completeness.proofs.Putting.{jump_kept, jump_copied}
 
 -- a place of a walk over one term stands for one of a walk over another; so many jumps at most may

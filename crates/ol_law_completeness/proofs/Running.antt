@@ -1,6 +1,5 @@
 -- Runs of nets that have a weight, and nets with bounded walks.
-use Rattle.std.proofs.Common.{◌≡◌, ℕ, suc, ◌+◌, ◌*◌, ◌<◌, ◌≤◌, ◌⊎◌, inl, inr, List, [], ◌∷◌}
-use Rattle.std.proofs.Common.{length, ap, arith}
+use Rattle.std.proofs.Common.{◌≡◌, ℕ, suc, ◌+◌, ◌*◌, ◌<◌, ◌≤◌, ◌⊎◌, inl, inr, List, [], ◌∷◌, length, ap, arith}
 use Rattle.ol_law_edges.specs.Edges.{IsIn}
 use Rattle.ol_net.specs.Nets.{NamedNet, IsNet, slot, net_under}
 use Rattle.ol_net.specs.Numbered.{net_of}

@@ -21,9 +21,8 @@ use Rattle.ol_readback.specs.declared.answers.ReadNode.TheVariants as node
 use Rattle.ol_readback.proofs.Places.{port_is, port_same}
 use Rattle.ol_demand.specs.Chains as chain
 use Rattle.ol_demand.specs.Chains.{Ends}
-use Rattle.ol_demand.specs.Demands.{Asking, asks, IsFound, exits, lost, spent, next}
-use Rattle.ol_demand.specs.Demands.{Turn, rewrites, one_more, finds, Turns, begins, and_then}
-use Rattle.ol_demand.specs.Demands.{place_of, IsDemandRun}
+use Rattle.ol_demand.specs.Demands.{Asking, asks, IsFound, exits, lost, spent, next, Turn, rewrites, one_more, finds}
+use Rattle.ol_demand.specs.Demands.{Turns, begins, and_then, place_of, IsDemandRun}
 use Rattle.ol_demand.specs.Laws.{IsStart}
 use Rattle.ol_demand.proofs.Chains.{path_at}
 use Rattle.ol_demand.proofs.Turning.{IsKept, turns_kept}

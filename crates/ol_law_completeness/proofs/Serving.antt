@@ -1,7 +1,6 @@
 -- A run that has rewritten all pairs of another leads on from that one's net, by birth names. So
 -- what can be read from the one net can be read from the other.
-use Rattle.std.proofs.Common.{◌≡◌, ℕ, ◌+◌, ◌⊎◌, inl, inr, List, [], ◌∷◌, length, refl, sym}
-use Rattle.std.proofs.Common.{subst, arith}
+use Rattle.std.proofs.Common.{◌≡◌, ℕ, ◌+◌, ◌⊎◌, inl, inr, List, [], ◌∷◌, length, refl, sym, subst, arith}
 use Rattle.ol_law_edges.specs.Edges.{IsIn}
 use Rattle.ol_invariance.proofs.Runs.{run_keeps as paths_kept}
 use Rattle.ol_net.specs.declared.parts.Kind.{Kind}

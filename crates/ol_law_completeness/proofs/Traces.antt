@@ -8,7 +8,8 @@ use Rattle.ol_law_confluence.proofs.Substitutions.{up_ren}
 use Rattle.ol_law_optimality.specs.Words.{turned}
 use Rattle.ol_law_optimality.proofs.Putting.{before_joined, ren, before_ren, up, inst, point, substituted_inst}
 use Rattle.ol_law_optimality.specs.Reductions.{reduct}
-use Rattle.ol_law_optimality.specs.Labels.{Label, none, over, under, joined, Labelled, var, free, lam, app, before, substituted}
+use Rattle.ol_law_optimality.specs.Labels.{Label, none, over, under, joined, Labelled, var, free, lam, app, before}
+use Rattle.ol_law_optimality.specs.Labels.{substituted}
 use Rattle.ol_law_optimality.specs.Redexes.{put}
 use Rattle.ol_law_optimality.specs.Routes.{Crossing, rise, fall}
 use Rattle.ol_net.specs.Nets.{NamedNet, NamedPort, slot, HasNode, Linked, IsNet}
@@ -17,7 +18,8 @@ use Rattle.ol_net.specs.declared.parts.Kind.TheVariants as kind
 use Rattle.ol_rules.proofs.FreshPairs.{linked_sym}
 use Rattle.ol_rules.specs.declared.journal.NodeName.{NodeName}
 use Rattle.ol_law_completeness.proofs.Degrees.{size, size_joined, Weak, at_redex, at_function}
-use Rattle.ol_law_completeness.proofs.Links.{length_turned, Goes, goes_on, goes_at, goes_to, upwards, downwards, back, Link, prefixed}
+use Rattle.ol_law_completeness.proofs.Links.{length_turned, Goes, goes_on, goes_at, goes_to, upwards, downwards, back}
+use Rattle.ol_law_completeness.proofs.Links.{Link, prefixed}
 
 -- what is asked of a variable's occurrence, by the end of its link
 abbrev pub Env : Type 1

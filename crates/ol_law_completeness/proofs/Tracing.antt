@@ -1,14 +1,12 @@
 -- The chain for some number of abstractions goes along the path for a greater one, or along the
 -- chain for a greater one that meets a pair, until the marks that it was given are used up.
-use Rattle.std.proofs.Common.{◌≡◌, ℕ, zero, suc, ◌+◌, ◌-◌, ◌<◌, ◌≤◌, ◌⊎◌, List, ◌∷◌}
-use Rattle.std.proofs.Common.{length}
-use Rattle.std.proofs.Common.{inl, inr, refl, sym, ap, ◌∙◌, subst, arith}
+use Rattle.std.proofs.Common.{◌≡◌, ℕ, zero, suc, ◌+◌, ◌-◌, ◌<◌, ◌≤◌, ◌⊎◌, List, ◌∷◌, length, inl, inr, refl, sym, ap}
+use Rattle.std.proofs.Common.{◌∙◌, subst, arith}
 use Rattle.ol_law_edges.specs.Edges.{IsIn}
 use Rattle.ol_net.specs.declared.parts.Kind.{Kind}
 use Rattle.ol_net.specs.declared.parts.Rule.{Rule}
 use Rattle.ol_net.specs.Parts.{arity}
-use Rattle.ol_net.specs.Nets.{NamedNet, NamedPort, free, slot, HasNode, Linked, IsNet}
-use Rattle.ol_net.specs.Nets.{IsPrincipalOf}
+use Rattle.ol_net.specs.Nets.{NamedNet, NamedPort, free, slot, HasNode, Linked, IsNet, IsPrincipalOf}
 use Rattle.ol_context.specs.Contexts.{Level, empty, Context, up}
 use Rattle.ol_context.specs.Paths.{Crosses, inward, outward, Through, through}
 use Rattle.ol_context.specs.Short.{live}
@@ -17,16 +15,13 @@ use Rattle.ol_context.proofs.Contexts.{injective}
 use Rattle.ol_context.proofs.Ways.{crosses_one}
 use Rattle.ol_rules.proofs.FreshPairs.{linked_sym}
 use Rattle.ol_readback.specs.Frames.{os, asked}
-use Rattle.ol_readback.proofs.Holes.{fill}
-use Rattle.ol_demand.specs.Chains.{IsAtPair, IsAtNoPair, Chain, starts, crosses, End, met, left}
-use Rattle.ol_demand.specs.Chains.{undefined, budget, Stands, at_pair, at_port, barred, at_last}
-use Rattle.ol_demand.specs.Chains.{Ends}
+use Rattle.ol_readback.proofs.Holes.{fill, Before, moved, stripped, before}
+use Rattle.ol_demand.specs.Chains.{IsAtPair, IsAtNoPair, Chain, starts, crosses, End, met, left, undefined, budget}
+use Rattle.ol_demand.specs.Chains.{Stands, at_pair, at_port, barred, at_last, Ends}
 use Rattle.ol_demand.proofs.Pairs.{no_free}
 use Rattle.ol_law_completeness.specs.Rows.{Crossing, rise, fall, row, GoesDown}
 use Rattle.ol_law_completeness.specs.Laws.{CrossesNoStuck, IsOnPath, ChainIsOnPath, ChainsMeetAlike}
-use Rattle.ol_law_completeness.proofs.Goings.{Goes, stops, goes_up, goes_down, IsStop, AtFree}
-use Rattle.ol_law_completeness.proofs.Goings.{free_stops, path_goes}
-use Rattle.ol_readback.proofs.Holes.{Before, moved, stripped, before}
+use Rattle.ol_law_completeness.proofs.Goings.{Goes, stops, goes_up, goes_down, IsStop, AtFree, free_stops, path_goes}
 use Rattle.ol_law_completeness.proofs.Turning.{Phase, falling, rising, begins, extend, stuck, fall_on}
 use Rattle.ol_law_completeness.proofs.Turning.{few_falling, few_crossed}
 use Rattle.ol_readback.proofs.Enough.{asked_filled}

@@ -5,35 +5,30 @@ use Rattle.std.proofs.Common.{subst₂, append_assoc, length-append, arith}
 use Rattle.std.specs.Prelude.{slice_index_or}
 use Rattle.std.proofs.lemmas.List.{get_or-append-add, append-nil}
 use Rattle.std.proofs.lemmas.Bool.{cases_lt}
-use Rattle.ol_readback.specs.Whole.{Part, term, lost, cut, none, more, count, preorder, IsInScope}
-use Rattle.ol_readback.specs.Whole.{IsBound, IsWholeTree}
-use Rattle.ol_readback.specs.Terms.{HasAllHeads, abstracted, index_of, variable_of, meaning}
-use Rattle.ol_readback.specs.Terms.{term_of}
+use Rattle.ol_readback.specs.Whole.{Part, term, lost, cut, none, more, count, preorder, IsInScope, IsBound, IsWholeTree}
+use Rattle.ol_readback.specs.Terms.{HasAllHeads, abstracted, index_of, variable_of, meaning, term_of}
 use Rattle.ol_readback.specs.declared.answers.HeadVar.{HeadVar}
 use Rattle.ol_readback.specs.declared.answers.HeadVar.TheVariants as head
 use Rattle.ol_readback.specs.declared.answers.ReadNode.{ReadNode}
 use Rattle.ol_readback.specs.declared.answers.ReadNode.TheVariants as node
 use Rattle.ol_readback.proofs.OneTree.{count_one, list_is_of_one_tree}
 use Rattle.std.specs.List.{AllZip}
-use Rattle.ol_equal.specs.Comparing.{TreeWithNames, IsSameVar, Agree, place_at, IsFirstApart}
-use Rattle.ol_equal.specs.Comparing.{IsComparison}
+use Rattle.ol_equal.specs.Comparing.{TreeWithNames, IsSameVar, Agree, place_at, IsFirstApart, IsComparison}
 use Rattle.ol_equal.proofs.Agreeing.{AgreeAt, each-agrees}
 use Rattle.ol_equal.proofs.Walks.{path-within}
 use Rattle.ol_equal.specs.declared.answers.Compared.{Compared}
 use Rattle.ol_equal.specs.declared.answers.Compared.TheVariants as answer
-use Rattle.ol_law_confluence.specs.Compared.{TellsTerms}
+use Rattle.ol_law_confluence.specs.Compared.{TellsTerms, number_of, renamed, ShareNormalForm, ArePrinted}
+use Rattle.ol_law_confluence.specs.Compared.{IsHeadBesideLost}
 use Rattle.ol_law_meaning.specs.Contraction.{Tree, lam, app}
 use Rattle.ol_law_meaning.specs.Contraction as tree
 use Rattle.ol_law_meaning.specs.Shows.{BetaReduces, IsVariable, Fills}
 use Rattle.ol_law_confluence.specs.Reductions.{Convertible, turned, joined, AreConvertible}
-use Rattle.ol_law_confluence.specs.Compared.{number_of, renamed, ShareNormalForm, ArePrinted}
-use Rattle.ol_law_confluence.specs.Compared.{IsHeadBesideLost}
 use Rattle.ol_law_confluence.proofs.Meetings.{convertible}
 use Rattle.ol_law_confluence.proofs.LeftmostEnds.{leftmost_beta}
 use Rattle.ol_law_confluence.proofs.HeadForms.{heads_agree, forever_none}
-use Rattle.ol_law_confluence.proofs.Renamings.{renamed_beta, renamed_forever, renamed_normal}
-use Rattle.ol_law_confluence.proofs.Renamings.{renamed_all, renamed_length, renamed_abstracted}
-use Rattle.ol_law_confluence.proofs.Renamings.{renamed_head_normal, number_of_one}
+use Rattle.ol_law_confluence.proofs.Renamings.{renamed_beta, renamed_forever, renamed_normal, renamed_all}
+use Rattle.ol_law_confluence.proofs.Renamings.{renamed_length, renamed_abstracted, renamed_head_normal, number_of_one}
 use Rattle.ol_law_confluence.proofs.Scopes.{Older, older_on, binder_one}
 
 -- ---- places

@@ -1,6 +1,5 @@
 -- Head normal forms of convertible terms, and where head reduction ends.
-use Rattle.std.proofs.Common.{◌≡◌, ℕ, zero, suc, ◌⊎◌, inl, inr, true, false, List, [], ◌∷◌, refl}
-use Rattle.std.proofs.Common.{sym, ap, ◌∙◌, subst}
+use Rattle.std.proofs.Common.{◌≡◌, ℕ, zero, suc, ◌⊎◌, inl, inr, true, false, List, [], ◌∷◌, refl, sym, ap, ◌∙◌, subst}
 use Rattle.std.specs.Option.{option_map}
 use Rattle.ol_beta.specs.Leftmost.{is_abstraction}
 use Rattle.ol_readback.specs.Terms.{abstracted}
@@ -10,10 +9,9 @@ use Rattle.ol_law_meaning.specs.Shows.{applied, IsVariable}
 use Rattle.ol_law_meaning.proofs.LeftmostRoads.{then_leads}
 use Rattle.ol_law_meaning.proofs.HeadSteps.{step_then}
 use Rattle.ol_law_meaning.proofs.Endless.{forever, comes_to_none}
-use Rattle.ol_law_confluence.specs.Reductions.{Convertible, turned, joined, AreConvertible}
-use Rattle.ol_law_confluence.specs.Reductions.{HasHeadNormalForm, HeadReductionEnds, Parallel, of_var}
-use Rattle.ol_law_confluence.specs.Reductions.{of_free, WeakReduces, weak_done, weak_step, Standard}
-use Rattle.ol_law_confluence.specs.Reductions.{to_var, to_free, to_app}
+use Rattle.ol_law_confluence.specs.Reductions.{Convertible, turned, joined, AreConvertible, HasHeadNormalForm}
+use Rattle.ol_law_confluence.specs.Reductions.{HeadReductionEnds, Parallel, of_var, of_free, WeakReduces, weak_done}
+use Rattle.ol_law_confluence.specs.Reductions.{weak_step, Standard, to_var, to_free, to_app}
 use Rattle.ol_law_confluence.proofs.Parallels.{of_lam_view, OfApp, OfRedex, of_app_view}
 use Rattle.ol_law_confluence.proofs.Contractions.{contraction_step, parallel_beta}
 use Rattle.ol_law_confluence.proofs.Meetings.{convertible, convertible_meet}

@@ -1,21 +1,18 @@
 -- Standard reduction to a normal form is leftmost reduction.
-use Rattle.std.proofs.Common.{◌≡◌, ℕ, Bool, true, false, List, [], ◌∷◌, Option, Some, None, refl}
-use Rattle.std.proofs.Common.{sym, ap, ◌∙◌, subst}
+use Rattle.std.proofs.Common.{◌≡◌, ℕ, Bool, true, false, List, [], ◌∷◌, Option, Some, None, refl, sym, ap, ◌∙◌, subst}
 use Rattle.std.specs.Prelude.{◌==◌, if◌then◌else◌}
-use Rattle.std.specs.Option.{option_map}
+use Rattle.std.specs.Option.{option_map, option_or}
 use Rattle.ol_beta.specs.Beta.{contracted}
-use Rattle.std.specs.Option.{option_or}
 use Rattle.ol_beta.specs.Leftmost.{leftmost, is_abstraction, IsNormal}
 use Rattle.ol_beta.specs.Leftmost as beta_steps
 use Rattle.ol_law_meaning.specs.Contraction.{Tree, var, free, lam, app, HeadStep, beta, before}
 use Rattle.ol_law_meaning.specs.Shows.{ready, contract, BetaReduces, LeftmostReduces}
 use Rattle.ol_law_meaning.proofs.LeftmostSteps.{leftmost_step, subst_is}
-use Rattle.ol_law_meaning.proofs.LeftmostRoads.{then_leads, IsNeutral, arg_leftmost}
+use Rattle.ol_law_meaning.proofs.LeftmostRoads.{then_leads, IsNeutral, arg_leftmost, lam_leads, fun_leftmost}
 use Rattle.ol_law_meaning.proofs.Endings.{no_redex}
 use Rattle.ol_law_confluence.specs.Reductions.{WeakStep, weak_beta, weak_before, WeakReduces, weak_done}
 use Rattle.ol_law_confluence.specs.Reductions.{weak_step, Standard, to_var, to_free, to_lam, to_app}
 use Rattle.ol_law_confluence.proofs.Standards.{standardized}
-use Rattle.ol_law_meaning.proofs.LeftmostRoads.{lam_leads, fun_leftmost}
 use Rattle.ol_beta.proofs.Redexes.{no_under, no_first}
 
 -- ---- a weak head step is the leftmost one

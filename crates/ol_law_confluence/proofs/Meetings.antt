@@ -4,8 +4,7 @@ use Rattle.ol_beta.specs.Leftmost.{IsNormal}
 use Rattle.ol_law_meaning.specs.Contraction.{Tree}
 use Rattle.ol_law_meaning.specs.Shows.{ready, contract, BetaReduces}
 use Rattle.ol_law_meaning.proofs.LeftmostRoads.{then_leads}
-use Rattle.ol_law_confluence.specs.Reductions.{Convertible, contracts, same, turned, joined, Meet}
-use Rattle.ol_law_confluence.specs.Reductions.{Parallel}
+use Rattle.ol_law_confluence.specs.Reductions.{Convertible, contracts, same, turned, joined, Meet, Parallel}
 use Rattle.ol_law_confluence.proofs.Parallels.{develops}
 use Rattle.ol_law_confluence.proofs.Contractions.{contraction_step, parallel_beta}
 

@@ -2,10 +2,8 @@
 use Rattle.std.proofs.Common.{◌≡◌, ℕ, zero, suc, ◌⊎◌, inl, inr, refl, sym, ◌∙◌, subst}
 use Rattle.ol_beta.specs.Beta.{substituted}
 use Rattle.ol_law_meaning.specs.Contraction.{Tree, var, free, lam, app}
-use Rattle.ol_law_confluence.specs.Reductions.{Parallel, of_var, of_free, of_lam, of_app, of_redex}
-use Rattle.ol_law_confluence.specs.Reductions.{developed}
-use Rattle.ol_law_confluence.proofs.Substitutions.{up_ren, ren, up, inst, point, subst_inst, inst_subst}
-use Rattle.ol_law_confluence.proofs.Substitutions.{ren_subst}
+use Rattle.ol_law_confluence.specs.Reductions.{Parallel, of_var, of_free, of_lam, of_app, of_redex, developed}
+use Rattle.ol_law_confluence.proofs.Substitutions.{up_ren, ren, up, inst, point, subst_inst, inst_subst, ren_subst}
 
 pub parallel_same : (t : Tree) → Parallel t t
 parallel_same (var y) = of_var

@@ -10,11 +10,9 @@ use Rattle.ol_readback.specs.Terms.{HasAllHeads, term_of}
 use Rattle.ol_readback.specs.declared.answers.ReadNode.{ReadNode}
 use Rattle.ol_readback.specs.declared.answers.ReadNode.TheVariants as node
 use Rattle.ol_law_meaning.specs.Contraction.{Tree}
-use Rattle.ol_law_meaning.specs.Shows.{ready, contract, BetaReduces, HeadReducesForever, LacksHead}
-use Rattle.ol_law_meaning.specs.Shows.{Fills}
+use Rattle.ol_law_meaning.specs.Shows.{ready, contract, BetaReduces, HeadReducesForever, LacksHead, Fills}
 use Rattle.ol_law_meaning.specs.Meaning.{SaysOf}
-use Rattle.ol_law_confluence.specs.Reductions.{Convertible, turned, joined, HasNormalForm}
-use Rattle.ol_law_confluence.specs.Reductions.{HasHeadNormalForm}
+use Rattle.ol_law_confluence.specs.Reductions.{Convertible, turned, joined, HasNormalForm, HasHeadNormalForm}
 use Rattle.ol_law_confluence.specs.Printed.{IsTheNormalForm, SaysAlways}
 use Rattle.ol_law_confluence.proofs.Meetings.{convertible, convertible_leads, normal_stays}
 use Rattle.ol_law_confluence.proofs.LeftmostEnds.{leftmost_finds, leftmost_beta}

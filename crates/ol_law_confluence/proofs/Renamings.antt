@@ -1,7 +1,6 @@
 -- Reductions of a term with other numbers for its free names.
-use Rattle.std.proofs.Common.{◌≡◌, ℕ, zero, suc, ◌+◌, ◌*◌, ◌^◌, ◌≤◌, if◌then◌else◌, List, [], ◌∷◌}
-use Rattle.std.proofs.Common.{length, Option, Some, None, refl, sym, ap, ◌∙◌, subst, pow-suc}
-use Rattle.std.proofs.Common.{pow_pos, arith}
+use Rattle.std.proofs.Common.{◌≡◌, ℕ, zero, suc, ◌+◌, ◌*◌, ◌^◌, ◌≤◌, if◌then◌else◌, List, [], ◌∷◌, length, Option, Some}
+use Rattle.std.proofs.Common.{None, refl, sym, ap, ◌∙◌, subst, pow-suc, pow_pos, arith}
 use Rattle.ol_beta.specs.Beta.{substituted}
 use Rattle.std.specs.Option.{option_or}
 use Rattle.ol_beta.specs.Leftmost.{leftmost, is_abstraction, IsNormal}

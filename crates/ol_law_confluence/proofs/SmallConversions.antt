@@ -7,8 +7,7 @@ use Rattle.ol_law_meaning.specs.Shows.{ready, contract}
 use Rattle.ol_law_meaning.specs.Examples.{loops, EndsIn}
 use Rattle.ol_law_meaning.proofs.SmallTerms.{small}
 use Rattle.ol_law_meaning.proofs.Endings.{has_no_end, no_redex}
-use Rattle.ol_law_confluence.specs.Reductions.{contracts, HasNormalForm, HasHeadNormalForm, of_var}
-use Rattle.ol_law_confluence.specs.Reductions.{of_free, of_redex}
+use Rattle.ol_law_confluence.specs.Reductions.{contracts, HasNormalForm, HasHeadNormalForm, of_var, of_free, of_redex}
 use Rattle.ol_law_confluence.specs.Examples.{first_of, second_of, TwoReducts, SmallConversions}
 use Rattle.ol_law_confluence.proofs.Parallels.{parallel_same}
 use Rattle.ol_law_confluence.proofs.Meetings.{convertible_normal}

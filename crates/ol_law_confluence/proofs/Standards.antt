@@ -7,11 +7,9 @@ use Rattle.ol_law_meaning.proofs.LeftmostRoads.{then_leads}
 use Rattle.ol_law_confluence.specs.Reductions.{Parallel, of_var, of_free, of_lam, WeakStep, weak_beta}
 use Rattle.ol_law_confluence.specs.Reductions.{weak_before, WeakReduces, weak_done, weak_step, Standard}
 use Rattle.ol_law_confluence.specs.Reductions.{to_var, to_free, to_lam, to_app}
-use Rattle.ol_law_confluence.proofs.Substitutions.{up_ren, ren, up, inst, point, subst_inst, inst_subst}
-use Rattle.ol_law_confluence.proofs.Substitutions.{ren_subst}
+use Rattle.ol_law_confluence.proofs.Substitutions.{up_ren, ren, up, inst, point, subst_inst, inst_subst, ren_subst}
 use Rattle.ol_law_confluence.proofs.Parallels.{of_lam_view, OfApp, OfRedex, of_app_view}
-use Rattle.ol_law_confluence.proofs.Contractions.{contraction_step}
-use Rattle.ol_law_confluence.proofs.Contractions.{redex_beta}
+use Rattle.ol_law_confluence.proofs.Contractions.{contraction_step, redex_beta}
 use Rattle.ol_law_meaning.proofs.Filling.{lam_beta, fun_beta, arg_beta}
 
 -- ---- weak head reduction

@@ -1,8 +1,7 @@
 -- Terms with other terms for all their variables at once, and what the putting in of one is by
 -- these.
 use Rattle.std.proofs.Common.{◌≡◌, ℕ, zero, suc, ◌+◌, Option, Some, None, refl, sym, ap, ◌∙◌, arith}
-use Rattle.ol_law_meaning.specs.Contraction.{Tree, var, free, lam, app, up_from, lift, suc_of, without, put}
-use Rattle.ol_law_meaning.specs.Contraction.{subst_for}
+use Rattle.ol_law_meaning.specs.Contraction.{Tree, var, free, lam, app, up_from, lift, suc_of, without, put, subst_for}
 use Rattle.ol_beta.specs.Beta.{substituted}
 use Rattle.ol_law_meaning.proofs.LeftmostSteps.{subst_is}
 

@@ -2,17 +2,12 @@
 use Rattle.std.proofs.Common.{◌≡◌, ◌≤◌, ℕ, suc, ◌+◌, List, [], ◌∷◌, ◌++◌, map, Bool, true, false}
 use Rattle.std.proofs.Common.{cond, nat_eq, eqb-true, refl, sym, ap, ◌∙◌, subst, arith}
 use Rattle.std.specs.Str.{bytes_eq}
-use Rattle.ol_parse.specs.Grammar.{Named, Token, name, let_key, in_key, lambda, dot, equals}
-use Rattle.ol_parse.specs.Grammar.{open_bracket, close_bracket}
-use Rattle.ol_parse.specs.Grammar.{IsTerm, term_body, term_spine, term_both, IsSpine, spine_one}
-use Rattle.ol_parse.specs.Grammar.{spine_more}
-use Rattle.ol_parse.specs.Grammar.{IsAtom, atom_name, atom_brackets, IsBody, body_lambda, body_let}
-use Rattle.ol_parse.specs.Texts.{Class, blank, hash, letter, digit, sign, lead, other, class_of}
-use Rattle.ol_parse.specs.Texts.{in_word, token_of, is_word}
-use Rattle.ol_parse.specs.Texts.{IsGap, gap_none, gap_blank, gap_comment, IsLastGap, last_gap}
-use Rattle.ol_parse.specs.Texts.{last_comment}
-use Rattle.ol_parse.specs.Texts.{IsToken, token_sign, token_letter, token_word, Spells, spells_none}
-use Rattle.ol_parse.specs.Texts.{spells_one, IsText}
+use Rattle.ol_parse.specs.Grammar.{Named, Token, name, let_key, in_key, lambda, dot, equals, open_bracket}
+use Rattle.ol_parse.specs.Grammar.{close_bracket, IsTerm, term_body, term_spine, term_both, IsSpine, spine_one}
+use Rattle.ol_parse.specs.Grammar.{spine_more, IsAtom, atom_name, atom_brackets, IsBody, body_lambda, body_let}
+use Rattle.ol_parse.specs.Texts.{Class, blank, hash, letter, digit, sign, lead, other, class_of, in_word, token_of}
+use Rattle.ol_parse.specs.Texts.{is_word, IsGap, gap_none, gap_blank, gap_comment, IsLastGap, last_gap, last_comment}
+use Rattle.ol_parse.specs.Texts.{IsToken, token_sign, token_letter, token_word, Spells, spells_none, spells_one, IsText}
 use Rattle.ol_parse.proofs.Spelling.{sign_no_word}
 use Rattle.ol_law_confluence.proofs.Counts.{times, times_append, skipped, met, other_than, none_in_word}
 

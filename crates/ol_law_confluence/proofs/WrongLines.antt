@@ -14,7 +14,8 @@ use Rattle.ol_law_confluence.proofs.Meetings.{convertible_normal}
 use Rattle.ol_law_confluence.proofs.Renamings.{number_of_one}
 use Rattle.ol_law_confluence.proofs.WrongComparisons.{letters_apart}
 use Rattle.ol_law_confluence.specs.NormalForms.{IsNormalFormOf, IsNormalForm}
-use Rattle.ol_law_confluence.specs.WrongLines.{a, b, redex, two_redexes, NormalFormIsReduced, OtherTermMisleads, ReductMisleads, NamesAreApart}
+use Rattle.ol_law_confluence.specs.WrongLines.{a, b, redex, two_redexes, NormalFormIsReduced, OtherTermMisleads}
+use Rattle.ol_law_confluence.specs.WrongLines.{ReductMisleads, NamesAreApart}
 
 stays : (u : Tree) → BetaReduces (tree.free 0) u → u ≡ tree.free 0
 stays u ready = refl

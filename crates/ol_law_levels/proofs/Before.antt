@@ -8,8 +8,7 @@ use Rattle.ol_net.specs.Nets.{NamedPort, slot, NamedNet, Faces}
 use Rattle.ol_net.specs.Parts.{arity}
 use Rattle.ol_net.specs.declared.parts.Kind.{Kind}
 use Rattle.ol_rules.proofs.FreshPairs.{linked_sym}
-use Rattle.ol_law_levels.specs.Unblocked.{Change, rise, fall, ComesOut, Reaches, begins, along, rises}
-use Rattle.ol_law_levels.specs.Unblocked.{falls, alike}
+use Rattle.ol_law_levels.specs.Unblocked.{Change, rise, fall, ComesOut, Reaches, begins, along, rises, falls, alike}
 
 -- the same contexts come out
 abbrev pub Alike : List Change → List Change → Type 0

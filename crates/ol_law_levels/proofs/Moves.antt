@@ -1,9 +1,8 @@
 -- Walks over a net in boxes: where they stand, and that they are not blocked.
 use Rattle.std.proofs.Common.{◌≡◌, ℕ, zero, suc, ◌<◌, List, [], ◌∷◌, length, ◌↔◌, refl, sym, ap, ◌∙◌, subst, arith}
-use Rattle.ol_context.specs.Contexts.{Context, cons, empty, at_level, mark, packed, up}
+use Rattle.ol_context.specs.Contexts.{Context, cons, empty, at_level, mark, packed, up, IsCrosser}
 use Rattle.ol_law_edges.proofs.Joining.{joined_trans}
 use Rattle.ol_law_edges.specs.Edges.{here, on, back}
-use Rattle.ol_context.specs.Contexts.{IsCrosser}
 use Rattle.ol_law_levels.specs.Levels.{IsLevelled}
 use Rattle.ol_net.specs.Nets.{NamedPort, slot, NamedNet, HasNode, Linked, IsNet}
 use Rattle.ol_net.specs.Parts.{arity}

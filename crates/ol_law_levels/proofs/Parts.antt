@@ -11,11 +11,10 @@ use Rattle.ol_net.specs.declared.parts.Kind.{Kind}
 use Rattle.ol_net.specs.declared.parts.Kind.TheVariants as kind
 use Rattle.ol_net.specs.declared.parts.Port.{Port}
 use Rattle.ol_net.specs.declared.parts.Port.TheVariants.{Free, Of}
-use Rattle.ol_translate.specs.Translation.{Subnet, subnet_of, occurrence, abstraction, application}
-use Rattle.ol_translate.specs.Translation.{application_to, applied, bare_variable, erasers}
-use Rattle.ol_translate.specs.Translation.{bound_port, outside, bracket_nodes, bracket_links}
-use Rattle.ol_translate.specs.Translation.{past_brackets, fans, fan_nodes, fan_links, merged}
-use Rattle.ol_translate.specs.Translation.{wire_of, reconnected, slot_port}
+use Rattle.ol_translate.specs.Translation.{Subnet, subnet_of, occurrence, abstraction, application, application_to}
+use Rattle.ol_translate.specs.Translation.{applied, bare_variable, erasers, bound_port, outside, bracket_nodes}
+use Rattle.ol_translate.specs.Translation.{bracket_links, past_brackets, fans, fan_nodes, fan_links, merged, wire_of}
+use Rattle.ol_translate.specs.Translation.{reconnected, slot_port}
 use Rattle.ol_translate.proofs.Walks.{length-bracket_nodes}
 use Rattle.ol_law_meaning.proofs.Fans.{Holds, Links, holds_append, by_wire, wire_here, wire_later}
 use Rattle.ol_law_levels.specs.Levels.{depth_beside, out_beside}

@@ -5,11 +5,10 @@ use Rattle.ol_net.specs.declared.parts.Kind.{Kind}
 use Rattle.ol_net.specs.declared.parts.Kind.TheVariants as kind
 use Rattle.ol_net.specs.Parts.{arity}
 use Rattle.ol_net.specs.Nets.{NamedNet, NamedPort, slot, HasNode, Linked}
-use Rattle.ol_context.specs.Contexts.{Context, empty, up, IsCrosser}
+use Rattle.ol_context.specs.Contexts.{Context, empty, up, IsCrosser, Level}
 use Rattle.ol_law_levels.specs.Levels.{IsLevelled}
 use Rattle.ol_law_levels.specs.Rings.{Descends, HasNoRing, Token, IsPlaced, AreNear, PlacedHasNoRing}
 use Rattle.ol_law_levels.specs.Rings as rings
-use Rattle.ol_context.specs.Contexts.{Level}
 use Rattle.ol_rules.proofs.FreshPairs.{linked_sym}
 
 module _ {A : Type 0} where

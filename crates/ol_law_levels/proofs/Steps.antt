@@ -1,8 +1,7 @@
 -- A step of a levelled net leaves a levelled net.
 -- Used in Runs, for `step_keeps_levels`, and in crates above.
-use Rattle.std.proofs.Common.{◌≡◌, ◌≢◌, ℕ, zero, suc, ◌+◌, ◌-◌, ◌<◌, Bool, true, false, not, nat_lt}
-use Rattle.std.proofs.Common.{if◌then◌else◌, Option, Some, None, inl, inr, refl, sym, ap, ◌∙◌}
-use Rattle.std.proofs.Common.{subst, arith}
+use Rattle.std.proofs.Common.{◌≡◌, ◌≢◌, ℕ, zero, suc, ◌+◌, ◌-◌, ◌<◌, Bool, true, false, not, nat_lt, if◌then◌else◌}
+use Rattle.std.proofs.Common.{Option, Some, None, inl, inr, refl, sym, ap, ◌∙◌, subst, arith}
 use Rattle.ol_law_edges.specs.Edges.{IsTest}
 use Rattle.ol_law_edges.proofs.Lists.{if_below, if_above}
 use Rattle.ol_net.specs.Nets.{NamedPort, free, slot, NamedNet, HasNode, Linked, IsNet, Faces}
@@ -14,7 +13,8 @@ use Rattle.ol_rules.specs.Laws.{IsFresh}
 use Rattle.ol_rules.specs.Rewriting.{Action, meeting, crossing, action_of, NodeOf, left, of_f, of_g, Rewrites}
 use Rattle.ol_law_levels.specs.Levels.{CanStand, depth_beside, out_beside, IsLevelled}
 use Rattle.ol_law_levels.specs.Laws.{StepKeepsLevels}
-use Rattle.ol_law_levels.proofs.Copies.{depth_of, out_of, g_depths, g_outs, f_depths, f_outs, joined_depth, IsThere, turned}
+use Rattle.ol_law_levels.proofs.Copies.{depth_of, out_of, g_depths, g_outs, f_depths, f_outs, joined_depth, IsThere}
+use Rattle.ol_law_levels.proofs.Copies.{turned}
 use Rattle.ol_law_levels.proofs.Table.{Suits, rule_suits}
 
 module _ {A : Type 0} (same : A → A → Bool) (t : IsTest same) (born : ℕ → A) where

@@ -2,7 +2,7 @@
 -- Used in Tops and Examples, for the two laws of stuck pairs, and in crates above.
 use Rattle.std.proofs.Common.{◌≡◌, ◌≢◌, ℕ, zero, suc, ◌<◌, ◌≤◌, Bool, true, false, not, None, ◌⊎◌}
 use Rattle.std.proofs.Common.{inl, inr, refl, sym, ap, ◌∙◌, subst, arith, nat_eq, eq-eqb, ne_eqb}
-use Rattle.ol_context.specs.Contexts.{Level, empty, o, star, pair, Context, tail, marked, change, up}
+use Rattle.ol_context.specs.Contexts.{Level, empty, o, star, pair, Context, tail, marked, change, up, IsCrosser}
 use Rattle.ol_context.proofs.Contexts.{tail_eq}
 use Rattle.ol_context.specs.Paths.{Crosses, inward, outward, Through, through, Path, ends, goes}
 use Rattle.ol_context.specs.Ways.{Way, start, on}
@@ -15,7 +15,6 @@ use Rattle.ol_net.specs.declared.parts.Kind.{Kind}
 use Rattle.ol_net.specs.declared.parts.Kind.TheVariants as kind
 use Rattle.ol_law_levels.specs.Levels.{CanStand, IsLevelled}
 use Rattle.ol_law_levels.specs.Laws.{StuckPairsAreOfSharing, NoWalkCrossesAStuckPair, StuckPairsStopWalks}
-use Rattle.ol_context.specs.Contexts.{IsCrosser}
 
 -- ---- which pairs are stuck
 

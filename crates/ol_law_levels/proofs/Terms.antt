@@ -1,8 +1,7 @@
 -- The net of a term is levelled.
 -- Used in Sources and WrongTables, for `term_is_levelled`, and in crates above.
-use Rattle.std.proofs.Common.{◌≡◌, ℕ, zero, suc, ◌+◌, ◌<◌, List, [], ◌∷◌, Bool, true, false, not}
-use Rattle.std.proofs.Common.{if◌then◌else◌, Option, None, Some, ◌⊎◌, inl, inr, refl, sym, ap, ◌∙◌}
-use Rattle.std.proofs.Common.{arith, subst}
+use Rattle.std.proofs.Common.{◌≡◌, ℕ, zero, suc, ◌+◌, ◌<◌, List, [], ◌∷◌, Bool, true, false, not, if◌then◌else◌, Option}
+use Rattle.std.proofs.Common.{None, Some, ◌⊎◌, inl, inr, refl, sym, ap, ◌∙◌, arith, subst}
 use Rattle.std.specs.Prelude.{slice_get}
 use Rattle.ol_law_edges.specs.Edges.{IsIn}
 use Rattle.ol_law_edges.proofs.Lists.{in_map_of}
@@ -21,9 +20,8 @@ use Rattle.ol_translate.proofs.Whole.{translation_net, port_of, port_back, port_
 use Rattle.ol_law_meaning.proofs.Fans.{Holds, Links}
 use Rattle.ol_law_levels.specs.Levels.{CanStand, depth_beside, out_beside, IsLevelled}
 use Rattle.ol_law_levels.specs.Laws.{TermIsLevelled}
-use Rattle.ol_law_levels.proofs.Parts.{depth_first, out_first, depth_slot, out_slot, erased, links_join}
-use Rattle.ol_law_levels.proofs.Parts.{depth_at, out_at, erased_at, At, Fits, H, Wired, FitsPart}
-use Rattle.ol_law_levels.proofs.Parts.{fits_term, meets}
+use Rattle.ol_law_levels.proofs.Parts.{depth_first, out_first, depth_slot, out_slot, erased, links_join, depth_at}
+use Rattle.ol_law_levels.proofs.Parts.{out_at, erased_at, At, Fits, H, Wired, FitsPart, fits_term, meets}
 
 -- ---- the nodes of a list and their numbers
 

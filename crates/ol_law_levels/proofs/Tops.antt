@@ -14,9 +14,8 @@ use Rattle.ol_net.specs.declared.parts.Kind.{Kind}
 use Rattle.ol_net.specs.declared.parts.Rule.{Rule}
 use Rattle.ol_readback.specs.Frames.{asked}
 use Rattle.ol_law_levels.specs.Levels.{IsLevelled}
-use Rattle.ol_law_levels.proofs.Climbs.{Rose, Climb, top, onward, Route, leaves, turns, falls}
-use Rattle.ol_law_levels.proofs.Climbs.{way_first, climb_way, Exit, climb_path, lower, few_ups}
-use Rattle.ol_law_levels.proofs.Climbs.{few_downs}
+use Rattle.ol_law_levels.proofs.Climbs.{Rose, Climb, top, onward, Route, leaves, turns, falls, way_first, climb_way}
+use Rattle.ol_law_levels.proofs.Climbs.{Exit, climb_path, lower, few_ups, few_downs}
 use Rattle.ol_law_levels.proofs.Stuck.{no_walk_crosses}
 use Rattle.ol_readback.proofs.Enough.{asked_filled}
 

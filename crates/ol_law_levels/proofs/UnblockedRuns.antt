@@ -1,10 +1,9 @@
 -- Runs of unblocked nets, and that no pair of such a net is stuck.
 use Rattle.std.proofs.Common.{suc, ◌<◌, ◌≤◌, [], ◌∷◌, inl, inr, refl, arith}
-use Rattle.ol_context.specs.Contexts.{up}
+use Rattle.ol_context.specs.Contexts.{up, IsCrosser}
 use Rattle.ol_context.specs.Paths.{inward, outward}
 use Rattle.ol_law_levels.proofs.Runs.{run_keeps}
 use Rattle.ol_law_levels.proofs.Stuck as stuck
-use Rattle.ol_context.specs.Contexts.{IsCrosser}
 use Rattle.ol_law_levels.specs.Levels.{IsLevelled}
 use Rattle.ol_net.specs.Nets.{NamedNet, IsNet, slot}
 use Rattle.ol_net.specs.Parts.{arity}

@@ -1,12 +1,10 @@
 -- A step of an unblocked net leaves an unblocked net.
 -- Used in Runs, for `step_keeps_unblocked`.
-use Rattle.std.proofs.Common.{◌≡◌, ℕ, zero, suc, ◌+◌, ◌<◌, ◌≤◌, List, [], ◌∷◌, refl, sym}
-use Rattle.std.proofs.Common.{◌∙◌, subst}
-use Rattle.ol_context.specs.Contexts.{Context, up}
+use Rattle.std.proofs.Common.{◌≡◌, ℕ, zero, suc, ◌+◌, ◌<◌, ◌≤◌, List, [], ◌∷◌, refl, sym, ◌∙◌, subst}
+use Rattle.ol_context.specs.Contexts.{Context, up, IsCrosser}
 use Rattle.ol_law_edges.specs.Edges.{Joined, here, on, back}
 use Rattle.ol_invariance.proofs.Moves.{Meets, Commutes, Suits}
 use Rattle.ol_invariance.proofs.Table.{rule_suits}
-use Rattle.ol_context.specs.Contexts.{IsCrosser}
 use Rattle.ol_net.specs.Nets.{NamedPort, free, slot, NamedNet, HasNode, Linked, IsPort, IsNet, Faces}
 use Rattle.ol_net.specs.Parts.{arity}
 use Rattle.ol_net.specs.declared.parts.Kind.{Kind}
@@ -16,8 +14,7 @@ use Rattle.ol_rules.proofs.Wires.{Join, Wire, stays, join}
 use Rattle.ol_rules.proofs.Wires as wires
 use Rattle.ol_rules.specs.Contracting.{Vertex, old, f_copy, g_copy}
 use Rattle.ol_rules.specs.Laws.{IsFresh}
-use Rattle.ol_rules.specs.Rewriting.{Action, meeting, crossing, action_of, NodeOf, left, of_f, of_g}
-use Rattle.ol_rules.specs.Rewriting.{Rewrites}
+use Rattle.ol_rules.specs.Rewriting.{Action, meeting, crossing, action_of, NodeOf, left, of_f, of_g, Rewrites}
 use Rattle.ol_law_levels.specs.UnblockedLaws.{StepKeepsUnblocked}
 use Rattle.ol_law_levels.specs.Unblocked.{Change, rise, fall, ComesOut, Reaches, begins, along, rises}
 use Rattle.ol_law_levels.specs.Unblocked.{falls, alike, IsUnblocked}

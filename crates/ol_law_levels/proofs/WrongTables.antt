@@ -11,9 +11,8 @@ use Rattle.ol_term.specs.declared.translations.Translation.TheVariants.{One}
 use Rattle.ol_translate.specs.Names.{HasNames}
 use Rattle.ol_translate.specs.Translation.{translation_of}
 use Rattle.ol_law_levels.specs.Levels.{CanStand, IsLevelled}
-use Rattle.ol_law_levels.specs.WrongTables.{application_net, RightIndexesAreLevelled}
-use Rattle.ol_law_levels.specs.WrongTables.{GreaterIndexesAreNot, MayHaveInPlace}
-use Rattle.ol_law_levels.specs.WrongTables.{LowerIndexesKeepLevels}
+use Rattle.ol_law_levels.specs.WrongTables.{application_net, RightIndexesAreLevelled, GreaterIndexesAreNot}
+use Rattle.ol_law_levels.specs.WrongTables.{MayHaveInPlace, LowerIndexesKeepLevels}
 use Rattle.ol_law_levels.proofs.Terms.{term_is_levelled}
 
 -- ---- the right ones

@@ -4,13 +4,12 @@ use Rattle.std.proofs.Common.{Option, Some, None, refl, sym, ap, ◌∙◌, subs
 use Rattle.std.proofs.lemmas.Bool.Decides.{nat_tests}
 use Rattle.std.proofs.Math.Dec.{eqb-suc-suc, eqb-zero-suc, eqb-suc-zero}
 use Rattle.std.proofs.lemmas.Bool.{or_left, or_right, eqb-true}
-use Rattle.ol_law_meaning.specs.Contraction.{Tree, var, free, lam, app, Level, o, star, Wire, bound, name}
-use Rattle.ol_law_meaning.specs.Contraction.{under, occurs, left, right, lift, lifted_wire, up_from, without}
-use Rattle.ol_law_meaning.specs.Contraction.{wire_without, wire_of, suc_of, put, subst_for, Tag, ofM, ofN}
-use Rattle.ol_law_meaning.specs.Contraction.{WireOf, same, other, named, own, lam_m, lam_n, fun_m, arg_m}
-use Rattle.ol_law_meaning.specs.Contraction.{fun_n, arg_n, is_bare, boxed, IsRight, IsLevelOf, IsSpotOf, Spot}
-use Rattle.ol_law_meaning.specs.Contraction.{Edge, var_wire, free_wire, lam_root, lam_own, lam_wire, app_root}
-use Rattle.ol_law_meaning.specs.Contraction.{app_arg, app_left, app_right, in_body, in_fun, in_arg}
+use Rattle.ol_law_meaning.specs.Contraction.{Tree, var, free, lam, app, Level, o, star, Wire, bound, name, under}
+use Rattle.ol_law_meaning.specs.Contraction.{occurs, left, right, lift, lifted_wire, up_from, without, wire_without}
+use Rattle.ol_law_meaning.specs.Contraction.{wire_of, suc_of, put, subst_for, Tag, ofM, ofN, WireOf, same, other, named}
+use Rattle.ol_law_meaning.specs.Contraction.{own, lam_m, lam_n, fun_m, arg_m, fun_n, arg_n, is_bare, boxed, IsRight}
+use Rattle.ol_law_meaning.specs.Contraction.{IsLevelOf, IsSpotOf, Spot, Edge, var_wire, free_wire, lam_root, lam_own}
+use Rattle.ol_law_meaning.specs.Contraction.{lam_wire, app_root, app_arg, app_left, app_right, in_body, in_fun, in_arg}
 use Rattle.ol_law_meaning.proofs.Lifts.{same_is, occurs_lifted, bare_lifted}
 use Rattle.ol_law_meaning.proofs.Bare.{right_like}
 use Rattle.ol_term.specs.declared.translations.Translation.TheVariants.{One, Two}

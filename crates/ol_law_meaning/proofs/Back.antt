@@ -1,25 +1,21 @@
 -- From the term with N put in to the cut.
 use Rattle.std.proofs.Common.{◌≡◌, ℕ, zero, suc, true, false, Option, Some, None, refl, sym, ap, ◌∙◌, subst, arith}
 use Rattle.std.proofs.lemmas.Bool.{or_left, or_right, eqb-true}
-use Rattle.ol_law_meaning.specs.Contraction.{Tree, var, free, lam, app, Level, empty, o, star, Context, Wire}
-use Rattle.ol_law_meaning.specs.Contraction.{bound, name, under, root, wire, Spot, at, body, fun, arg, Edge}
-use Rattle.ol_law_meaning.specs.Contraction.{var_wire, free_wire, lam_root, lam_own, lam_wire, app_root}
-use Rattle.ol_law_meaning.specs.Contraction.{app_arg, app_left, app_right, in_body, in_fun, in_arg, Trail}
-use Rattle.ol_law_meaning.specs.Contraction.{here, occurs, left, right, lift, up_from, lifted_wire, lifted}
-use Rattle.ol_law_meaning.specs.Contraction.{without, suc_of, wire_without, wire_of, put, subst_for, Cut, inM}
-use Rattle.ol_law_meaning.specs.Contraction.{inN, CutEdge, of_m, of_n, joint, ofM, ofN, WireOf, same, other}
-use Rattle.ol_law_meaning.specs.Contraction.{named, own, lam_m, lam_n, fun_m, arg_m, fun_n, arg_n, Held}
-use Rattle.ol_law_meaning.specs.Contraction.{at_root, wire_m, wire_n, x_spot, x_wire, p_body, p_fun, p_arg}
-use Rattle.ol_law_meaning.specs.Contraction.{n_body, n_fun, n_arg, i_body, i_fun, i_arg, IsRight, IsLevelOf}
-use Rattle.ol_law_meaning.specs.Contraction.{IsSpotOf, on, back}
+use Rattle.ol_law_meaning.specs.Contraction.{Tree, var, free, lam, app, Level, empty, o, star, Context, Wire, bound}
+use Rattle.ol_law_meaning.specs.Contraction.{name, under, root, wire, Spot, at, body, fun, arg, Edge, var_wire}
+use Rattle.ol_law_meaning.specs.Contraction.{free_wire, lam_root, lam_own, lam_wire, app_root, app_arg, app_left}
+use Rattle.ol_law_meaning.specs.Contraction.{app_right, in_body, in_fun, in_arg, Trail, here, occurs, left, right, lift}
+use Rattle.ol_law_meaning.specs.Contraction.{up_from, lifted_wire, lifted, without, suc_of, wire_without, wire_of, put}
+use Rattle.ol_law_meaning.specs.Contraction.{subst_for, Cut, inM, inN, CutEdge, of_m, of_n, joint, ofM, ofN, WireOf}
+use Rattle.ol_law_meaning.specs.Contraction.{same, other, named, own, lam_m, lam_n, fun_m, arg_m, fun_n, arg_n, Held}
+use Rattle.ol_law_meaning.specs.Contraction.{at_root, wire_m, wire_n, x_spot, x_wire, p_body, p_fun, p_arg, n_body}
+use Rattle.ol_law_meaning.specs.Contraction.{n_fun, n_arg, i_body, i_fun, i_arg, IsRight, IsLevelOf, IsSpotOf, on, back}
 use Rattle.ol_law_meaning.proofs.Lifts.{same_is, occurs_lifted, lift_finds}
 use Rattle.ol_law_meaning.proofs.Trails.{tr_trans, tr_map, one, one_back, tr_sym}
-use Rattle.ol_law_meaning.proofs.Addresses.{gone, without_is, without_own, left_one, right_one}
-use Rattle.ol_law_meaning.proofs.Addresses.{sides_apart, occurs_new, occurs_old, own_occurs}
-use Rattle.ol_law_meaning.proofs.Addresses.{occurs_same, occurs_more, in_body_of, own_same, zero_lifted}
-use Rattle.ol_law_meaning.proofs.Addresses.{address_same, left_same, own_gone, bare_same, level_own}
-use Rattle.ol_law_meaning.proofs.Addresses.{level_old, lam_level, app_level, var_level, free_level}
-use Rattle.ol_law_meaning.proofs.Addresses.{spot_from, spot_to}
+use Rattle.ol_law_meaning.proofs.Addresses.{gone, without_is, without_own, left_one, right_one, sides_apart, occurs_new}
+use Rattle.ol_law_meaning.proofs.Addresses.{occurs_old, own_occurs, occurs_same, occurs_more, in_body_of, own_same}
+use Rattle.ol_law_meaning.proofs.Addresses.{zero_lifted, address_same, left_same, own_gone, bare_same, level_own}
+use Rattle.ol_law_meaning.proofs.Addresses.{level_old, lam_level, app_level, var_level, free_level, spot_from, spot_to}
 use Rattle.ol_law_meaning.proofs.There.{own_wire_occurs}
 use Rattle.ol_law_meaning.proofs.Bare.{right_like}
 use Rattle.ol_term.specs.declared.translations.Translation.{Translation}

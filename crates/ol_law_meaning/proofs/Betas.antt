@@ -1,13 +1,12 @@
 -- A step at a redex, both ways.
 use Rattle.std.proofs.Common.{inr, ◌≡◌, ℕ, zero, suc, ◌+◌, true, false, Some, refl, sym, ap, ◌∙◌, subst, arith}
 use Rattle.std.proofs.lemmas.Bool.{or_left, or_right}
-use Rattle.ol_law_meaning.specs.Contraction.{fun, o, app_arg, in_arg, lam_top, Tree, lam, app, Level, Context}
-use Rattle.ol_law_meaning.specs.Contraction.{Wire, bound, name, under, occurs, left, right, lifted_wire}
-use Rattle.ol_law_meaning.specs.Contraction.{wire_without, subst_for, Place, root, wire, Spot, at, arg, Edge}
-use Rattle.ol_law_meaning.specs.Contraction.{lam_root, lam_wire, app_root, app_left, app_right, in_fun, Trail}
-use Rattle.ol_law_meaning.specs.Contraction.{here, on, back, Cut, inM, inN, CutEdge, ofM, ofN, WireOf, own}
-use Rattle.ol_law_meaning.specs.Contraction.{lam_n, fun_n, arg_n, Held, at_root, wire_m, wire_n, Opens, top}
-use Rattle.ol_law_meaning.specs.Contraction.{side_m, side_n, IsRight, IsLevelOf}
+use Rattle.ol_law_meaning.specs.Contraction.{fun, o, app_arg, in_arg, lam_top, Tree, lam, app, Level, Context, Wire}
+use Rattle.ol_law_meaning.specs.Contraction.{bound, name, under, occurs, left, right, lifted_wire, wire_without}
+use Rattle.ol_law_meaning.specs.Contraction.{subst_for, Place, root, wire, Spot, at, arg, Edge, lam_root, lam_wire}
+use Rattle.ol_law_meaning.specs.Contraction.{app_root, app_left, app_right, in_fun, Trail, here, on, back, Cut, inM}
+use Rattle.ol_law_meaning.specs.Contraction.{inN, CutEdge, ofM, ofN, WireOf, own, lam_n, fun_n, arg_n, Held, at_root}
+use Rattle.ol_law_meaning.specs.Contraction.{wire_m, wire_n, Opens, top, side_m, side_n, IsRight, IsLevelOf}
 use Rattle.ol_law_meaning.specs.Steps.{SameRedex, redex_root, redex_m, redex_n}
 use Rattle.ol_law_meaning.proofs.Trails.{tr_trans, tr_sym, one_back}
 use Rattle.ol_law_meaning.proofs.Addresses.{gone, occurs_new, occurs_old, own_occurs, level_copied}

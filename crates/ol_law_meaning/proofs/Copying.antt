@@ -1,12 +1,11 @@
 -- The copies of N in M[N].
 use Rattle.std.proofs.Common.{◌≡◌, ℕ, suc, true, nat_eq, None, refl, sym, ◌∙◌, subst}
 use Rattle.std.proofs.lemmas.Bool.{or_left, or_right}
-use Rattle.ol_law_meaning.specs.Contraction.{Tree, var, lam, app, left, without, empty, Level, Context, Wire}
-use Rattle.ol_law_meaning.specs.Contraction.{bound, wire, Spot, at, body, fun, arg, Edge, app_left, app_right}
-use Rattle.ol_law_meaning.specs.Contraction.{lam_wire, in_body, in_fun, in_arg, Trail, here, occurs, lift}
-use Rattle.ol_law_meaning.specs.Contraction.{lifted, lifted_wire, put, subst_for, inN, ofN, WireOf, own}
-use Rattle.ol_law_meaning.specs.Contraction.{lam_n, fun_n, arg_n, Held, x_spot, wire_n, n_body, n_fun, n_arg}
-use Rattle.ol_law_meaning.specs.Contraction.{IsRight}
+use Rattle.ol_law_meaning.specs.Contraction.{Tree, var, lam, app, left, without, empty, Level, Context, Wire, bound}
+use Rattle.ol_law_meaning.specs.Contraction.{wire, Spot, at, body, fun, arg, Edge, app_left, app_right, lam_wire}
+use Rattle.ol_law_meaning.specs.Contraction.{in_body, in_fun, in_arg, Trail, here, occurs, lift, lifted, lifted_wire}
+use Rattle.ol_law_meaning.specs.Contraction.{put, subst_for, inN, ofN, WireOf, own, lam_n, fun_n, arg_n, Held, x_spot}
+use Rattle.ol_law_meaning.specs.Contraction.{wire_n, n_body, n_fun, n_arg, IsRight}
 use Rattle.ol_law_meaning.proofs.Lifts.{lift_keeps, same_is}
 use Rattle.ol_law_meaning.proofs.Addresses.{left_one, right_one, sides_apart, occurs_new, own_occurs, without_is}
 use Rattle.ol_law_meaning.proofs.Trails.{tr_trans, one_back, tr_body, tr_fun, tr_arg}

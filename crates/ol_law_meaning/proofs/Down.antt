@@ -1,7 +1,6 @@
 -- A walk that comes to a part's root or wire from outside, at a spot.
-use Rattle.std.proofs.Common.{◌≡◌, ℕ, zero, suc, ◌<◌, ◌+◌, [], ◌∷◌, length, true, false, nat_eq}
-use Rattle.std.proofs.Common.{Option, None, Some, ◌⊎◌, inl, inr, refl, sym, ap, ◌∙◌, arith, subst}
-use Rattle.std.proofs.Common.{eq-eqb}
+use Rattle.std.proofs.Common.{◌≡◌, ℕ, zero, suc, ◌<◌, ◌+◌, [], ◌∷◌, length, true, false, nat_eq, Option, None, Some}
+use Rattle.std.proofs.Common.{◌⊎◌, inl, inr, refl, sym, ap, ◌∙◌, arith, subst, eq-eqb}
 use Rattle.std.proofs.lemmas.Bool.Decides.{nat_tests}
 use Rattle.std.proofs.lemmas.Bool.{and_parts}
 use Rattle.ol_term.specs.declared.translations.Translation.{Translation}
@@ -17,22 +16,19 @@ use Rattle.ol_context.proofs.Contexts.{eta}
 use Rattle.ol_translate.specs.Translation.{Subnet, subnet_of, applied, bare_variable, wire_of}
 use Rattle.ol_translate.specs.Translation.{bound_port, erasers, slot_port}
 use Rattle.ol_translate.proofs.Joints.{few_wires}
-use Rattle.ol_law_meaning.specs.Spots.{Wire, bound, name, under, occurs, left, root, wire, Spot, at}
-use Rattle.ol_law_meaning.specs.Spots.{body, fun, arg, Edge, var_wire, free_wire, lam_root, lam_own}
-use Rattle.ol_law_meaning.specs.Spots.{lam_wire, app_root, app_arg, app_left, app_right, in_arg}
-use Rattle.ol_law_meaning.specs.Spots.{Trail, here}
+use Rattle.ol_law_meaning.specs.Spots.{Wire, bound, name, under, occurs, left, root, wire, Spot, at, body, fun, arg}
+use Rattle.ol_law_meaning.specs.Spots.{Edge, var_wire, free_wire, lam_root, lam_own, lam_wire, app_root, app_arg}
+use Rattle.ol_law_meaning.specs.Spots.{app_left, app_right, in_arg, Trail, here}
 use Rattle.ol_law_meaning.proofs.Fans.{Holds, Merges, outside_wire, wire_here}
 use Rattle.ol_law_meaning.proofs.Bare.{packed_right, bare_right, is_wire, has_box, wire_edge}
-use Rattle.ol_law_meaning.proofs.Parts.{Has, argument, HasLam, has_lam, Wires, has_app, HasAppTo}
-use Rattle.ol_law_meaning.proofs.Parts.{has_app_to, has_head, applied_root, bare_occurs, bare_lacks}
-use Rattle.ol_law_meaning.proofs.Parts.{key, IsInside, key_under, some, has_wire, wire_there}
-use Rattle.ol_law_meaning.proofs.Parts.{wire_not, occurs_inside, occurs_lam}
+use Rattle.ol_law_meaning.proofs.Parts.{Has, argument, HasLam, has_lam, Wires, has_app, HasAppTo, has_app_to, has_head}
+use Rattle.ol_law_meaning.proofs.Parts.{applied_root, bare_occurs, bare_lacks, key, IsInside, key_under, some, has_wire}
+use Rattle.ol_law_meaning.proofs.Parts.{wire_there, wire_not, occurs_inside, occurs_lam}
 use Rattle.ol_law_meaning.proofs.States.{Before, before_arg, S, H, L, at_port, bare_state, arg_state}
 use Rattle.ol_law_meaning.proofs.States.{state, if_true, if_false, bool_or}
 use Rattle.ol_law_meaning.proofs.Trails.{tr_trans, one, one_back, tr_body, tr_fun, tr_arg}
-use Rattle.ol_law_meaning.proofs.Turns.{no_principal, of_control, Fits, Stands, Turn, Rest, Reaches}
-use Rattle.ol_law_meaning.proofs.Turns.{Resting, Next, turn_lift, turn_front, turn_in, turn_out}
-use Rattle.ol_law_meaning.proofs.Turns.{turn_eraser, of_cons, stands_port}
+use Rattle.ol_law_meaning.proofs.Turns.{no_principal, of_control, Fits, Stands, Turn, Rest, Reaches, Resting, Next}
+use Rattle.ol_law_meaning.proofs.Turns.{turn_lift, turn_front, turn_in, turn_out, turn_eraser, of_cons, stands_port}
 
 -- the levels of a context from the second on, put back
 pub eta2 : (c : Context) → cons (c 0) (cons (c 1) (tail (tail c))) ≡ c

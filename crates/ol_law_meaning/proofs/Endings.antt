@@ -13,8 +13,8 @@ use Rattle.ol_readback.specs.declared.answers.HeadVar.{HeadVar}
 use Rattle.ol_readback.specs.declared.answers.ReadNode.{ReadNode}
 use Rattle.ol_readback.specs.declared.answers.ReadNode.TheVariants as node
 use Rattle.ol_law_meaning.specs.Contraction.{Tree, lam, app}
-use Rattle.ol_law_meaning.specs.Shows.{ready, contract, LeftmostReduces, HeadReduces, HeadReducesForever, applied, Shows}
-use Rattle.ol_law_meaning.specs.Shows.{LacksHead}
+use Rattle.ol_law_meaning.specs.Shows.{ready, contract, LeftmostReduces, HeadReduces, HeadReducesForever, applied}
+use Rattle.ol_law_meaning.specs.Shows.{Shows, LacksHead}
 use Rattle.ol_law_meaning.proofs.LeftmostSteps.{leftmost_step, same_step}
 use Rattle.ol_law_meaning.proofs.HeadSteps.{step_of, redex_step, step_then}
 use Rattle.ol_law_meaning.proofs.LeftmostRoads.{IsNeutral, arg_leftmost, variable_neutral, StepsTo, step_before}

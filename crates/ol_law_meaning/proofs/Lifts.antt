@@ -2,11 +2,10 @@
 use Rattle.std.proofs.Common.{◌≡◌, ℕ, zero, suc, true, nat_eq, refl, sym, ap, ◌∙◌, subst, arith, ◌⊎◌, inl, inr}
 use Rattle.std.proofs.lemmas.Bool.Decides.{nat_tests}
 use Rattle.std.proofs.lemmas.Bool.{or_left, or_right, or_cases, eqb-true, eq-eqb}
-use Rattle.ol_law_meaning.specs.Contraction.{Tree, var, free, lam, app, Wire, bound, name, under, occurs}
-use Rattle.ol_law_meaning.specs.Contraction.{left, root, wire, Spot, at, body, fun, arg, Edge, var_wire}
-use Rattle.ol_law_meaning.specs.Contraction.{free_wire, lam_root, lam_own, lam_wire, app_root, app_arg}
-use Rattle.ol_law_meaning.specs.Contraction.{app_left, app_right, in_body, in_fun, in_arg, up_from, lift}
-use Rattle.ol_law_meaning.specs.Contraction.{lifted_wire, lifted, is_bare, IsRight}
+use Rattle.ol_law_meaning.specs.Contraction.{Tree, var, free, lam, app, Wire, bound, name, under, occurs, left, root}
+use Rattle.ol_law_meaning.specs.Contraction.{wire, Spot, at, body, fun, arg, Edge, var_wire, free_wire, lam_root}
+use Rattle.ol_law_meaning.specs.Contraction.{lam_own, lam_wire, app_root, app_arg, app_left, app_right, in_body, in_fun}
+use Rattle.ol_law_meaning.specs.Contraction.{in_arg, up_from, lift, lifted_wire, lifted, is_bare, IsRight}
 use Rattle.ol_law_meaning.proofs.Bare.{right_like}
 use Rattle.ol_term.specs.declared.translations.Translation.TheVariants.{One, Two}
 use Rattle.ol_term.specs.declared.translations.Translation.{Translation}

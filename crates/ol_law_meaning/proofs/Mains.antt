@@ -1,12 +1,11 @@
 -- A head step keeps where each spot of the interface leads to.
 use Rattle.std.proofs.Common.{◌<◌, ◌≡◌, ℕ, suc, ◌+◌, ◌≤◌, true, false, refl, sym, ap, ◌∙◌, subst, arith, ◌⊎◌, inl, inr}
 use Rattle.std.proofs.lemmas.Bool.{or_left, or_right}
-use Rattle.ol_law_meaning.specs.Contraction.{lam_own, empty, pair, body, lam_root, in_body, Tree, var, free}
-use Rattle.ol_law_meaning.specs.Contraction.{lam, app, Level, o, star, Context, Wire, bound, under, occurs}
-use Rattle.ol_law_meaning.specs.Contraction.{left, right, Place, root, wire, Spot, at, Edge, var_wire}
-use Rattle.ol_law_meaning.specs.Contraction.{free_wire, lam_wire, app_left, app_right, Trail, here, on, back}
-use Rattle.ol_law_meaning.specs.Contraction.{ofM, ofN, WireOf, is_abstraction, HeadStep, beta, below, before}
-use Rattle.ol_law_meaning.specs.Contraction.{Leads, IsSpotOf, Spot}
+use Rattle.ol_law_meaning.specs.Contraction.{lam_own, empty, pair, body, lam_root, in_body, Tree, var, free, lam, app}
+use Rattle.ol_law_meaning.specs.Contraction.{Level, o, star, Context, Wire, bound, under, occurs, left, right, Place}
+use Rattle.ol_law_meaning.specs.Contraction.{root, wire, Spot, at, Edge, var_wire, free_wire, lam_wire, app_left}
+use Rattle.ol_law_meaning.specs.Contraction.{app_right, Trail, here, on, back, ofM, ofN, WireOf, is_abstraction}
+use Rattle.ol_law_meaning.specs.Contraction.{HeadStep, beta, below, before, Leads, IsSpotOf}
 use Rattle.ol_law_meaning.specs.Steps.{SameRedex, redex_root, redex_m, redex_n, SameBelow, below_o}
 use Rattle.ol_law_meaning.specs.Steps.{below_star, below_wire, SameBefore, before_root, before_left}
 use Rattle.ol_law_meaning.specs.Steps.{before_right, Same, opened, Short}

@@ -1,7 +1,6 @@
 -- What an exit says against the frames: the variable that stands at the head.
-use Rattle.std.proofs.Common.{◌≡◌, ℕ, suc, ◌+◌, ◌-◌, ◌<◌, ◌≤◌, ◌==◌, Bool, true, false}
-use Rattle.std.proofs.Common.{if◌then◌else◌, inl, inr, List, [], ◌∷◌, ◌++◌, length, Option, Some}
-use Rattle.std.proofs.Common.{None, refl, sym, ap, ◌∙◌, subst, arith, append_assoc}
+use Rattle.std.proofs.Common.{◌≡◌, ℕ, suc, ◌+◌, ◌-◌, ◌<◌, ◌≤◌, ◌==◌, Bool, true, false, if◌then◌else◌, inl, inr, List}
+use Rattle.std.proofs.Common.{[], ◌∷◌, ◌++◌, length, Option, Some, None, refl, sym, ap, ◌∙◌, subst, arith, append_assoc}
 use Rattle.std.proofs.lemmas.Bool.{eqb-true, eq-eqb}
 use Rattle.std.proofs.lemmas.List.{length_push}
 use Rattle.ol_net.specs.Nets.{NamedNet}
@@ -15,7 +14,8 @@ use Rattle.ol_readback.proofs.Forests.{frame_stays, frame_last}
 use Rattle.ol_readback.specs.Terms.{index_of, variable_of}
 use Rattle.ol_readback.specs.declared.answers.HeadVar.{HeadVar}
 use Rattle.ol_readback.specs.declared.answers.HeadVar.TheVariants as head
-use Rattle.ol_law_meaning.specs.Contraction.{Tree, var, free, Level, empty, star, Context, cons, Wire, bound, name, Place, root}
+use Rattle.ol_law_meaning.specs.Contraction.{Tree, var, free, Level, empty, star, Context, cons, Wire, bound, name}
+use Rattle.ol_law_meaning.specs.Contraction.{Place, root}
 use Rattle.ol_law_meaning.specs.Heads.{os, outer, Steps, SameAlong}
 use Rattle.ol_law_meaning.specs.Seen.{ahead, unders, Chain, IsChain, scope, IsNotOf, LeavesAs, Seats, IsSeen}
 use Rattle.ol_law_meaning.proofs.Walking.{binder_of}

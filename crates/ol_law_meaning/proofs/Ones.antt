@@ -1,13 +1,10 @@
 -- A wire of M[N], with a level 0, is one wire of the cut, and the other way round.
 use Rattle.std.proofs.Common.{◌≡◌, ℕ, suc, ◌+◌, true, false, Some, None, refl, sym, ap, ◌∙◌, subst, arith}
-use Rattle.ol_law_meaning.specs.Contraction.{Tree, var, free, lam, app, Level, empty, Wire, bound, name}
-use Rattle.ol_law_meaning.specs.Contraction.{under, occurs, left, right, lifted_wire, without, subst_for, ofM}
-use Rattle.ol_law_meaning.specs.Contraction.{ofN, WireOf, same, other, named, own, lam_m, lam_n, fun_m, arg_m}
-use Rattle.ol_law_meaning.specs.Contraction.{fun_n, arg_n, IsRight}
-use Rattle.ol_law_meaning.proofs.Addresses.{left_one, right_one, sides_apart, occurs_new, occurs_old}
-use Rattle.ol_law_meaning.proofs.Addresses.{own_occurs, in_body_of, in_left_of, in_right_of}
-use Rattle.ol_law_meaning.proofs.Addresses.{address_same}
-use Rattle.ol_law_meaning.proofs.Addresses.{var_level, free_level}
+use Rattle.ol_law_meaning.specs.Contraction.{Tree, var, free, lam, app, Level, empty, Wire, bound, name, under, occurs}
+use Rattle.ol_law_meaning.specs.Contraction.{left, right, lifted_wire, without, subst_for, ofM, ofN, WireOf, same}
+use Rattle.ol_law_meaning.specs.Contraction.{other, named, own, lam_m, lam_n, fun_m, arg_m, fun_n, arg_n, IsRight}
+use Rattle.ol_law_meaning.proofs.Addresses.{left_one, right_one, sides_apart, occurs_new, occurs_old, own_occurs}
+use Rattle.ol_law_meaning.proofs.Addresses.{in_body_of, in_left_of, in_right_of, address_same, var_level, free_level}
 use Rattle.ol_law_meaning.proofs.Back.{of_n_occurs, left_m, left_n, right_m, right_n}
 use Rattle.ol_term.specs.declared.translations.Translation.{Translation}
 

@@ -1,7 +1,6 @@
 -- The nodes and links of a part's parts, and which wires it has.
-use Rattle.std.proofs.Common.{◌≡◌, ℕ, suc, ◌≤◌, ◌<◌, ◌+◌, List, [], ◌∷◌, ◌++◌, length, true, false}
-use Rattle.std.proofs.Common.{Bool, nat_eq, Option, None, Some, refl, sym, ap, ◌∙◌, arith, subst}
-use Rattle.std.proofs.Common.{length-append, ◌||◌, if◌then◌else◌}
+use Rattle.std.proofs.Common.{◌≡◌, ℕ, suc, ◌≤◌, ◌<◌, ◌+◌, List, [], ◌∷◌, ◌++◌, length, true, false, Bool, nat_eq}
+use Rattle.std.proofs.Common.{Option, None, Some, refl, sym, ap, ◌∙◌, arith, subst, length-append, ◌||◌, if◌then◌else◌}
 use Rattle.std.proofs.lemmas.Bool.Decides.{nat_tests}
 use Rattle.std.proofs.lemmas.Bool.{and_parts}
 use Rattle.ol_term.specs.declared.translations.Translation.{Translation}
@@ -9,10 +8,9 @@ use Rattle.ol_term.specs.Trees.{Tree, var, free, lam, app, is_below}
 use Rattle.ol_net.specs.declared.parts.Kind.{Kind}
 use Rattle.ol_net.specs.declared.parts.Kind.TheVariants as kind
 use Rattle.ol_net.specs.declared.parts.Port.{Port}
-use Rattle.ol_translate.specs.Translation.{Subnet, subnet_of, abstraction, application}
-use Rattle.ol_translate.specs.Translation.{application_to, applied, bare_variable, erasers}
-use Rattle.ol_translate.specs.Translation.{bound_port, bracket_nodes, bracket_links, past_brackets}
-use Rattle.ol_translate.specs.Translation.{fans, wire_of, slot_port}
+use Rattle.ol_translate.specs.Translation.{Subnet, subnet_of, abstraction, application, application_to, applied}
+use Rattle.ol_translate.specs.Translation.{bare_variable, erasers, bound_port, bracket_nodes, bracket_links}
+use Rattle.ol_translate.specs.Translation.{past_brackets, fans, wire_of, slot_port}
 use Rattle.ol_translate.proofs.Counts.{times}
 use Rattle.ol_translate.proofs.Joints.{HasOnly, bare_part, few_wires, times-bracketed}
 use Rattle.ol_translate.proofs.Walks.{length-bracket_nodes}

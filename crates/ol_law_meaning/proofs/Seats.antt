@@ -2,15 +2,13 @@
 use Rattle.std.proofs.Common.{◌≡◌, ℕ, zero, suc, ◌+◌, ◌≤◌, ◌<◌, true, refl, sym, ap, ◌∙◌, subst, arith, ◌⊎◌, inl, inr}
 use Rattle.ol_context.proofs.Contexts.{head_eq, tail_eq}
 use Rattle.std.proofs.lemmas.Bool.{or_left, or_right}
-use Rattle.ol_law_meaning.specs.Contraction.{Tree, lam, app, Level, o, star, Context, cons, Wire, bound, name}
-use Rattle.ol_law_meaning.specs.Contraction.{occurs, left, right, Place, root, wire, Spot, at, body, fun, arg}
-use Rattle.ol_law_meaning.specs.Contraction.{Edge, lam_root, lam_own, lam_wire, app_root, app_arg, app_left}
-use Rattle.ol_law_meaning.specs.Contraction.{app_right, in_body, in_fun, in_arg, Trail, here, on, back, Leads}
-use Rattle.ol_law_meaning.specs.Contraction.{IsRight, IsSpotOf}
-use Rattle.ol_law_meaning.specs.Heads.{os, Spine, head_var, head_free, head_app, Normal, flat, layer}
-use Rattle.ol_law_meaning.specs.Heads.{OutOf, up_root, up_own, up_wire, Arg, last, earlier, inner}
-use Rattle.ol_law_meaning.specs.Heads.{HatLast, hat_root, hat_wire, HatEarlier, hat_left, HatInner}
-use Rattle.ol_law_meaning.specs.Heads.{hat_up, StandsAt}
+use Rattle.ol_law_meaning.specs.Contraction.{Tree, lam, app, Level, o, star, Context, cons, Wire, bound, name, occurs}
+use Rattle.ol_law_meaning.specs.Contraction.{left, right, Place, root, wire, Spot, at, body, fun, arg, Edge, lam_root}
+use Rattle.ol_law_meaning.specs.Contraction.{lam_own, lam_wire, app_root, app_arg, app_left, app_right, in_body, in_fun}
+use Rattle.ol_law_meaning.specs.Contraction.{in_arg, Trail, here, on, back, Leads, IsRight, IsSpotOf}
+use Rattle.ol_law_meaning.specs.Heads.{os, Spine, head_var, head_free, head_app, Normal, flat, layer, OutOf, up_root}
+use Rattle.ol_law_meaning.specs.Heads.{up_own, up_wire, Arg, last, earlier, inner, HatLast, hat_root, hat_wire}
+use Rattle.ol_law_meaning.specs.Heads.{HatEarlier, hat_left, HatInner, hat_up, StandsAt}
 use Rattle.ol_law_meaning.proofs.Trails.{tr_trans, tr_sym, tr_map, one, one_back, tr_body, tr_fun}
 use Rattle.ol_law_meaning.proofs.Addresses.{left_one, right_one, sides_apart}
 use Rattle.ol_law_meaning.proofs.Ways.{Has}

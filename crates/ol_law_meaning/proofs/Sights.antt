@@ -7,7 +7,8 @@ use Rattle.ol_context.specs.Contexts.{levels}
 use Rattle.ol_context.proofs.LevelLists.{levels_cons}
 use Rattle.ol_readback.specs.Frames.{Frame}
 use Rattle.ol_law_meaning.specs.Spots.{applications}
-use Rattle.ol_law_meaning.specs.Contraction.{Tree, Level, empty, star, Context, cons, Wire, bound, Place, root, wire, at, Leads}
+use Rattle.ol_law_meaning.specs.Contraction.{Tree, Level, empty, star, Context, cons, Wire, bound, Place, root, wire}
+use Rattle.ol_law_meaning.specs.Contraction.{at, Leads}
 use Rattle.ol_law_meaning.specs.Heads.{os, outer, Normal, Steps, SameAlong, Arg}
 use Rattle.ol_law_meaning.specs.Seen.{ahead, unders, Chain, LeavesAs, Seats, IsSeen, ArgSeats}
 use Rattle.ol_law_meaning.proofs.Walking.{binder_of}

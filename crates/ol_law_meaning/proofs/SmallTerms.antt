@@ -6,7 +6,8 @@ use Rattle.ol_readback.specs.declared.answers.HeadVar.TheVariants as head
 use Rattle.ol_law_meaning.specs.Contraction.{Tree, var, free, lam, app, HeadStep, beta}
 use Rattle.ol_law_meaning.specs.Heads.{Steps, done, step}
 use Rattle.ol_law_meaning.specs.Shows.{ready, contract, HeadReducesForever, Shows}
-use Rattle.ol_law_meaning.specs.Examples.{identity, twice, self, loops, EndsIn, HasNoEnd, Unused, HasHeadAlone, SmallTerms}
+use Rattle.ol_law_meaning.specs.Examples.{identity, twice, self, loops, EndsIn, HasNoEnd, Unused, HasHeadAlone}
+use Rattle.ol_law_meaning.specs.Examples.{SmallTerms}
 use Rattle.ol_law_meaning.proofs.Endless.{comes_to_none, never_ends}
 use Rattle.ol_law_meaning.proofs.Endings.{has_no_end, no_redex}
 

@@ -1,7 +1,6 @@
 -- Where the net stands at a spot, and that what an edge joins is joined by moves.
-use Rattle.std.proofs.Common.{◌≡◌, ℕ, suc, ◌<◌, ◌+◌, [], ◌∷◌, length, true, false, Bool, Option}
-use Rattle.std.proofs.Common.{None, Some, ◌⊎◌, inl, inr, refl, sym, ap, ◌∙◌, arith, subst, eq-eqb}
-use Rattle.std.proofs.Common.{if◌then◌else◌}
+use Rattle.std.proofs.Common.{◌≡◌, ℕ, suc, ◌<◌, ◌+◌, [], ◌∷◌, length, true, false, Bool, Option, None, Some, ◌⊎◌, inl}
+use Rattle.std.proofs.Common.{inr, refl, sym, ap, ◌∙◌, arith, subst, eq-eqb, if◌then◌else◌}
 use Rattle.std.proofs.lemmas.Bool.{and_parts}
 use Rattle.ol_term.specs.declared.translations.Translation.{Translation}
 use Rattle.ol_term.specs.Trees.{Tree, var, free, lam, app, is_below}
@@ -21,10 +20,9 @@ use Rattle.ol_invariance.proofs.Moves.{State, Move, link, node}
 use Rattle.ol_translate.specs.Translation.{Subnet, subnet_of, application, application_to, applied}
 use Rattle.ol_translate.specs.Translation.{bare_variable, wire_of, bound_port, slot_port}
 use Rattle.ol_translate.proofs.Joints.{few_wires}
-use Rattle.ol_law_meaning.specs.Spots.{Wire, bound, occurs, left, IsRight, Place, root, wire, Spot}
-use Rattle.ol_law_meaning.specs.Spots.{at, body, fun, arg, Edge, var_wire, free_wire, lam_root}
-use Rattle.ol_law_meaning.specs.Spots.{lam_own, lam_wire, app_root, app_arg, app_left, app_right}
-use Rattle.ol_law_meaning.specs.Spots.{in_body, in_fun, in_arg}
+use Rattle.ol_law_meaning.specs.Spots.{Wire, bound, occurs, left, IsRight, Place, root, wire, Spot, at, body, fun, arg}
+use Rattle.ol_law_meaning.specs.Spots.{Edge, var_wire, free_wire, lam_root, lam_own, lam_wire, app_root, app_arg}
+use Rattle.ol_law_meaning.specs.Spots.{app_left, app_right, in_body, in_fun, in_arg}
 use Rattle.ol_law_meaning.proofs.Fans.{Merges, outside_wire}
 use Rattle.ol_law_meaning.proofs.Bare.{right_packed, right_bare, is_wire, has_box, no_lam, no_app}
 use Rattle.ol_law_meaning.proofs.Parts.{Has, argument, has_lam, Wires, has_app, has_app_to, has_head}

@@ -3,21 +3,19 @@ use Rattle.std.proofs.Common.{◌≡◌, ℕ, suc, true, nat_eq, Option, Some, N
 use Rattle.std.proofs.Common.{subst, arith, ◌⊎◌, inl, inr}
 use Rattle.ol_context.proofs.Contexts.{head_eq, tail_eq}
 use Rattle.std.proofs.lemmas.Bool.{or_left, or_right}
-use Rattle.ol_law_meaning.specs.Contraction.{Tree, var, free, lam, app, Level, empty, o, star, Context, cons}
-use Rattle.ol_law_meaning.specs.Contraction.{Wire, bound, name, under, root, wire, Spot, at, body, fun, arg}
-use Rattle.ol_law_meaning.specs.Contraction.{Edge, var_wire, free_wire, lam_root, lam_own, lam_wire, app_root}
-use Rattle.ol_law_meaning.specs.Contraction.{app_arg, app_left, app_right, in_body, in_fun, in_arg, Trail}
-use Rattle.ol_law_meaning.specs.Contraction.{here, occurs, left, right, without, wire_without, put, subst_for}
-use Rattle.ol_law_meaning.specs.Contraction.{Cut, inM, inN, CutEdge, of_m, of_n, joint, ofM, WireOf, other}
-use Rattle.ol_law_meaning.specs.Contraction.{named, lam_m, fun_m, arg_m, Held, at_root, wire_m, x_spot}
-use Rattle.ol_law_meaning.specs.Contraction.{x_wire, p_body, p_fun, p_arg, n_body, n_fun, n_arg, i_body}
+use Rattle.ol_law_meaning.specs.Contraction.{Tree, var, free, lam, app, Level, empty, o, star, Context, cons, Wire}
+use Rattle.ol_law_meaning.specs.Contraction.{bound, name, under, root, wire, Spot, at, body, fun, arg, Edge, var_wire}
+use Rattle.ol_law_meaning.specs.Contraction.{free_wire, lam_root, lam_own, lam_wire, app_root, app_arg, app_left}
+use Rattle.ol_law_meaning.specs.Contraction.{app_right, in_body, in_fun, in_arg, Trail, here, occurs, left, right}
+use Rattle.ol_law_meaning.specs.Contraction.{without, wire_without, put, subst_for, Cut, inM, inN, CutEdge, of_m, of_n}
+use Rattle.ol_law_meaning.specs.Contraction.{joint, ofM, WireOf, other, named, lam_m, fun_m, arg_m, Held, at_root}
+use Rattle.ol_law_meaning.specs.Contraction.{wire_m, x_spot, x_wire, p_body, p_fun, p_arg, n_body, n_fun, n_arg, i_body}
 use Rattle.ol_law_meaning.specs.Contraction.{i_fun, i_arg, IsRight}
 use Rattle.ol_law_meaning.proofs.Lifts.{same_is}
 use Rattle.ol_law_meaning.proofs.Trails.{tr_trans, tr_sym, one, one_back, tr_body, tr_fun, tr_arg}
-use Rattle.ol_law_meaning.proofs.Addresses.{gone, own_gone, which, without_is, left_one, right_one}
-use Rattle.ol_law_meaning.proofs.Addresses.{sides_apart, occurs_new, in_body_of, in_left_of}
-use Rattle.ol_law_meaning.proofs.Addresses.{in_right_of, own_same, zero_keeps, without_under, wire_some}
-use Rattle.ol_law_meaning.proofs.Addresses.{var_level, free_level, level_new}
+use Rattle.ol_law_meaning.proofs.Addresses.{gone, own_gone, which, without_is, left_one, right_one, sides_apart}
+use Rattle.ol_law_meaning.proofs.Addresses.{occurs_new, in_body_of, in_left_of, in_right_of, own_same, zero_keeps}
+use Rattle.ol_law_meaning.proofs.Addresses.{without_under, wire_some, var_level, free_level, level_new}
 use Rattle.ol_law_meaning.proofs.Copying.{held_copy, copy_edge, copy_edge_back, copies_held}
 use Rattle.ol_term.specs.declared.translations.Translation.{Translation}
 

@@ -17,15 +17,13 @@ use Rattle.ol_translate.proofs.Joints.{few_wires}
 use Rattle.ol_law_meaning.specs.Spots.{Wire, bound, name, under, occurs, Place, root, wire, Spot, at}
 use Rattle.ol_law_meaning.specs.Spots.{body, fun, arg, Edge, lam_root, lam_own, lam_wire, app_root}
 use Rattle.ol_law_meaning.specs.Spots.{app_arg, app_left, app_right, in_arg, Trail, here}
-use Rattle.ol_law_meaning.specs.Sites.{Site, self, in_lam, in_function, in_argument, PartAt, whole}
-use Rattle.ol_law_meaning.specs.Sites.{of_lam, of_function, of_argument, function_at, depth}
-use Rattle.ol_law_meaning.specs.Sites.{context_at}
+use Rattle.ol_law_meaning.specs.Sites.{Site, self, in_lam, in_function, in_argument, PartAt, whole, of_lam, of_function}
+use Rattle.ol_law_meaning.specs.Sites.{of_argument, function_at, depth, context_at}
 use Rattle.ol_law_meaning.proofs.Fans.{Merges}
 use Rattle.ol_law_meaning.proofs.Bare.{packed_right, bare_right, is_wire, has_box, has_one, wire_edge}
-use Rattle.ol_law_meaning.proofs.Parts.{Has, argument, HasLam, has_lam, Wires, HasApp, has_app}
-use Rattle.ol_law_meaning.proofs.Parts.{HasAppTo, has_app_to, HasHead, has_head, applied_root}
-use Rattle.ol_law_meaning.proofs.Parts.{bare_there, bare_occurs, bare_lacks, key, wire_there}
-use Rattle.ol_law_meaning.proofs.Parts.{occurs_inside, occurs_lam, occurs_app}
+use Rattle.ol_law_meaning.proofs.Parts.{Has, argument, HasLam, has_lam, Wires, HasApp, has_app, HasAppTo, has_app_to}
+use Rattle.ol_law_meaning.proofs.Parts.{HasHead, has_head, applied_root, bare_there, bare_occurs, bare_lacks, key}
+use Rattle.ol_law_meaning.proofs.Parts.{wire_there, occurs_inside, occurs_lam, occurs_app}
 use Rattle.ol_law_meaning.proofs.States.{Before, before_arg, S, H, L, at_port, bare_state, arg_state}
 use Rattle.ol_law_meaning.proofs.States.{state, if_true, if_false}
 use Rattle.ol_law_meaning.proofs.Trails.{one, one_back, tr_trans, tr_body, tr_fun, tr_arg}

@@ -1,11 +1,10 @@
 -- From a term's spots to those of another one, edge by edge: what a step has to give.
 use Rattle.std.proofs.Common.{◌≡◌, ℕ, ◌+◌, ◌≤◌, Bool, true, refl, sym, ◌∙◌, subst, arith, suc, ◌⊎◌, inl, inr}
 use Rattle.std.proofs.lemmas.Bool.{or_left, or_right}
-use Rattle.ol_law_meaning.specs.Contraction.{Tree, lam, app, Level, o, star, Context, Wire, bound, under}
-use Rattle.ol_law_meaning.specs.Contraction.{occurs, left, right, Place, root, wire, Spot, at, body, fun, arg}
-use Rattle.ol_law_meaning.specs.Contraction.{Edge, lam_root, lam_own, lam_wire, app_root, app_arg, app_left}
-use Rattle.ol_law_meaning.specs.Contraction.{app_right, in_body, in_fun, in_arg, Trail, here, on, back}
-use Rattle.ol_law_meaning.specs.Contraction.{IsRight}
+use Rattle.ol_law_meaning.specs.Contraction.{Tree, lam, app, Level, o, star, Context, Wire, bound, under, occurs, left}
+use Rattle.ol_law_meaning.specs.Contraction.{right, Place, root, wire, Spot, at, body, fun, arg, Edge, lam_root}
+use Rattle.ol_law_meaning.specs.Contraction.{lam_own, lam_wire, app_root, app_arg, app_left, app_right, in_body, in_fun}
+use Rattle.ol_law_meaning.specs.Contraction.{in_arg, Trail, here, on, back, IsRight}
 use Rattle.ol_law_meaning.specs.Steps.{SameBelow, below_o, below_star, below_wire, SameBefore}
 use Rattle.ol_law_meaning.specs.Steps.{before_root, before_left, before_right}
 use Rattle.ol_law_meaning.proofs.Trails.{tr_trans, one, one_back, tr_body, tr_fun}

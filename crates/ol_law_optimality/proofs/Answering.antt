@@ -1,6 +1,6 @@
 -- Each question of a term's places is answered by a demand run that finds a head at every place.
-use Rattle.std.proofs.Common.{◌≡◌, ℕ, zero, suc, ◌+◌, ◌≤◌, ◌<◌, ◌⊎◌, inl, inr, List, [], ◌∷◌, ◌++◌, length, Some, refl, sym}
-use Rattle.std.proofs.Common.{ap, ◌∙◌, subst, arith}
+use Rattle.std.proofs.Common.{◌≡◌, ℕ, zero, suc, ◌+◌, ◌≤◌, ◌<◌, ◌⊎◌, inl, inr, List, [], ◌∷◌, ◌++◌, length, Some, refl}
+use Rattle.std.proofs.Common.{sym, ap, ◌∙◌, subst, arith}
 use Rattle.std.proofs.lemmas.List.{length_push}
 use Rattle.ol_context.specs.Asked.{os, asked}
 use Rattle.ol_context.specs.Contexts.{Level, empty, star, Context, cons, levels}
@@ -45,9 +45,8 @@ use Rattle.ol_law_meaning.specs.Spots.{place}
 use Rattle.ol_term.specs.declared.translations.Translation.{Translation}
 use Rattle.ol_translate.specs.Names.{HasNames}
 use Rattle.ol_translate.specs.Translation.{translation_of}
-use Rattle.ol_law_optimality.proofs.Wanted.{Asks, whole, part}
+use Rattle.ol_law_optimality.proofs.Wanted.{Asks, whole, part, one_step, arg_stops}
 use Rattle.ol_law_optimality.proofs.DegreesWanted.{Close, Reached, begun, walked}
-use Rattle.ol_law_optimality.proofs.Wanted.{one_step, arg_stops}
 
 -- ---- head steps to a head normal form
 

@@ -13,8 +13,7 @@ use Rattle.ol_translate.specs.Translation.{translation_of}
 use Rattle.ol_law_optimality.specs.Seen.{BetasOfATermOnDemand}
 use Rattle.ol_demand.proofs.Turning.{turns_kept}
 use Rattle.ol_demand.specs.Chains.{Chain, starts, crosses, Ends, met, Stands, at_pair}
-use Rattle.ol_demand.specs.Demands.{Asking, Turn, rewrites, one_more, finds, Turns, begins}
-use Rattle.ol_demand.specs.Demands.{and_then}
+use Rattle.ol_demand.specs.Demands.{Asking, Turn, rewrites, one_more, finds, Turns, begins, and_then}
 use Rattle.ol_demand.specs.Laws.{IsStart}
 use Rattle.ol_law_edges.specs.Edges.{IsIn, here, on, back}
 use Rattle.ol_law_levels.specs.Levels.{IsLevelled}

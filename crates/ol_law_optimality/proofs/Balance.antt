@@ -6,7 +6,8 @@ use Rattle.ol_net.specs.declared.parts.Kind.{Kind}
 use Rattle.ol_net.specs.declared.parts.Kind.TheVariants as kind
 use Rattle.ol_law_optimality.specs.Labels.{Label, atom, over, under}
 use Rattle.ol_law_optimality.specs.Routes.{Crossing, rise, fall}
-use Rattle.ol_law_optimality.specs.Words.{turned, Is, IsWire, at_binder, through, Reads, ends, body, argument, WordIsOne}
+use Rattle.ol_law_optimality.specs.Words.{turned, Is, IsWire, at_binder, through, Reads, ends, body, argument}
+use Rattle.ol_law_optimality.specs.Words.{WordIsOne}
 use Rattle.ol_law_optimality.proofs.Rows.{turned_back, turned_append}
 
 module _ {A : Type 0} (N : NamedNet A) where

@@ -1,6 +1,5 @@
 -- Demand order makes no more beta steps for one head than there are families.
-use Rattle.std.proofs.Common.{◌≡◌, ℕ, suc, None, inl, inr, List, [], ◌∷◌, length, refl, sym, ap}
-use Rattle.std.proofs.Common.{◌∙◌, subst}
+use Rattle.std.proofs.Common.{◌≡◌, ℕ, suc, None, inl, inr, List, [], ◌∷◌, length, refl, sym, ap, ◌∙◌, subst}
 use Rattle.ol_beta.specs.Leftmost.{IsNormal, leftmost}
 use Rattle.ol_context.specs.Asked.{asked}
 use Rattle.ol_context.specs.Contexts.{tail}

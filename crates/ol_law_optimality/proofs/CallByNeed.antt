@@ -5,7 +5,8 @@ use Rattle.ol_law_meaning.proofs.Endings.{no_redex}
 use Rattle.ol_law_optimality.specs.Labels.{Label, Labelled, erased}
 use Rattle.ol_beta.specs.Leftmost.{IsNormal}
 use Rattle.ol_term.specs.Trees.{Tree}
-use Rattle.ol_law_optimality.specs.LevysTheorem.{IsNeededFor, NeededFamilies, NeedGoesBack, CallByNeedIsFewest, CallByNeedGoesOn}
+use Rattle.ol_law_optimality.specs.LevysTheorem.{IsNeededFor, NeededFamilies, NeedGoesBack, CallByNeedIsFewest}
+use Rattle.ol_law_optimality.specs.LevysTheorem.{CallByNeedGoesOn}
 use Rattle.ol_law_optimality.specs.LevysTheorem as laws
 use Rattle.ol_law_optimality.specs.Reductions.{WholeFamilies, FamilyReduces}
 use Rattle.ol_law_optimality.specs.Reductions as reductions

@@ -9,9 +9,8 @@ use Rattle.ol_net.specs.declared.parts.Kind.{Kind}
 use Rattle.ol_rules.specs.Rewriting.{Action, meeting, crossing, NodeOf, left, of_f, of_g, Rewrites}
 use Rattle.ol_rules.specs.Laws.{IsFresh}
 use Rattle.ol_law_optimality.specs.Redexes.{Carries}
-use Rattle.ol_law_optimality.specs.Routes.{Crossing, rise, fall, node_of, Row, along, rises, falls}
-use Rattle.ol_law_optimality.specs.Routes.{Residue, ends, ends_at_copy, passes, meets_up, meets_down}
-use Rattle.ol_law_optimality.specs.Routes.{crosses_up, crosses_down}
+use Rattle.ol_law_optimality.specs.Routes.{Crossing, rise, fall, node_of, Row, along, rises, falls, Residue, ends}
+use Rattle.ol_law_optimality.specs.Routes.{ends_at_copy, passes, meets_up, meets_down, crosses_up, crosses_down}
 
 module _ {A : Type 0} (N : NamedNet A) (is_net : IsNet N) where
   -- by the kind and index that a node has

@@ -1,6 +1,5 @@
 -- Different elements of a list are no more than it has.
-use Rattle.std.proofs.Common.{◌≡◌, suc, ◌≤◌, ◌⊎◌, inl, inr, List, [], ◌∷◌, length, refl, sym, ap}
-use Rattle.std.proofs.Common.{◌∙◌, subst, arith}
+use Rattle.std.proofs.Common.{◌≡◌, suc, ◌≤◌, ◌⊎◌, inl, inr, List, [], ◌∷◌, length, refl, sym, ap, ◌∙◌, subst, arith}
 use Rattle.ol_law_edges.specs.Edges.{IsIn}
 use Rattle.ol_law_optimality.specs.Readings.{AreDifferent}
 use Rattle.ol_law_optimality.specs.Labels.{Label}

@@ -1,9 +1,8 @@
 -- What becomes of the sites of a redex's parts.
 use Rattle.std.proofs.Common.{◌≡◌, ℕ, suc, Bool, true, false, refl, sym, ap, ◌∙◌, subst}
-use Rattle.ol_law_meaning.specs.Contraction.{Tree, var, free, lam, app, Level, Context, root, Spot, at, body}
-use Rattle.ol_law_meaning.specs.Contraction.{fun, arg, left, right, bound, put, lifted, subst_for, Cut, inM}
-use Rattle.ol_law_meaning.specs.Contraction.{inN, Held, at_root, wire_n, x_spot, p_body, p_fun, p_arg, n_body}
-use Rattle.ol_law_meaning.specs.Contraction.{n_fun, n_arg}
+use Rattle.ol_law_meaning.specs.Contraction.{Tree, var, free, lam, app, Level, Context, root, Spot, at, body, fun, arg}
+use Rattle.ol_law_meaning.specs.Contraction.{left, right, bound, put, lifted, subst_for, Cut, inM, inN, Held, at_root}
+use Rattle.ol_law_meaning.specs.Contraction.{wire_n, x_spot, p_body, p_fun, p_arg, n_body, n_fun, n_arg}
 use Rattle.ol_law_meaning.proofs.There.{root_is, in_body_held, in_fun_held, in_arg_held}
 use Rattle.ol_term.specs.declared.translations.Translation.{Translation}
 use Rattle.ol_law_meaning.specs.Sites.{Site, self, in_lam, in_function, in_argument, spot_in, PartAt}

@@ -1,5 +1,6 @@
 -- Each degree that leftmost reduction contracts is the word of a redex that a question of the first term comes to.
-use Rattle.std.proofs.Common.{◌≡◌, ℕ, suc, ◌+◌, ◌≤◌, Bool, true, false, ◌++◌, ◌⊎◌, inl, inr, List, [], Some, None, refl, sym, ap, ◌∙◌, subst, arith, append-nil}
+use Rattle.std.proofs.Common.{◌≡◌, ℕ, suc, ◌+◌, ◌≤◌, Bool, true, false, ◌++◌, ◌⊎◌, inl, inr, List, [], Some, None, refl}
+use Rattle.std.proofs.Common.{sym, ap, ◌∙◌, subst, arith, append-nil}
 use Rattle.ol_context.specs.Contexts.{levels}
 use Rattle.ol_law_edges.specs.Edges.{IsIn}
 use Rattle.ol_beta.specs.Leftmost.{leftmost}
@@ -8,16 +9,18 @@ use Rattle.ol_law_optimality.proofs.Inside.{put_in}
 use Rattle.ol_law_optimality.proofs.Meeting.{Comes, app_is, lam_is, too_few}
 use Rattle.ol_law_optimality.proofs.Sites.{base, one_site}
 use Rattle.ol_law_optimality.proofs.Wanted.{Asks, whole, part, IsWanted}
-use Rattle.ol_law_meaning.specs.Heads.{os, outer, Spine, head_app, Normal, flat, layer, Steps, done, step, Arg, last, earlier, inner}
-use Rattle.ol_law_meaning.specs.Heads.{hat_root, hat_wire, hat_left, hat_up, StandsAt}
-use Rattle.ol_law_meaning.specs.Contraction.{Tree, lam, app, Level, empty, star, Context, cons, occurs, left, Wire, Place, root, wire, Spot, at, body, fun, arg}
-use Rattle.ol_law_meaning.specs.Contraction.{Edge, app_left, app_right, app_arg, Trail, on, Leads, HeadStep}
+use Rattle.ol_law_meaning.specs.Heads.{os, outer, Spine, head_app, Normal, flat, layer, Steps, done, step, Arg, last}
+use Rattle.ol_law_meaning.specs.Heads.{earlier, inner, hat_root, hat_wire, hat_left, hat_up, StandsAt}
+use Rattle.ol_law_meaning.specs.Contraction.{Tree, lam, app, Level, empty, star, Context, cons, occurs, left, Wire}
+use Rattle.ol_law_meaning.specs.Contraction.{Place, root, wire, Spot, at, body, fun, arg, Edge, app_left, app_right}
+use Rattle.ol_law_meaning.specs.Contraction.{app_arg, Trail, on, Leads, HeadStep}
 use Rattle.ol_law_meaning.specs.Steps.{Same}
 use Rattle.ol_law_meaning.proofs.Channels.{up_edge}
 use Rattle.ol_law_meaning.proofs.Endless.{normal_stops}
 use Rattle.ol_law_meaning.proofs.Mains.{reflects}
 use Rattle.ol_law_meaning.proofs.Seats.{Deep, seated, up_to, root_stands}
-use Rattle.ol_law_meaning.proofs.Walking.{passing, least_or, root_stays, outer_grows, head_path, spine_occurs, spine_path, normal_or_step}
+use Rattle.ol_law_meaning.proofs.Walking.{passing, least_or, root_stays, outer_grows, head_path, spine_occurs}
+use Rattle.ol_law_meaning.proofs.Walking.{spine_path, normal_or_step}
 use Rattle.ol_law_optimality.specs.Labels.{Label, Labelled, erased, degree, contracted, LeftmostContracts}
 use Rattle.ol_law_optimality.specs.Labels as labels
 use Rattle.ol_law_meaning.specs.Sites.{Site, spot_in, PartAt, function_at}
@@ -31,7 +34,8 @@ use Rattle.ol_law_optimality.proofs.Keeping.{Goes, undo}
 use Rattle.ol_law_optimality.proofs.Leading.{leads, silent}
 use Rattle.ol_law_optimality.proofs.Leftwards.{labelled_step, one_step}
 use Rattle.ol_law_optimality.proofs.Sides.{tree_word}
-use Rattle.ol_law_optimality.proofs.Wanting.{wanted_degree, Lifted, lift_fun, lift_arg, lift_lam, LeftStep, InFunction, InArgument, app_step, lam_step, spine_plain, IsNormalHead, stays_wanted}
+use Rattle.ol_law_optimality.proofs.Wanting.{wanted_degree, Lifted, lift_fun, lift_arg, lift_lam, LeftStep, InFunction}
+use Rattle.ol_law_optimality.proofs.Wanting.{InArgument, app_step, lam_step, spine_plain, IsNormalHead, stays_wanted}
 
 module _ (τ : Translation) where
   -- ---- places to which walks from the root lead

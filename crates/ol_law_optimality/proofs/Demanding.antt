@@ -1,6 +1,5 @@
 -- Demand order makes no more beta steps than there are steps of any reduction by families.
-use Rattle.std.proofs.Common.{◌≡◌, ℕ, ◌≤◌, List, length, refl, sym, ap, ◌∙◌}
-use Rattle.std.proofs.Common.{subst, arith}
+use Rattle.std.proofs.Common.{◌≡◌, ℕ, ◌≤◌, List, length, refl, sym, ap, ◌∙◌, subst, arith}
 use Rattle.std.specs.Option.{option_map}
 use Rattle.ol_beta.specs.Leftmost.{IsNormal}
 use Rattle.ol_law_confluence.proofs.LeftmostEnds.{leftmost_finds}

@@ -26,7 +26,8 @@ use Rattle.ol_law_meaning.specs.Spots.{at, place}
 use Rattle.ol_term.specs.declared.translations.Translation.{Translation}
 use Rattle.ol_translate.specs.Names.{HasNames}
 use Rattle.ol_translate.specs.Translation.{translation_of}
-use Rattle.ol_law_optimality.specs.Entries.{start_row, start_route, SpellsLabel, ContractsEachFamilyOnce, BetasSpellFamilies}
+use Rattle.ol_law_optimality.specs.Entries.{start_row, start_route, SpellsLabel, ContractsEachFamilyOnce}
+use Rattle.ol_law_optimality.specs.Entries.{BetasSpellFamilies}
 use Rattle.ol_law_optimality.specs.Readings.{word_of, AreAlike}
 use Rattle.ol_law_optimality.specs.Signs.{letter_of, onward, signs_of}
 use Rattle.ol_law_optimality.proofs.AllFamilies.{asked_all, at_port}

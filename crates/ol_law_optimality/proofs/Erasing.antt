@@ -5,9 +5,8 @@ use Rattle.std.specs.Option.{option_map}
 use Rattle.ol_beta.specs.Beta as beta
 use Rattle.ol_term.specs.Trees.{Tree}
 use Rattle.ol_term.specs.Trees as trees
-use Rattle.ol_law_optimality.specs.Labels.{Label, Labelled, var, free, lam, app, erased, before, shifted}
-use Rattle.ol_law_optimality.specs.Labels.{substituted, applied, contracted, joined, over, under, none}
-use Rattle.ol_law_optimality.specs.Labels.{LabelsErase}
+use Rattle.ol_law_optimality.specs.Labels.{Label, Labelled, var, free, lam, app, erased, before, shifted, substituted}
+use Rattle.ol_law_optimality.specs.Labels.{applied, contracted, joined, over, under, none, LabelsErase}
 
 pub erased_before : (v : Label) (t : Labelled) → erased (before v t) ≡ erased t
 erased_before v (var k w) = refl

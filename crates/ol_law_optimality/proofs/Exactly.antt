@@ -1,10 +1,8 @@
 -- Beta steps of demand order are as many as some labels are different, where each that is seen is told by one of them
 -- and each of them tells one that is seen by a question that is answered.
-use Rattle.std.proofs.Common.{◌≡◌, ℕ, suc, inl, inr, List, [], ◌∷◌, ◌++◌, length, refl, sym, ap}
-use Rattle.std.proofs.Common.{◌∙◌, subst}
+use Rattle.std.proofs.Common.{◌≡◌, ℕ, suc, inl, inr, List, [], ◌∷◌, ◌++◌, length, refl, sym, ap, ◌∙◌, subst}
 use Rattle.ol_context.specs.Contexts.{Context, tail}
-use Rattle.ol_demand.specs.Demands.{Asking}
-use Rattle.ol_demand.specs.Demands.{Turns}
+use Rattle.ol_demand.specs.Demands.{Asking, Turns}
 use Rattle.ol_demand.specs.Laws.{IsStart}
 use Rattle.ol_law_edges.specs.Edges.{IsIn, Joined}
 use Rattle.ol_law_edges.specs.Edges as edges

@@ -15,11 +15,10 @@ use Rattle.ol_term.specs.Trees.{Tree, var, free as free_name, lam, app}
 use Rattle.ol_term.specs.declared.translations.Translation.{Translation}
 use Rattle.ol_translate.proofs.Walks.{length-bracket_nodes}
 use Rattle.ol_translate.specs.Names.{HasNames}
-use Rattle.ol_translate.specs.Translation.{Subnet, subnet_of, slot_port, wire_of, outside, bound_port}
-use Rattle.ol_translate.specs.Translation.{bracket_nodes, bracket_links, past_brackets, fans, fan_nodes}
-use Rattle.ol_translate.specs.Translation.{fan_links, merged, reconnected, abstraction, application}
-use Rattle.ol_translate.specs.Translation.{application_to, applied, bare_variable, name_links, erasers}
-use Rattle.ol_translate.specs.Translation.{translation_of, links_of}
+use Rattle.ol_translate.specs.Translation.{Subnet, subnet_of, slot_port, wire_of, outside, bound_port, bracket_nodes}
+use Rattle.ol_translate.specs.Translation.{bracket_links, past_brackets, fans, fan_nodes, fan_links, merged}
+use Rattle.ol_translate.specs.Translation.{reconnected, abstraction, application, application_to, applied}
+use Rattle.ol_translate.specs.Translation.{bare_variable, name_links, erasers, translation_of, links_of}
 
 -- a term, or a variable's value, is given at the slot; or it is asked for
 abbrev pub gives : Kind → ℕ → Bool

@@ -6,7 +6,8 @@ use Rattle.ol_law_optimality.specs.Labels.{Label, Labelled, erased}
 use Rattle.ol_law_meaning.specs.Sites.{Site}
 use Rattle.ol_term.specs.declared.translations.Translation.{Translation}
 use Rattle.ol_law_optimality.specs.Signs.{signs_of}
-use Rattle.ol_law_optimality.specs.Readings.{AreAlike, Met, word_met, HaveDifferentWords, AreDifferent, NoMoreThanFamilies, NoMoreThanLeftmostFamilies, word_of}
+use Rattle.ol_law_optimality.specs.Readings.{AreAlike, Met, word_met, HaveDifferentWords, AreDifferent}
+use Rattle.ol_law_optimality.specs.Readings.{NoMoreThanFamilies, NoMoreThanLeftmostFamilies, word_of}
 use Rattle.ol_law_optimality.proofs.HeadWords.{words_are_degrees}
 use Rattle.ol_law_optimality.proofs.Leftwards.{words_are_leftmost_degrees}
 

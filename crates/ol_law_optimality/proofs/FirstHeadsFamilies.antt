@@ -28,7 +28,8 @@ use Rattle.ol_law_optimality.specs.Families.{HaveOwnLetters}
 use Rattle.ol_law_optimality.specs.HeadFamilies.{HasSoManyDifferent}
 use Rattle.ol_law_optimality.specs.Readings.{word_of, AreAlike}
 use Rattle.ol_law_optimality.specs.Signs.{signs_of}
-use Rattle.ol_law_optimality.proofs.Exactly.{ToldBy, alike, apart, labels_of, seen_told, seen_here, exactly, start_is_levelled}
+use Rattle.ol_law_optimality.proofs.Exactly.{ToldBy, alike, apart, labels_of, seen_told, seen_here, exactly}
+use Rattle.ol_law_optimality.proofs.Exactly.{start_is_levelled}
 use Rattle.ol_law_optimality.proofs.Hearing.{AreLettered}
 use Rattle.ol_law_optimality.proofs.Lettering.{lettering}
 use Rattle.ol_law_optimality.proofs.MetSeen.{SeenBy, comes_seen}

@@ -1,6 +1,7 @@
 -- Each degree that head reduction contracts at one of the first places is the word of a redex that a question after one of
 -- them comes to.
-use Rattle.std.proofs.Common.{◌≡◌, ℕ, suc, ◌+◌, Bool, true, false, ◌++◌, ◌⊎◌, inl, inr, List, refl, sym, ap, ◌∙◌, subst, arith, append-nil, []}
+use Rattle.std.proofs.Common.{◌≡◌, ℕ, suc, ◌+◌, Bool, true, false, ◌++◌, ◌⊎◌, inl, inr, List, refl, sym, ap, ◌∙◌, subst}
+use Rattle.std.proofs.Common.{arith, append-nil, []}
 use Rattle.ol_context.specs.Contexts.{levels}
 use Rattle.ol_law_edges.specs.Edges.{IsIn}
 use Rattle.ol_law_edges.proofs.Lists.{in_cases}
@@ -10,7 +11,8 @@ use Rattle.ol_law_optimality.proofs.Meeting.{Comes, too_few}
 use Rattle.ol_law_optimality.proofs.Sites.{base}
 use Rattle.ol_law_optimality.proofs.Wanted.{Asks, whole, part, IsWanted}
 use Rattle.ol_law_meaning.specs.Heads.{os, outer, head_app, flat, layer, done, step, Arg, last, earlier, inner}
-use Rattle.ol_law_meaning.specs.Contraction.{Tree, lam, Level, empty, Context, Place, root, wire, at, Edge, Trail, HeadStep}
+use Rattle.ol_law_meaning.specs.Contraction.{Tree, lam, Level, empty, Context, Place, root, wire, at, Edge, Trail}
+use Rattle.ol_law_meaning.specs.Contraction.{HeadStep}
 use Rattle.ol_law_meaning.specs.Steps.{Same}
 use Rattle.ol_law_meaning.proofs.Walking.{passing, least_or, root_stays, outer_grows}
 use Rattle.ol_law_optimality.specs.Labels.{Label, Labelled, erased}
@@ -19,11 +21,13 @@ use Rattle.ol_law_meaning.specs.Sites.{Site, function_at}
 use Rattle.ol_law_meaning.proofs.Trails.{tr_trans}
 use Rattle.ol_term.specs.declared.translations.Translation.{Translation}
 use Rattle.ol_law_optimality.specs.Signs.{Signs, signs_of}
-use Rattle.ol_law_optimality.specs.Readings.{AreAlike, word_of, word_along, function_label, moved, HeadContracts, HeadReduces, ready, contract}
+use Rattle.ol_law_optimality.specs.Readings.{AreAlike, word_of, word_along, function_label, moved, HeadContracts}
+use Rattle.ol_law_optimality.specs.Readings.{HeadReduces, ready, contract}
 use Rattle.ol_law_optimality.proofs.HeadWords.{Step, step_of}
 use Rattle.ol_law_optimality.proofs.Leading.{leads, silent}
 use Rattle.ol_law_optimality.proofs.Wanting.{Lifted, lift_fun, lift_arg, lift_lam, IsNormalHead}
-use Rattle.ol_law_optimality.proofs.DegreesWanted.{Reached, begun, place_back, Close, labelled, comes_back, deep_site, sunk, enters, reached_up}
+use Rattle.ol_law_optimality.proofs.DegreesWanted.{Reached, begun, place_back, Close, labelled, comes_back, deep_site}
+use Rattle.ol_law_optimality.proofs.DegreesWanted.{sunk, enters, reached_up}
 use Rattle.ol_law_optimality.proofs.FirstHeadsPlaces.{Heads, Before, IsAt, By, heads_by}
 use Rattle.ol_law_optimality.proofs.FirstHeadsPlaces as places
 

@@ -10,7 +10,8 @@ use Rattle.ol_law_optimality.specs.Reductions.{Contracts}
 use Rattle.ol_law_optimality.specs.Reductions as reductions
 use Rattle.ol_law_optimality.proofs.FirstHeadsFamilies.{runs_have_families}
 use Rattle.ol_law_optimality.proofs.FirstHeadsNeeded.{shows_stay, shown}
-use Rattle.ol_law_optimality.proofs.FirstHeadsReached.{Found, IsWithin, find, is_first, within_is_needed, first_one, ends}
+use Rattle.ol_law_optimality.proofs.FirstHeadsReached.{Found, IsWithin, find, is_first, within_is_needed, first_one}
+use Rattle.ol_law_optimality.proofs.FirstHeadsReached.{ends}
 use Rattle.ol_law_optimality.proofs.Firsts.{IsFirst, first_of}
 use Rattle.ol_law_optimality.proofs.Needed.{Of, Row, beside, contraction_step, contracts_row}
 

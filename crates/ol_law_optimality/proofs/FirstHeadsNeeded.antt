@@ -1,6 +1,7 @@
 -- Each degree that head reduction contracts at the first places, every reduction to a term that shows so many heads
 -- contracts.
-use Rattle.std.proofs.Common.{◌≡◌, ℕ, zero, suc, ◌≤◌, Bool, true, false, inl, inr, List, [], ◌++◌, refl, sym, subst, arith}
+use Rattle.std.proofs.Common.{◌≡◌, ℕ, zero, suc, ◌≤◌, Bool, true, false, inl, inr, List, [], ◌++◌, refl, sym, subst}
+use Rattle.std.proofs.Common.{arith}
 use Rattle.ol_law_edges.specs.Edges.{IsIn}
 use Rattle.ol_law_edges.proofs.Lists.{in_cases}
 use Rattle.ol_law_optimality.specs.Readings.{HeadReduces}

@@ -10,7 +10,8 @@ use Rattle.ol_law_optimality.specs.Reductions.{WholeFamilies}
 use Rattle.ol_law_optimality.specs.Reductions as reductions
 use Rattle.ol_law_optimality.proofs.CallByNeed.{whole}
 use Rattle.ol_law_optimality.proofs.FirstHeadsNeeded.{BesideHeads, shows_stay, one_by_one}
-use Rattle.ol_law_optimality.proofs.FirstHeadsReached.{find, is_first, within_is_needed, none_is_shorter_than_needed, stands}
+use Rattle.ol_law_optimality.proofs.FirstHeadsReached.{find, is_first, within_is_needed, none_is_shorter_than_needed}
+use Rattle.ol_law_optimality.proofs.FirstHeadsReached.{stands}
 use Rattle.ol_law_optimality.proofs.Needed.{Of, Row, beside, contracts_row}
 use Rattle.ol_law_optimality.proofs.Once.{no_family_twice}
 use Rattle.ol_law_optimality.proofs.Steps.{whole_parallel}

@@ -1,13 +1,14 @@
 -- What is printed where each place that was asked has a head, and reductions of plain terms to so many heads.
-use Rattle.std.proofs.Common.{◌⊎◌, inl, inr, ◌≡◌, ℕ, zero, suc, ◌+◌, ◌≤◌, Bool, true, false, if◌then◌else◌, List, [], ◌∷◌, ◌++◌, length, Some, None}
-use Rattle.std.proofs.Common.{append-nil, map, refl, sym, ap, ◌∙◌, subst, arith}
+use Rattle.std.proofs.Common.{◌⊎◌, inl, inr, ◌≡◌, ℕ, zero, suc, ◌+◌, ◌≤◌, Bool, true, false, if◌then◌else◌, List, []}
+use Rattle.std.proofs.Common.{◌∷◌, ◌++◌, length, Some, None, append-nil, map, refl, sym, ap, ◌∙◌, subst, arith}
 use Rattle.std.proofs.lemmas.List.{append_assoc, length_push}
 use Rattle.std.proofs.lemmas.Option.{none-some}
 use Rattle.std.specs.Option.{option_or}
 use Rattle.ol_beta.specs.Leftmost.{leftmost, IsNormal, is_abstraction}
 use Rattle.ol_beta.specs.Leftmost as steps
 use Rattle.ol_demand.specs.Answers.{start_of}
-use Rattle.ol_demand.specs.Demands.{Asking, asks, next, place_of, Turn, rewrites, one_more, finds, Turns, begins, and_then, IsDemandRun}
+use Rattle.ol_demand.specs.Demands.{Asking, asks, next, place_of, Turn, rewrites, one_more, finds, Turns, begins}
+use Rattle.ol_demand.specs.Demands.{and_then, IsDemandRun}
 use Rattle.ol_beta.proofs.Redexes.{no_under, no_first}
 use Rattle.ol_demand.proofs.Onward.{is_start}
 use Rattle.ol_invariance.proofs.SameNets.{start_paths}
@@ -46,9 +47,9 @@ use Rattle.ol_term.specs.Trees.{Tree}
 use Rattle.ol_term.specs.Trees as trees
 use Rattle.ol_term.specs.declared.translations.Translation.{Translation}
 use Rattle.ol_translate.specs.Translation.{translation_of}
-use Rattle.ol_law_optimality.specs.FirstHeads.{ShowsHeads, not_asked, at_var, at_free, at_lam, at_app, HasFirstHeads, HaveHeads}
-use Rattle.ol_law_optimality.specs.FirstHeads.{FilledHasHeads, NormalHasHeads, OneHeadIsHeadNormal, PrintedHeadsAreAsShort, HeadsAreFound}
-use Rattle.ol_law_optimality.specs.FirstHeads.{NoReductionToHeadsIsShorter}
+use Rattle.ol_law_optimality.specs.FirstHeads.{ShowsHeads, not_asked, at_var, at_free, at_lam, at_app, HasFirstHeads}
+use Rattle.ol_law_optimality.specs.FirstHeads.{HaveHeads, FilledHasHeads, NormalHasHeads, OneHeadIsHeadNormal}
+use Rattle.ol_law_optimality.specs.FirstHeads.{PrintedHeadsAreAsShort, HeadsAreFound, NoReductionToHeadsIsShorter}
 use Rattle.ol_law_optimality.specs.Demand.{NeverMoreThanAnyReduction}
 use Rattle.ol_law_optimality.proofs.FirstHeadsNeeded.{shown_head, shown}
 use Rattle.ol_law_optimality.proofs.FirstHeadsPlaces.{Heads, heads_by}

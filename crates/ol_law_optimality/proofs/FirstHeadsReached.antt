@@ -1,7 +1,7 @@
 -- Whole families, each time that of the leftmost redex, lead to the first heads; and asked for so many heads, demand order
 -- makes as many beta steps.
-use Rattle.std.proofs.Common.{◌≡◌, ℕ, zero, suc, ◌+◌, ◌≤◌, Bool, true, false, if◌then◌else◌, ◌⊎◌, inl, inr, List, [], ◌∷◌, ◌++◌, length}
-use Rattle.std.proofs.Common.{Option, Some, None, refl, sym, ap, ◌∙◌, subst, arith}
+use Rattle.std.proofs.Common.{◌≡◌, ℕ, zero, suc, ◌+◌, ◌≤◌, Bool, true, false, if◌then◌else◌, ◌⊎◌, inl, inr, List, []}
+use Rattle.std.proofs.Common.{◌∷◌, ◌++◌, length, Option, Some, None, refl, sym, ap, ◌∙◌, subst, arith}
 use Rattle.std.specs.Option.{option_or}
 use Rattle.ol_beta.specs.Leftmost.{leftmost, is_abstraction}
 use Rattle.ol_beta.specs.Leftmost as beta_steps
@@ -9,7 +9,7 @@ use Rattle.ol_demand.specs.Demands.{Asking, Turns, IsDemandRun}
 use Rattle.ol_demand.specs.Laws.{IsStart}
 use Rattle.ol_demand.proofs.Onward.{is_start}
 use Rattle.ol_law_edges.specs.Edges.{IsIn}
-use Rattle.ol_law_optimality.specs.Families.{labels_in, IsLetter}
+use Rattle.ol_law_optimality.specs.Families.{labels_in, IsLetter, HaveOwnLetters}
 use Rattle.ol_law_optimality.specs.Readings.{AreDifferent}
 use Rattle.ol_law_meaning.specs.Heads.{head_app, Normal, flat, layer}
 use Rattle.ol_law_meaning.specs.Contraction.{Level, Place, wire}
@@ -25,27 +25,29 @@ use Rattle.ol_rules.specs.declared.journal.NodeName.TheVariants.{Init}
 use Rattle.ol_term.specs.declared.translations.Translation.{Translation}
 use Rattle.ol_translate.specs.Names.{HasNames}
 use Rattle.ol_translate.specs.Translation.{translation_of}
-use Rattle.ol_law_optimality.specs.Families.{HaveOwnLetters}
 use Rattle.ol_law_optimality.specs.Demand.{AreSoManyOf}
 use Rattle.ol_readback.specs.Terms.{IsNoLam}
 use Rattle.ol_term.specs.Trees.{Tree}
 use Rattle.ol_term.specs.Trees as trees
 use Rattle.ol_law_optimality.specs.FirstHeads.{ShowsHeads, not_asked, at_var, at_free, at_lam, at_app, HasFirstHeads}
-use Rattle.ol_law_optimality.specs.FirstHeads.{BetasAreOfEachReductionForHeads, NoneIsShorterForHeads, DemandIsAsShortForHeads}
-use Rattle.ol_law_optimality.specs.FirstHeads.{FewestForHeads, NoneIsShorterThanNeeded}
+use Rattle.ol_law_optimality.specs.FirstHeads.{BetasAreOfEachReductionForHeads, NoneIsShorterForHeads}
+use Rattle.ol_law_optimality.specs.FirstHeads.{DemandIsAsShortForHeads, FewestForHeads, NoneIsShorterThanNeeded}
 use Rattle.ol_law_optimality.specs.LevysTheorem.{IsNeededFor}
 use Rattle.ol_law_optimality.specs.Reductions.{Contracts, FamilyReduces, Parallel, of_lam, of_app, LeftmostFamilies}
 use Rattle.ol_law_optimality.specs.Reductions as reductions
 use Rattle.ol_law_optimality.proofs.FirstHeadsFamilies.{turns_have_families, runs_have_families}
-use Rattle.ol_law_optimality.proofs.FirstHeadsNeeded.{BesideHeads, shows_one, shows_stay, shown, spine_neutral, neutral_row, neutral_no_lam}
+use Rattle.ol_law_optimality.proofs.FirstHeadsNeeded.{BesideHeads, shows_one, shows_stay, shown, spine_neutral}
+use Rattle.ol_law_optimality.proofs.FirstHeadsNeeded.{neutral_row, neutral_no_lam}
 use Rattle.ol_law_optimality.proofs.FirstHeadsPlaces.{By}
 use Rattle.ol_law_optimality.proofs.FirstHeadsPlaces as places
 use Rattle.ol_law_optimality.proofs.Counts.{no_more}
-use Rattle.ol_law_optimality.proofs.Firsts.{IsPlain, IsStill, IsFirst, first_is_none, stays, stays_plain, first_of, first_degree}
+use Rattle.ol_law_optimality.proofs.Firsts.{IsPlain, IsStill, IsFirst, first_is_none, stays, stays_plain, first_of}
+use Rattle.ol_law_optimality.proofs.Firsts.{first_degree}
 use Rattle.ol_law_optimality.proofs.Firsts as firsts
 use Rattle.ol_law_optimality.proofs.Needed.{Of, Row, done, more, beside, contracts_row, spread}
 use Rattle.ol_law_optimality.proofs.Once.{History, at_first, is_new, one_more, no_family_twice}
-use Rattle.ol_law_optimality.proofs.Steps.{whole_family, whole_parallel, leftmost_families_are_whole, leftmost_families_are_families}
+use Rattle.ol_law_optimality.proofs.Steps.{whole_family, whole_parallel, leftmost_families_are_whole}
+use Rattle.ol_law_optimality.proofs.Steps.{leftmost_families_are_families}
 use Rattle.ol_law_optimality.proofs.Together.{parallel_same, of_lam_view, OfApp, OfRedex, of_app_view}
 use Rattle.ol_law_optimality.proofs.HeadReached.{head_row}
 

@@ -1,5 +1,6 @@
 -- Convertible terms that show their first heads show the same ones: those of the tree that one of them fills.
-use Rattle.std.proofs.Common.{◌≡◌, ℕ, zero, suc, ◌+◌, Bool, true, false, List, [], ◌∷◌, ◌++◌, length, append-nil, map, refl, sym, ap, ◌∙◌, subst}
+use Rattle.std.proofs.Common.{◌≡◌, ℕ, zero, suc, ◌+◌, Bool, true, false, List, [], ◌∷◌, ◌++◌, length, append-nil, map}
+use Rattle.std.proofs.Common.{refl, sym, ap, ◌∙◌, subst}
 use Rattle.std.proofs.lemmas.List.{append_assoc}
 use Rattle.ol_law_confluence.specs.Reductions.{Convertible, AreConvertible}
 use Rattle.ol_law_confluence.proofs.HeadForms.{heads_agree}

@@ -1,7 +1,7 @@
 -- The turns of a demand run that asks for so many heads, where so many are there: its questions are after the first
 -- places of the term, and each question after one of them is answered.
-use Rattle.std.proofs.Common.{◌≡◌, ℕ, zero, suc, ◌+◌, ◌≤◌, ◌<◌, ◌⊎◌, inl, inr, List, [], ◌∷◌, ◌++◌, length, Some, true, false, refl, sym}
-use Rattle.std.proofs.Common.{ap, ◌∙◌, subst, arith}
+use Rattle.std.proofs.Common.{◌≡◌, ℕ, zero, suc, ◌+◌, ◌≤◌, ◌<◌, ◌⊎◌, inl, inr, List, [], ◌∷◌, ◌++◌, length, Some, true}
+use Rattle.std.proofs.Common.{false, refl, sym, ap, ◌∙◌, subst, arith}
 use Rattle.std.proofs.lemmas.Bool.{cases_lt}
 use Rattle.std.proofs.lemmas.List.{length_push}
 use Rattle.ol_context.specs.Asked.{os, asked}
@@ -22,7 +22,8 @@ use Rattle.ol_readback.proofs.Kept.{heads_are_kept}
 use Rattle.ol_readback.proofs.One.{exit_is_one}
 use Rattle.ol_demand.specs.Chains as chain
 use Rattle.ol_demand.specs.Chains.{Ends}
-use Rattle.ol_demand.specs.Demands.{Asking, asks, IsFound, exits, lost, spent, next, place_of, Turn, rewrites, one_more, finds, Turns, begins, and_then}
+use Rattle.ol_demand.specs.Demands.{Asking, asks, IsFound, exits, lost, spent, next, place_of, Turn, rewrites, one_more}
+use Rattle.ol_demand.specs.Demands.{finds, Turns, begins, and_then}
 use Rattle.ol_demand.specs.Laws.{IsStart}
 use Rattle.ol_demand.proofs.Chains.{path_at}
 use Rattle.ol_demand.proofs.SourceHeads.{Tried, tried_more, tried_none}
@@ -32,7 +33,8 @@ use Rattle.ol_law_levels.proofs.Budgets.{spent_is_lost}
 use Rattle.ol_law_levels.proofs.Lost.{lost_is_lost}
 use Rattle.ol_law_levels.proofs.Runs.{run_keeps}
 use Rattle.ol_law_meaning.specs.Contraction.{Tree, Wire, Place, root}
-use Rattle.ol_law_meaning.specs.Heads.{Spine, head_var, head_free, head_app, Normal, flat, layer, Steps, done, step, SameAlong, Arg, last, earlier, inner, StandsAt}
+use Rattle.ol_law_meaning.specs.Heads.{Spine, head_var, head_free, head_app, Normal, flat, layer, Steps, done, step}
+use Rattle.ol_law_meaning.specs.Heads.{SameAlong, Arg, last, earlier, inner, StandsAt}
 use Rattle.ol_law_meaning.specs.Seen.{ahead, Chain, IsChain, Seats, IsSeen, WholeSeats, ArgSeats}
 use Rattle.ol_law_meaning.proofs.Based.{term_seen}
 use Rattle.ol_law_meaning.proofs.Endless.{comes_to_none, normal_stops}
@@ -40,7 +42,8 @@ use Rattle.ol_law_meaning.proofs.HeadSteps.{reduces}
 use Rattle.ol_law_meaning.proofs.Matched.{chain_grows}
 use Rattle.ol_law_meaning.proofs.Seats.{spot_is}
 use Rattle.ol_law_meaning.proofs.Shapes.{normal_is}
-use Rattle.ol_law_meaning.proofs.Showing.{exit_of, exit_matches, chain_more, asked_is, is_head_of, port_of_stays, no_head_is, Exit}
+use Rattle.ol_law_meaning.proofs.Showing.{exit_of, exit_matches, chain_more, asked_is, is_head_of, port_of_stays}
+use Rattle.ol_law_meaning.proofs.Showing.{no_head_is, Exit}
 use Rattle.ol_law_meaning.proofs.Sights.{arg_seen}
 use Rattle.ol_law_meaning.proofs.Walking.{least_or}
 use Rattle.ol_law_optimality.specs.Seen.{IsQuestion, AnswersNow, IsAnswered, MeetsNone}
@@ -51,7 +54,8 @@ use Rattle.ol_translate.specs.Translation.{translation_of}
 use Rattle.ol_law_optimality.proofs.Wanted.{Asks, whole, part, one_step, arg_stops}
 use Rattle.ol_law_optimality.proofs.Answering.{rest_of, port_of_place}
 use Rattle.ol_law_optimality.proofs.DegreesWanted.{Close, Reached}
-use Rattle.ol_law_optimality.proofs.FirstHeadsPlaces.{Heads, not_asked, is_asked, of_var, of_free, of_lam, of_app, same_form, one_left, Before, IsAt, nothing_at}
+use Rattle.ol_law_optimality.proofs.FirstHeadsPlaces.{Heads, not_asked, is_asked, of_var, of_free, of_lam, of_app}
+use Rattle.ol_law_optimality.proofs.FirstHeadsPlaces.{same_form, one_left, Before, IsAt, nothing_at}
 use Rattle.ol_law_confluence.proofs.Printed.{heads_append}
 
 -- ---- an argument at the end of some head steps is one of the head normal form

@@ -3,7 +3,8 @@
 use Rattle.std.proofs.Common.{◌≡◌, ℕ, suc, Bool, true, false, ◌⊎◌, inl, inr, List, ◌∷◌, ◌++◌, refl, sym, ◌∙◌, subst}
 use Rattle.ol_law_edges.specs.Edges.{IsIn}
 use Rattle.ol_law_edges.proofs.Lists.{in_left, in_right}
-use Rattle.ol_law_meaning.specs.Contraction.{Tree, lam, app, Level, empty, Context, Place, root, at, Edge, Trail, HeadStep}
+use Rattle.ol_law_meaning.specs.Contraction.{Tree, lam, app, Level, empty, Context, Place, root, at, Edge, Trail}
+use Rattle.ol_law_meaning.specs.Contraction.{HeadStep}
 use Rattle.ol_law_meaning.specs.Steps.{Same}
 use Rattle.ol_law_meaning.specs.Heads.{outer, Normal, Steps, done, step, SameAlong, Arg, last, earlier, inner, StandsAt}
 use Rattle.ol_law_meaning.proofs.Endless.{normal_stops}
@@ -19,7 +20,8 @@ use Rattle.ol_law_optimality.specs.Labels as labels
 use Rattle.ol_law_meaning.specs.Sites.{Site, in_lam, in_function, in_argument, PartAt, function_at}
 use Rattle.ol_term.specs.declared.translations.Translation.{Translation}
 use Rattle.ol_law_optimality.specs.Signs.{Signs, signs_of}
-use Rattle.ol_law_optimality.specs.Readings.{AreAlike, word_of, word_along, function_label, HeadReduces, ready, contract}
+use Rattle.ol_law_optimality.specs.Readings.{AreAlike, word_of, word_along, function_label, HeadReduces, ready}
+use Rattle.ol_law_optimality.specs.Readings.{contract}
 use Rattle.ol_law_optimality.proofs.HeadWords.{Step, step_of, redex_word}
 use Rattle.ol_law_optimality.proofs.Sides.{site_has_one_word}
 use Rattle.ol_law_optimality.proofs.Wanting.{comes_on, lift_fun, lift_arg, lift_lam}

@@ -1,6 +1,8 @@
 -- Labels after a labelled step: what is read of them beyond what was read before.
 use Rattle.std.proofs.Common.{◌≡◌, ℕ, suc, ◌++◌, [], ◌∷◌, Option, Some, None, refl, sym, ap, ◌∙◌}
-use Rattle.ol_law_meaning.specs.Contraction.{Tree, var, free, lam, app, Wire, bound, name, under, root, wire, Spot, at, body, fun, arg, lifted, without, suc_of, wire_of, wire_without, Cut, inM, inN}
+use Rattle.ol_law_meaning.specs.Contraction.{Tree, var, free, lam, app, Wire, bound, name, under, root, wire, Spot, at}
+use Rattle.ol_law_meaning.specs.Contraction.{body, fun, arg, lifted, without, suc_of, wire_of, wire_without, Cut, inM}
+use Rattle.ol_law_meaning.specs.Contraction.{inN}
 use Rattle.ol_law_optimality.specs.Labels.{Label, Labelled, erased, before, joined}
 use Rattle.ol_law_optimality.specs.Labels as labels
 use Rattle.ol_law_optimality.specs.Signs.{Signs, signs_of, onward, reversed, ends_over, begins_over, ends_under}

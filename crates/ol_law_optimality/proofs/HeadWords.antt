@@ -7,7 +7,8 @@ use Rattle.ol_law_optimality.proofs.Meeting.{app_is, lam_is, too_few}
 use Rattle.ol_law_optimality.proofs.Lanes.{none_met}
 use Rattle.ol_law_optimality.proofs.Sites.{base}
 use Rattle.ol_law_meaning.specs.Heads.{os, outer}
-use Rattle.ol_law_meaning.specs.Contraction.{Tree, lam, app, Level, empty, Context, Place, root, Spot, at, Edge, Trail, here, on, back, HeadStep, is_abstraction, subst_for}
+use Rattle.ol_law_meaning.specs.Contraction.{Tree, lam, app, Level, empty, Context, Place, root, Spot, at, Edge, Trail}
+use Rattle.ol_law_meaning.specs.Contraction.{here, on, back, HeadStep, is_abstraction, subst_for}
 use Rattle.ol_law_meaning.specs.Contraction as spots
 use Rattle.ol_law_meaning.specs.Steps.{Same, redex_root, before_root}
 use Rattle.ol_law_meaning.proofs.LeftmostSteps.{subst_is}
@@ -18,7 +19,9 @@ use Rattle.ol_law_optimality.proofs.Erasing.{labels_erase}
 use Rattle.ol_law_meaning.specs.Sites.{Site, spot_in, PartAt, function_at, abstraction_at}
 use Rattle.ol_term.specs.declared.translations.Translation.{Translation}
 use Rattle.ol_law_optimality.specs.Signs.{signs_of}
-use Rattle.ol_law_optimality.specs.Readings.{word_along, word_of, function_label, moved, AreAlike, HeadContracts, at_redex, below_lam, before_argument, HeadStepsKeepWords, WordsAreDegrees, ready, contract}
+use Rattle.ol_law_optimality.specs.Readings.{word_along, word_of, function_label, moved, AreAlike, HeadContracts}
+use Rattle.ol_law_optimality.specs.Readings.{at_redex, below_lam, before_argument, HeadStepsKeepWords, WordsAreDegrees}
+use Rattle.ol_law_optimality.specs.Readings.{ready, contract}
 use Rattle.ol_law_optimality.proofs.Keeping.{Goes, Keeps, follow}
 use Rattle.ol_law_optimality.proofs.Motions.{Motion, Walks, moved_append}
 use Rattle.ol_law_optimality.proofs.Nested.{lam_keeps, app_keeps}

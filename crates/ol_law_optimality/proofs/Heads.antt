@@ -1,9 +1,8 @@
 -- A head step takes the sites of a term's applications, but its own redex's, to those of the next term.
 use Rattle.std.proofs.Common.{◌≡◌, Bool, true, false, ◌⊎◌, inl, inr, refl, sym, ap, ◌∙◌}
-use Rattle.ol_law_meaning.specs.Contraction.{Tree, lam, app, Level, empty, Context, Place, root, Spot, at}
-use Rattle.ol_law_meaning.specs.Contraction.{body, fun, arg, subst_for, Cut, inM, inN, Held, Opens, in_m}
-use Rattle.ol_law_meaning.specs.Contraction.{in_n, top, IsSpotOf, is_abstraction, HeadStep, beta, below}
-use Rattle.ol_law_meaning.specs.Contraction.{before}
+use Rattle.ol_law_meaning.specs.Contraction.{Tree, lam, app, Level, empty, Context, Place, root, Spot, at, body, fun}
+use Rattle.ol_law_meaning.specs.Contraction.{arg, subst_for, Cut, inM, inN, Held, Opens, in_m, in_n, top, IsSpotOf}
+use Rattle.ol_law_meaning.specs.Contraction.{is_abstraction, HeadStep, beta, below, before}
 use Rattle.ol_law_meaning.specs.Steps.{SameRedex, redex_root, SameBelow, SameBefore, before_root, Same}
 use Rattle.ol_law_meaning.proofs.There.{root_is}
 use Rattle.ol_law_meaning.proofs.Ways.{Way, way_below, below_is, is_below, way_before, before_is}

@@ -2,14 +2,12 @@
 use Rattle.std.proofs.Common.{◌≡◌, ℕ, ◌+◌, true, false, ◌⊎◌, inl, inr, refl, sym, ap, ◌∙◌, subst}
 use Rattle.std.proofs.lemmas.Bool.{or_left, or_right}
 use Rattle.ol_context.proofs.Contexts.{head_eq, tail_eq}
-use Rattle.ol_law_meaning.specs.Contraction.{Tree, lam, app, Level, empty, o, star, Context, cons, Wire}
-use Rattle.ol_law_meaning.specs.Contraction.{occurs, left, Place, root, wire, Spot, at, body, fun, arg, Edge}
-use Rattle.ol_law_meaning.specs.Contraction.{lam_root, lam_own, lam_wire, app_root, app_arg, app_left}
-use Rattle.ol_law_meaning.specs.Contraction.{app_right, in_body, in_fun, in_arg, Trail, here, on, back}
-use Rattle.ol_law_meaning.specs.Contraction.{IsRight}
-use Rattle.ol_law_meaning.specs.Heads.{os, Spine, OutOf, up_root, up_own, up_wire, Arg, last, earlier}
-use Rattle.ol_law_meaning.specs.Heads.{inner, HatLast, hat_root, hat_wire, HatEarlier, hat_left}
-use Rattle.ol_law_meaning.specs.Heads.{HatInner, hat_up, StandsAt}
+use Rattle.ol_law_meaning.specs.Contraction.{Tree, lam, app, Level, empty, o, star, Context, cons, Wire, occurs, left}
+use Rattle.ol_law_meaning.specs.Contraction.{Place, root, wire, Spot, at, body, fun, arg, Edge, lam_root, lam_own}
+use Rattle.ol_law_meaning.specs.Contraction.{lam_wire, app_root, app_arg, app_left, app_right, in_body, in_fun, in_arg}
+use Rattle.ol_law_meaning.specs.Contraction.{Trail, here, on, back, IsRight}
+use Rattle.ol_law_meaning.specs.Heads.{os, Spine, OutOf, up_root, up_own, up_wire, Arg, last, earlier, inner, HatLast}
+use Rattle.ol_law_meaning.specs.Heads.{hat_root, hat_wire, HatEarlier, hat_left, HatInner, hat_up, StandsAt}
 use Rattle.ol_law_meaning.proofs.Addresses.{left_one, right_one, sides_apart}
 use Rattle.ol_law_meaning.proofs.Channels.{inside, up_from_one}
 use Rattle.ol_law_meaning.proofs.Seats.{Hats, Comes, Earlier, funs, sides, Inner, bodies, rims, up_has}

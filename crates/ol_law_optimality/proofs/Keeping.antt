@@ -1,6 +1,7 @@
 -- A labelled step takes what is read along edges with it: what has to be given, and how trails follow.
 use Rattle.std.proofs.Common.{◌≡◌, ℕ, ◌+◌, Bool, true, false, [], ◌⊎◌, refl, sym, ap, ◌∙◌}
-use Rattle.ol_law_meaning.specs.Contraction.{Tree, Level, empty, Context, Wire, Place, root, wire, Spot, at, Edge, Trail, here, on, back, occurs, is_abstraction}
+use Rattle.ol_law_meaning.specs.Contraction.{Tree, Level, empty, Context, Wire, Place, root, wire, Spot, at, Edge}
+use Rattle.ol_law_meaning.specs.Contraction.{Trail, here, on, back, occurs, is_abstraction}
 use Rattle.ol_law_meaning.proofs.Ways.{Has}
 use Rattle.ol_law_optimality.proofs.Sites.{base, Stands}
 use Rattle.ol_law_optimality.specs.Labels.{Label, Labelled}

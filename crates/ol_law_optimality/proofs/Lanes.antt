@@ -1,17 +1,15 @@
 -- From a head normal form's root no application of a redex is met.
 use Rattle.std.proofs.Common.{◌≡◌, ℕ, Bool, true, false, ◌⊎◌, inl, inr, refl, sym, ap, ◌∙◌, subst}
-use Rattle.ol_law_meaning.specs.Contraction.{Tree, var, free, lam, app, Level, empty, o, star, Context, cons}
-use Rattle.ol_law_meaning.specs.Contraction.{Wire, bound, name, occurs, left, Place, root, wire, Spot, at}
-use Rattle.ol_law_meaning.specs.Contraction.{body, fun, Edge, lam_root, lam_own, lam_wire, app_root, app_arg}
-use Rattle.ol_law_meaning.specs.Contraction.{app_left, app_right, in_body, in_fun, in_arg, Trail, here, on}
-use Rattle.ol_law_meaning.specs.Contraction.{back, IsRight}
+use Rattle.ol_law_meaning.specs.Contraction.{Tree, var, free, lam, app, Level, empty, o, star, Context, cons, Wire}
+use Rattle.ol_law_meaning.specs.Contraction.{bound, name, occurs, left, Place, root, wire, Spot, at, body, fun, Edge}
+use Rattle.ol_law_meaning.specs.Contraction.{lam_root, lam_own, lam_wire, app_root, app_arg, app_left, app_right}
+use Rattle.ol_law_meaning.specs.Contraction.{in_body, in_fun, in_arg, Trail, here, on, back, IsRight}
 use Rattle.ol_law_meaning.specs.Heads.{os, outer, Spine, head_var, head_free, head_app, OutOf, up_root}
 use Rattle.ol_law_meaning.specs.Heads.{up_own, up_wire, Normal, flat, layer}
 use Rattle.ol_law_meaning.proofs.Addresses.{left_one, sides_apart}
-use Rattle.ol_law_meaning.proofs.Channels.{Channel, along, Ends, is_e, is_x, Fun, fun_e, fun_x, fun_in}
-use Rattle.ol_law_meaning.proofs.Channels.{channel_app, app_in, channel_var, var_in, channel_free}
-use Rattle.ol_law_meaning.proofs.Channels.{free_in, In, in_e, in_x, in_in, channel_lam, lam_in, inside}
-use Rattle.ol_law_meaning.proofs.Channels.{up_from_one, up_to_one}
+use Rattle.ol_law_meaning.proofs.Channels.{Channel, along, Ends, is_e, is_x, Fun, fun_e, fun_x, fun_in, channel_app}
+use Rattle.ol_law_meaning.proofs.Channels.{app_in, channel_var, var_in, channel_free, free_in, In, in_e, in_x, in_in}
+use Rattle.ol_law_meaning.proofs.Channels.{channel_lam, lam_in, inside, up_from_one, up_to_one}
 use Rattle.ol_law_meaning.proofs.Walking.{os_o, spine_occurs, spine_outer, passing, least_or, opened_os}
 use Rattle.ol_term.specs.declared.translations.Translation.{Translation}
 use Rattle.ol_law_optimality.specs.Met.{IsMatched, IsMet, blank}

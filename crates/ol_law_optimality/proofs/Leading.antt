@@ -1,19 +1,21 @@
 -- A labelled head step is the leftmost one, and the root's walk meets its redex.
 use Rattle.std.proofs.Common.{◌≡◌, ℕ, ◌+◌, false, if◌then◌else◌, [], ◌∷◌, ◌++◌, Some, refl, ap, ◌∙◌, subst, append-nil}
-use Rattle.std.specs.Option.{option_map}
-use Rattle.std.specs.Option.{option_or}
+use Rattle.std.specs.Option.{option_map, option_or}
 use Rattle.ol_beta.specs.Leftmost.{leftmost}
 use Rattle.ol_beta.specs.Leftmost as beta_steps
 use Rattle.ol_law_optimality.specs.Met.{blank}
 use Rattle.ol_law_meaning.specs.Heads.{os, outer}
-use Rattle.ol_law_meaning.specs.Contraction.{Tree, var, free, lam, app, Level, empty, o, Context, root, Spot, at, body, fun, Edge, lam_root, app_root, Trail, here, on, is_abstraction}
+use Rattle.ol_law_meaning.specs.Contraction.{Tree, var, free, lam, app, Level, empty, o, Context, root, Spot, at, body}
+use Rattle.ol_law_meaning.specs.Contraction.{fun, Edge, lam_root, app_root, Trail, here, on, is_abstraction}
 use Rattle.ol_law_optimality.specs.Labels.{Label, Labelled, erased}
 use Rattle.ol_law_optimality.specs.Labels as labels
-use Rattle.ol_law_meaning.specs.Sites.{Site, self, in_lam, in_function, PartAt, whole, of_lam, of_function, function_at, abstraction_at}
+use Rattle.ol_law_meaning.specs.Sites.{Site, self, in_lam, in_function, PartAt, whole, of_lam, of_function, function_at}
+use Rattle.ol_law_meaning.specs.Sites.{abstraction_at}
 use Rattle.ol_law_meaning.proofs.Trails.{tr_body, tr_fun}
 use Rattle.ol_term.specs.declared.translations.Translation.{Translation}
 use Rattle.ol_law_optimality.specs.Signs.{signs_of}
-use Rattle.ol_law_optimality.specs.Readings.{word_along, function_label, HeadContracts, at_redex, below_lam, before_argument, HeadIsLeftmost, DegreesAreMet}
+use Rattle.ol_law_optimality.specs.Readings.{word_along, function_label, HeadContracts, at_redex, below_lam}
+use Rattle.ol_law_optimality.specs.Readings.{before_argument, HeadIsLeftmost, DegreesAreMet}
 
 pub head_is_leftmost : HeadIsLeftmost
 head_is_leftmost T U d (at_redex b c v w) = ([], refl, refl, refl)

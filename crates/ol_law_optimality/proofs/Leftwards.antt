@@ -14,7 +14,8 @@ use Rattle.ol_law_optimality.specs.Labels as labels
 use Rattle.ol_law_meaning.specs.Sites.{Site}
 use Rattle.ol_term.specs.declared.translations.Translation.{Translation}
 use Rattle.ol_law_optimality.specs.Signs.{signs_of}
-use Rattle.ol_law_optimality.specs.Readings.{AreAlike, word_of, HeadContracts, at_redex, below_lam, before_argument, WordsAreLeftmostDegrees}
+use Rattle.ol_law_optimality.specs.Readings.{AreAlike, word_of, HeadContracts, at_redex, below_lam, before_argument}
+use Rattle.ol_law_optimality.specs.Readings.{WordsAreLeftmostDegrees}
 use Rattle.ol_law_optimality.proofs.HeadWords.{head_steps_keep_words}
 use Rattle.ol_law_optimality.proofs.Leading.{head_is_leftmost}
 

@@ -11,9 +11,8 @@ use Rattle.ol_net.specs.declared.parts.Kind.TheVariants as kind
 use Rattle.ol_net.specs.declared.parts.Port.{Port}
 use Rattle.ol_law_optimality.specs.Labels.{Label, none, atom, over, under, Labelled, var, free, lam, app, erased}
 use Rattle.ol_term.specs.declared.translations.Translation.{Translation}
-use Rattle.ol_translate.specs.Translation.{Subnet, subnet_of, erasers, bracket_nodes, past_brackets, fans}
-use Rattle.ol_translate.specs.Translation.{fan_nodes, merged}
-use Rattle.ol_translate.specs.Translation.{applied, bare_variable, wire_of, slot_port, translation_of}
+use Rattle.ol_translate.specs.Translation.{Subnet, subnet_of, erasers, bracket_nodes, past_brackets, fans, fan_nodes}
+use Rattle.ol_translate.specs.Translation.{merged, applied, bare_variable, wire_of, slot_port, translation_of}
 use Rattle.ol_law_optimality.specs.Families.{labels_in, HaveOwnLetters, IsLetter}
 use Rattle.ol_law_optimality.proofs.Hearing.{AreLettered}
 use Rattle.ol_law_optimality.specs.Readings.{label_of, AreDifferent}

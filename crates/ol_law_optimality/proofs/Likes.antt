@@ -1,7 +1,9 @@
 -- Labelled terms of which the same is read.
-use Rattle.std.proofs.Common.{◌≡◌, ℕ, suc, ◌+◌, ◌-◌, ◌<◌, ◌==◌, nat_lt, Bool, true, false, if◌then◌else◌, ◌∷◌, ◌++◌, Option, Some, None, refl, sym, ap, ◌∙◌, subst, arith}
+use Rattle.std.proofs.Common.{◌≡◌, ℕ, suc, ◌+◌, ◌-◌, ◌<◌, ◌==◌, nat_lt, Bool, true, false, if◌then◌else◌, ◌∷◌, ◌++◌}
+use Rattle.std.proofs.Common.{Option, Some, None, refl, sym, ap, ◌∙◌, subst, arith}
 use Rattle.std.proofs.lemmas.Bool.{eqb-true, eq-eqb, ltb-true}
-use Rattle.ol_law_meaning.specs.Contraction.{Tree, without, root, wire, Spot, at, body, fun, arg, Edge, Trail, here, on, back}
+use Rattle.ol_law_meaning.specs.Contraction.{Tree, without, root, wire, Spot, at, body, fun, arg, Edge, Trail, here, on}
+use Rattle.ol_law_meaning.specs.Contraction.{back}
 use Rattle.ol_law_meaning.proofs.Addresses.{without_is, without_own}
 use Rattle.ol_law_optimality.specs.Labels.{Label, Labelled, var, free, lam, app, before, joined, shifted, substituted}
 use Rattle.ol_law_meaning.specs.Sites.{Site, self, in_lam, in_function, in_argument}

@@ -38,7 +38,8 @@ use Rattle.ol_law_optimality.specs.Readings.{function_label, word_along, word_of
 use Rattle.ol_law_optimality.specs.Signs.{letter_of, Signs, onward, reversed, signs_of, Signed, nothing, shared_up}
 use Rattle.ol_law_optimality.specs.Signs.{shared_down, to_function, from_function, to_body, from_body, from_variable}
 use Rattle.ol_law_optimality.specs.Signs.{to_variable, to_argument, from_argument}
-use Rattle.ol_law_optimality.proofs.Hearing.{rising, AreLettered, Heard, linked, crossed, lam_at, function_is, trail_heard}
+use Rattle.ol_law_optimality.proofs.Hearing.{rising, AreLettered, Heard, linked, crossed, lam_at, function_is}
+use Rattle.ol_law_optimality.proofs.Hearing.{trail_heard}
 use Rattle.ol_law_optimality.proofs.Motions.{moved_append}
 use Rattle.ol_law_optimality.proofs.Saying.{Says, start, all_along, not_left, row_is_heard}
 use Rattle.ol_law_optimality.proofs.Saying as saying

@@ -6,7 +6,8 @@ use Rattle.ol_law_meaning.specs.Spots.{Spot, body, fun, arg, Edge, in_body, in_f
 use Rattle.ol_term.specs.Trees.{Tree}
 use Rattle.ol_term.specs.Trees as trees
 use Rattle.ol_term.specs.declared.translations.Translation.{Translation}
-use Rattle.ol_law_optimality.specs.Signs.{letter_of, begins_over, ends_over, begins_under, ends_under, Signs, onward, reversed, signs_of}
+use Rattle.ol_law_optimality.specs.Signs.{letter_of, begins_over, ends_over, begins_under, ends_under, Signs, onward}
+use Rattle.ol_law_optimality.specs.Signs.{reversed, signs_of}
 use Rattle.ol_law_optimality.specs.Readings.{reading, word_along, Acting, moved}
 
 module _ (r : Acting) where

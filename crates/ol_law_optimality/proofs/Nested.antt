@@ -1,22 +1,28 @@
 -- A labelled step under an abstraction, and before an argument.
-use Rattle.std.proofs.Common.{◌≡◌, ℕ, true, false, [], ◌∷◌, ◌++◌, ◌⊎◌, inl, inr, refl, sym, ap, ◌∙◌, subst}
+use Rattle.std.proofs.Common.{◌≡◌, ℕ, true, false, [], ◌∷◌, ◌++◌, ◌⊎◌, inl, inr, refl, sym, ap, ◌∙◌, subst, Bool, ◌+◌}
 use Rattle.std.proofs.lemmas.Bool.{or_left, or_right}
 use Rattle.ol_law_optimality.proofs.Sites.{base, Stands, no_wire, no_root}
-use Rattle.ol_law_meaning.specs.Contraction.{Tree, lam, app, Level, empty, o, star, Context, Wire, bound, under, occurs, left, right, Place, root, wire, Spot, at, body, fun, arg, Edge, lam_root, lam_own, lam_wire, app_root, app_arg, app_left, app_right, in_body, in_fun, in_arg, IsRight, is_abstraction}
-use Rattle.ol_law_meaning.specs.Steps.{SameBelow, below_o, below_star, below_wire, SameBefore, before_root, before_left, before_right}
+use Rattle.ol_law_meaning.specs.Contraction.{Tree, lam, app, Level, empty, o, star, Context, Wire, bound, under, occurs}
+use Rattle.ol_law_meaning.specs.Contraction.{left, right, Place, root, wire, Spot, at, body, fun, arg, Edge, lam_root}
+use Rattle.ol_law_meaning.specs.Contraction.{lam_own, lam_wire, app_root, app_arg, app_left, app_right, in_body, in_fun}
+use Rattle.ol_law_meaning.specs.Contraction.{in_arg, IsRight, is_abstraction, Trail, here}
+use Rattle.ol_law_meaning.specs.Steps.{SameBelow, below_o, below_star, below_wire, SameBefore, before_root, before_left}
+use Rattle.ol_law_meaning.specs.Steps.{before_right}
 use Rattle.ol_law_meaning.proofs.Addresses.{left_one, right_one, sides_apart}
 use Rattle.ol_law_meaning.proofs.Ways.{Below, parts, sides, Before, funs, args, edges}
 use Rattle.ol_law_optimality.specs.Labels.{Label, Labelled, erased}
 use Rattle.ol_law_optimality.specs.Labels as labels
-use Rattle.ol_law_meaning.specs.Sites.{Site, self, in_lam, in_function, in_argument, spot_in, whole, of_lam, of_function, of_argument}
+use Rattle.ol_law_meaning.specs.Sites.{Site, self, in_lam, in_function, in_argument, spot_in, whole, of_lam}
+use Rattle.ol_law_meaning.specs.Sites.{of_function, of_argument}
 use Rattle.ol_term.specs.declared.translations.Translation.{Translation}
-use Rattle.ol_law_optimality.specs.Signs.{Sign, Signs, signs_of, reversed, onward, backward, begins_over, ends_over, begins_under, ends_under}
+use Rattle.ol_law_optimality.specs.Signs.{Sign, Signs, signs_of, reversed, onward, backward, begins_over, ends_over}
+use Rattle.ol_law_optimality.specs.Signs.{begins_under, ends_under}
 use Rattle.ol_law_optimality.specs.Readings.{label_of, reading, from_lam, from_app, from_fun, Acting, moved}
 use Rattle.ol_law_meaning.proofs.Trails.{tr_trans, one, one_back, tr_body, tr_fun}
-use Rattle.ol_law_meaning.specs.Contraction.{Trail, here}
-use Rattle.std.proofs.Common.{Bool, ◌+◌}
 use Rattle.ol_law_optimality.proofs.Keeping.{Undone, Left, Source, Related, Follows, Leaves, placed, Goes, Comes, Keeps}
-use Rattle.ol_law_optimality.proofs.Motions.{Motion, by, still, then_by, Walks, stay, along_edge, back_edge, and_on, in_the_body, in_the_fun, moved_append, moved_back, moved_there, reversed_append, reversed_twice}
+use Rattle.ol_law_optimality.proofs.Motions.{Motion, by, still, then_by, Walks, stay, along_edge, back_edge, and_on}
+use Rattle.ol_law_optimality.proofs.Motions.{in_the_body, in_the_fun, moved_append, moved_back, moved_there}
+use Rattle.ol_law_optimality.proofs.Motions.{reversed_append, reversed_twice}
 
 -- out of a part's root: its label is read backwards
 module _ (r : Acting) (g : Signs → Signs) (a b : Signs) (f : (y : Signs) → g (moved r a y) ≡ moved r b y) where

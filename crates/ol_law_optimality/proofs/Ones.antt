@@ -1,6 +1,5 @@
 -- A step makes at most one row of each.
-use Rattle.std.proofs.Common.{◌≡◌, ◌≢◌, ℕ, ◌+◌, ◌⊎◌, inl, inr, List, [], ◌∷◌, refl, sym, ap, ◌∙◌}
-use Rattle.std.proofs.Common.{subst}
+use Rattle.std.proofs.Common.{◌≡◌, ◌≢◌, ℕ, ◌+◌, ◌⊎◌, inl, inr, List, [], ◌∷◌, refl, sym, ap, ◌∙◌, subst}
 use Rattle.ol_rules.specs.Rewriting.{Action, meeting, crossing}
 use Rattle.ol_law_optimality.specs.Routes.{Crossing, rise, fall, node_of, Route, Residue, ends}
 use Rattle.ol_law_optimality.specs.Routes.{ends_at_copy, passes, meets_up, meets_down, crosses_up}

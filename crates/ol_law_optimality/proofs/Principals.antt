@@ -13,9 +13,8 @@ use Rattle.ol_net.specs.Numbered.{numbered_port}
 use Rattle.ol_context.specs.Contexts.{Level, empty, o, star, pair, Context, cons}
 use Rattle.ol_translate.specs.Translation.{subnet_of, applied, bare_variable, wire_of, slot_port}
 use Rattle.ol_translate.proofs.Joints.{few_wires}
-use Rattle.ol_law_meaning.specs.Sites.{Site, self, in_lam, in_function, in_argument, PartAt, whole}
-use Rattle.ol_law_meaning.specs.Sites.{of_lam, of_function, of_argument, abstraction_at, depth}
-use Rattle.ol_law_meaning.specs.Sites.{context_at}
+use Rattle.ol_law_meaning.specs.Sites.{Site, self, in_lam, in_function, in_argument, PartAt, whole, of_lam, of_function}
+use Rattle.ol_law_meaning.specs.Sites.{of_argument, abstraction_at, depth, context_at}
 use Rattle.ol_law_meaning.specs.Spots.{root, wire, Spot, at, body, fun, arg}
 use Rattle.ol_law_meaning.proofs.Fans.{Merges, outside_wire, by_wire, wire_here, wire_later}
 use Rattle.ol_law_meaning.proofs.Parts.{Has, argument, has_lam, Wires, has_app, has_app_to, has_head}

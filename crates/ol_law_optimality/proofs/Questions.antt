@@ -1,6 +1,5 @@
 -- What a demand run of a term's net asks: its questions begin where a term's places are asked.
-use Rattle.std.proofs.Common.{◌≡◌, ℕ, zero, suc, List, [], ◌∷◌, ◌++◌, length, Some, refl, sym}
-use Rattle.std.proofs.Common.{ap, ◌∙◌, subst, arith}
+use Rattle.std.proofs.Common.{◌≡◌, ℕ, zero, suc, List, [], ◌∷◌, ◌++◌, length, Some, refl, sym, ap, ◌∙◌, subst, arith}
 use Rattle.std.proofs.lemmas.List.{length_push}
 use Rattle.ol_context.specs.Asked.{os, asked}
 use Rattle.ol_context.specs.Contexts.{Level, empty, star, Context, cons, tail, levels}

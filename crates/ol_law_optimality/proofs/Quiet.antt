@@ -1,8 +1,7 @@
 -- What an edge between wires joins is joined without crossing an application or an abstraction. (As in
 -- ol_law_meaning's States, where it is said of all moves.)
-use Rattle.std.proofs.Common.{◌≡◌, ℕ, suc, ◌<◌, ◌+◌, [], ◌∷◌, length, true, Option}
-use Rattle.std.proofs.Common.{None, Some, inl, inr, refl, sym, ap, ◌∙◌, arith, subst}
-use Rattle.std.proofs.Common.{if◌then◌else◌}
+use Rattle.std.proofs.Common.{◌≡◌, ℕ, suc, ◌<◌, ◌+◌, [], ◌∷◌, length, true, Option, None, Some, inl, inr, refl, sym, ap}
+use Rattle.std.proofs.Common.{◌∙◌, arith, subst, if◌then◌else◌}
 use Rattle.std.proofs.lemmas.Bool.{and_parts}
 use Rattle.ol_term.specs.declared.translations.Translation.{Translation}
 use Rattle.ol_term.specs.Trees.{Tree, app, is_below}
@@ -20,14 +19,12 @@ use Rattle.ol_context.specs.Contexts.{Level, empty, o, star, pair, Context, cons
 use Rattle.ol_translate.specs.Translation.{subnet_of, application, application_to, applied}
 use Rattle.ol_translate.specs.Translation.{bare_variable, wire_of, slot_port}
 use Rattle.ol_translate.proofs.Joints.{few_wires}
-use Rattle.ol_law_meaning.specs.Spots.{Wire, occurs, left, IsRight, wire, Spot}
-use Rattle.ol_law_meaning.specs.Spots.{at, Edge, var_wire, free_wire, lam_root}
-use Rattle.ol_law_meaning.specs.Spots.{lam_own, lam_wire, app_root, app_arg, app_left, app_right}
-use Rattle.ol_law_meaning.specs.Spots.{in_body, in_fun, in_arg}
+use Rattle.ol_law_meaning.specs.Spots.{Wire, occurs, left, IsRight, wire, Spot, at, Edge, var_wire, free_wire, lam_root}
+use Rattle.ol_law_meaning.specs.Spots.{lam_own, lam_wire, app_root, app_arg, app_left, app_right, in_body, in_fun}
+use Rattle.ol_law_meaning.specs.Spots.{in_arg}
 use Rattle.ol_law_meaning.proofs.Fans.{Merges}
 use Rattle.ol_law_meaning.proofs.Bare.{right_packed, right_bare, is_wire, has_box, no_lam, no_app}
-use Rattle.ol_law_meaning.proofs.Parts.{Has, argument, Wires, has_app, has_app_to}
-use Rattle.ol_law_meaning.proofs.Parts.{key, IsInside, wire_there, wire_not}
+use Rattle.ol_law_meaning.proofs.Parts.{Has, argument, Wires, has_app, has_app_to, key, IsInside, wire_there, wire_not}
 use Rattle.ol_law_meaning.proofs.Parts.{occurs_inside, bare_there, bare_occurs, bare_lacks}
 use Rattle.ol_law_meaning.proofs.States.{Before, S, H, L, at_port, bare_state, arg_state, if_true, if_false, bool_or}
 

@@ -1,17 +1,30 @@
 -- From the cut of a redex to the labelled term with N put in: what is read along the edges.
 use Rattle.std.proofs.Common.{◌≡◌, ℕ, suc, true, [], ◌∷◌, Option, Some, None, refl, sym, ap, ◌∙◌, subst, ◌⊎◌, inl, inr}
-use Rattle.ol_law_meaning.specs.Contraction.{var, Level, empty, o, star, Context, cons, Wire, bound, name, under, root, wire, Spot, at, body, fun, arg, Edge, var_wire, free_wire, lam_root, lam_own, lam_wire, app_root, app_arg, app_left, app_right, in_body, in_fun, in_arg, occurs, left, right, lift, lifted, lifted_wire, without, wire_of, wire_without, put, subst_for, Cut, inM, inN, ofM, ofN, WireOf, other, named, own, lam_m, lam_n, fun_m, fun_n, arg_m, arg_n, Held, at_root, wire_m, wire_n, x_spot, x_wire, p_body, p_fun, p_arg, n_body, n_fun, n_arg, i_body, i_fun, i_arg, IsRight}
-use Rattle.ol_law_meaning.proofs.Addresses.{without_is, without_own, left_one, right_one, sides_apart, occurs_new, own_occurs, in_body_of, in_left_of, in_right_of, own_same, zero_keeps, without_under, wire_some, which, var_level, free_level, level_new}
-use Rattle.ol_law_meaning.proofs.Copying.{Copies, copy, copy_body, copy_fun, copy_arg, copy_exists, copies_held, copies_occur}
+use Rattle.ol_law_meaning.specs.Contraction.{var, Level, empty, o, star, Context, cons, Wire, bound, name, under, root}
+use Rattle.ol_law_meaning.specs.Contraction.{wire, Spot, at, body, fun, arg, Edge, var_wire, free_wire, lam_root}
+use Rattle.ol_law_meaning.specs.Contraction.{lam_own, lam_wire, app_root, app_arg, app_left, app_right, in_body, in_fun}
+use Rattle.ol_law_meaning.specs.Contraction.{in_arg, occurs, left, right, lift, lifted, lifted_wire, without, wire_of}
+use Rattle.ol_law_meaning.specs.Contraction.{wire_without, put, subst_for, Cut, inM, inN, ofM, ofN, WireOf, other}
+use Rattle.ol_law_meaning.specs.Contraction.{named, own, lam_m, lam_n, fun_m, fun_n, arg_m, arg_n, Held, at_root}
+use Rattle.ol_law_meaning.specs.Contraction.{wire_m, wire_n, x_spot, x_wire, p_body, p_fun, p_arg, n_body, n_fun, n_arg}
+use Rattle.ol_law_meaning.specs.Contraction.{i_body, i_fun, i_arg, IsRight}
+use Rattle.ol_law_meaning.proofs.Addresses.{without_is, without_own, left_one, right_one, sides_apart, occurs_new}
+use Rattle.ol_law_meaning.proofs.Addresses.{own_occurs, in_body_of, in_left_of, in_right_of, own_same, zero_keeps}
+use Rattle.ol_law_meaning.proofs.Addresses.{without_under, wire_some, which, var_level, free_level, level_new}
+use Rattle.ol_law_meaning.proofs.Copying.{Copies, copy, copy_body, copy_fun, copy_arg, copy_exists, copies_held}
+use Rattle.ol_law_meaning.proofs.Copying.{copies_occur}
 use Rattle.ol_law_meaning.proofs.Lifts.{lift_keeps}
-use Rattle.ol_law_meaning.proofs.There.{held_joint, by_wire, root_is, in_body_held, in_fun_held, in_arg_held, own_left, own_right, own_body}
+use Rattle.ol_law_meaning.proofs.There.{held_joint, by_wire, root_is, in_body_held, in_fun_held, in_arg_held, own_left}
+use Rattle.ol_law_meaning.proofs.There.{own_right, own_body}
 use Rattle.ol_law_optimality.specs.Labels.{Label, Labelled, erased, before}
 use Rattle.ol_law_optimality.specs.Labels as labels
 use Rattle.ol_term.specs.declared.translations.Translation.{Translation}
 use Rattle.ol_law_optimality.specs.Signs.{Signs, signs_of, reversed, onward, backward, begins_under}
 use Rattle.ol_law_optimality.specs.Readings.{label_of, reading, from_lam, from_app, from_fun, Acting, moved}
-use Rattle.ol_law_optimality.proofs.Motions.{Motion, by, still, then_by, Walks, stay, along_edge, back_edge, and_on, in_the_body, in_the_fun, in_the_arg, turned_still, flip}
-use Rattle.ol_law_optimality.proofs.Gaps.{hole, at_top, gap, cut_gap, put_label, sub, under_hole, body_reads, function_reads, argument_reads, reading_lifted, reading_before}
+use Rattle.ol_law_optimality.proofs.Motions.{Motion, by, still, then_by, Walks, stay, along_edge, back_edge, and_on}
+use Rattle.ol_law_optimality.proofs.Motions.{in_the_body, in_the_fun, in_the_arg, turned_still, flip}
+use Rattle.ol_law_optimality.proofs.Gaps.{hole, at_top, gap, cut_gap, put_label, sub, under_hole, body_reads}
+use Rattle.ol_law_optimality.proofs.Gaps.{function_reads, argument_reads, reading_lifted, reading_before}
 
 -- the wire of variable i itself
 pub own_hole : (C : Labelled) (i : ℕ) → hole C (wire_without i (bound i)) ≡ signs_of (label_of C)

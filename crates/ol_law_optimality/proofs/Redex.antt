@@ -1,30 +1,41 @@
 -- What is read at a redex, and in the labelled term after its contraction.
-use Rattle.std.proofs.Common.{◌≡◌, ℕ, suc, ◌+◌, Bool, true, false, [], ◌∷◌, ◌++◌, ◌⊎◌, inl, inr, refl, sym, ap, ◌∙◌, subst}
+use Rattle.std.proofs.Common.{◌≡◌, ℕ, suc, ◌+◌, Bool, true, false, [], ◌∷◌, ◌++◌, ◌⊎◌, inl, inr, refl, sym, ap, ◌∙◌}
+use Rattle.std.proofs.Common.{subst}
 use Rattle.std.proofs.lemmas.Bool.{or_left, or_right}
 use Rattle.ol_law_optimality.proofs.Cuts.{m_moves, n_moves}
 use Rattle.ol_law_optimality.proofs.Heads.{spot_fits}
 use Rattle.ol_law_optimality.proofs.Sites.{base, Is, Stands, no_wire, no_root, one_site, lifted_spot}
-use Rattle.ol_law_meaning.specs.Contraction.{Tree, lam, app, Level, empty, o, star, pair, Context, Wire, bound, under, occurs, wire_without, subst_for, Place, root, wire, Spot, at, body, fun, arg, Edge, lam_root, lam_own, lam_wire, app_root, app_arg, app_left, app_right, in_body, in_fun, in_arg, Cut, inM, inN, ofM, ofN, WireOf, Held, at_root, wire_m, wire_n, x_spot, n_body, n_fun, n_arg, lifted, var, free, Opens, in_m, in_n, lam_top, lam_var, lam_side, top, side_m, side_n}
+use Rattle.ol_law_meaning.specs.Contraction.{Tree, lam, app, Level, empty, o, star, pair, Context, Wire, bound, under}
+use Rattle.ol_law_meaning.specs.Contraction.{occurs, wire_without, subst_for, Place, root, wire, Spot, at, body, fun}
+use Rattle.ol_law_meaning.specs.Contraction.{arg, Edge, lam_root, lam_own, lam_wire, app_root, app_arg, app_left}
+use Rattle.ol_law_meaning.specs.Contraction.{app_right, in_body, in_fun, in_arg, Cut, inM, inN, ofM, ofN, WireOf, Held}
+use Rattle.ol_law_meaning.specs.Contraction.{at_root, wire_m, wire_n, x_spot, n_body, n_fun, n_arg, lifted, var, free}
+use Rattle.ol_law_meaning.specs.Contraction.{Opens, in_m, in_n, lam_top, lam_var, lam_side, top, side_m, side_n, left}
+use Rattle.ol_law_meaning.specs.Contraction.{right, IsRight, CutEdge, Trail}
 use Rattle.ol_law_meaning.specs.Steps.{SameRedex, redex_root, redex_m, redex_n}
-use Rattle.ol_law_meaning.proofs.Addresses.{left_one, right_one, sides_apart, spot_from, spot_to, occurs_new, occurs_old, own_occurs}
+use Rattle.ol_law_meaning.proofs.Addresses.{left_one, right_one, sides_apart, spot_from, spot_to, occurs_new}
+use Rattle.ol_law_meaning.proofs.Addresses.{occurs_old, own_occurs, gone}
 use Rattle.ol_law_meaning.proofs.Betas.{Through, copy_address, lifted_zero, zero_gone, zero_from, closes_trail}
 use Rattle.ol_law_meaning.proofs.Ones.{n_there}
 use Rattle.ol_law_meaning.proofs.There.{joint_held, by_wire, root_is}
 use Rattle.ol_law_optimality.specs.Labels.{Label, Labelled, none, erased, before, joined, substituted}
 use Rattle.ol_law_optimality.specs.Labels as labels
-use Rattle.ol_law_meaning.specs.Sites.{Site, self, in_lam, in_function, in_argument, spot_in, PartAt, whole, of_lam, of_function, of_argument}
+use Rattle.ol_law_meaning.specs.Sites.{Site, self, in_lam, in_function, in_argument, spot_in, PartAt, whole, of_lam}
+use Rattle.ol_law_meaning.specs.Sites.{of_function, of_argument}
 use Rattle.ol_term.specs.declared.translations.Translation.{Translation}
-use Rattle.ol_law_optimality.specs.Signs.{Signs, signs_of, reversed, onward, backward, begins_over, ends_over, begins_under, ends_under}
+use Rattle.ol_law_optimality.specs.Signs.{Signs, signs_of, reversed, onward, backward, begins_over, ends_over}
+use Rattle.ol_law_optimality.specs.Signs.{begins_under, ends_under}
 use Rattle.ol_law_optimality.specs.Readings.{label_of, reading, function_label, Acting, moved}
-use Rattle.ol_law_optimality.proofs.Motions.{Motion, still, then_by, Walks, stay, and_on, turned_still, moved_append, moved_there, signs_joined}
-use Rattle.ol_law_optimality.proofs.Gaps.{hole, at_top, gap, cut_gap, put_label, sub, top_is, label_before, reading_before}
-use Rattle.ol_law_optimality.proofs.Reading.{own_hole, m_there, m_back, copy_there, copy_back, joint_there, held_copy, copy_out}
+use Rattle.ol_law_optimality.proofs.Motions.{Motion, still, then_by, Walks, stay, and_on, turned_still, moved_append}
+use Rattle.ol_law_optimality.proofs.Motions.{moved_there, signs_joined}
+use Rattle.ol_law_optimality.proofs.Gaps.{hole, at_top, gap, cut_gap, put_label, sub, top_is, label_before}
+use Rattle.ol_law_optimality.proofs.Gaps.{reading_before}
+use Rattle.ol_law_optimality.proofs.Reading.{own_hole, m_there, m_back, copy_there, copy_back, joint_there, held_copy}
+use Rattle.ol_law_optimality.proofs.Reading.{copy_out}
 use Rattle.ol_law_optimality.proofs.Whence.{Whence, whence}
 use Rattle.ol_law_meaning.proofs.Back.{back_on, back_off, held_root, held_wire, Tagged, tag_m, tag_n}
 use Rattle.ol_law_meaning.proofs.Redexes.{deep_m, deep_n}
 use Rattle.ol_law_meaning.proofs.Ways.{Has}
-use Rattle.ol_law_meaning.proofs.Addresses.{gone}
-use Rattle.ol_law_meaning.specs.Contraction.{left, right, IsRight, CutEdge, Trail, in_fun}
 use Rattle.ol_law_meaning.proofs.Trails.{tr_trans, one_back}
 use Rattle.ol_law_optimality.proofs.Keeping.{Undone, Left, Source, Related, Follows, Leaves, placed, Goes, Comes, Keeps}
 use Rattle.ol_law_optimality.proofs.Likes.{like_substituted, function_before, walks_like}

@@ -4,10 +4,14 @@ use Rattle.std.proofs.lemmas.List.{append_assoc}
 use Rattle.ol_context.proofs.Contexts.{head_eq, tail_eq}
 use Rattle.ol_law_optimality.specs.Met.{IsMatched, blank}
 use Rattle.ol_law_optimality.proofs.Sites.{no_wire, no_root}
-use Rattle.ol_law_meaning.specs.Contraction.{Tree, lam, app, Level, empty, o, star, Context, cons, bound, name, Place, root, wire, Spot, at, body, fun, arg, Edge, var_wire, free_wire, lam_root, lam_own, lam_wire, app_root, app_arg, app_left, app_right, in_body, in_fun, in_arg, Trail, here, on, back}
+use Rattle.ol_law_meaning.specs.Contraction.{Tree, lam, app, Level, empty, o, star, Context, cons, bound, name, Place}
+use Rattle.ol_law_meaning.specs.Contraction.{root, wire, Spot, at, body, fun, arg, Edge, var_wire, free_wire, lam_root}
+use Rattle.ol_law_meaning.specs.Contraction.{lam_own, lam_wire, app_root, app_arg, app_left, app_right, in_body, in_fun}
+use Rattle.ol_law_meaning.specs.Contraction.{in_arg, Trail, here, on, back}
 use Rattle.ol_law_meaning.proofs.Addresses.{left_one, right_one, sides_apart}
 use Rattle.ol_law_optimality.specs.Labels.{Labelled, erased}
-use Rattle.ol_law_meaning.specs.Sites.{Site, self, in_lam, in_function, in_argument, PartAt, whole, of_lam, of_function, of_argument, function_at, abstraction_at}
+use Rattle.ol_law_meaning.specs.Sites.{Site, self, in_lam, in_function, in_argument, PartAt, whole, of_lam, of_function}
+use Rattle.ol_law_meaning.specs.Sites.{of_argument, function_at, abstraction_at}
 use Rattle.ol_term.specs.declared.translations.Translation.{Translation}
 use Rattle.ol_law_optimality.specs.Signs.{Signs, signs_of, reversed}
 use Rattle.ol_law_optimality.specs.Readings.{reading, word_along, function_label, moved, AreAlike, SiteHasOneWord}

@@ -5,11 +5,10 @@ use Rattle.ol_net.specs.Nets.{NamedNet}
 use Rattle.ol_law_optimality.specs.Labels.{Label}
 use Rattle.ol_law_optimality.specs.Routes.{Crossing, rise, fall}
 use Rattle.ol_law_optimality.specs.Words.{turned, IsWire, at_binder, through, Reads, ends, body, argument}
-use Rattle.ol_law_optimality.specs.Signs.{Sign, letter_of, begins_over, ends_over, begins_under}
-use Rattle.ol_law_optimality.specs.Signs.{ends_under, Signs, onward, backward, reversed, signs_of, Signed}
-use Rattle.ol_law_optimality.specs.Signs.{nothing, shared_up, shared_down, to_function, from_function}
-use Rattle.ol_law_optimality.specs.Signs.{to_body, from_body, from_variable, to_variable, to_argument}
-use Rattle.ol_law_optimality.specs.Signs.{from_argument, WordsAreSigned}
+use Rattle.ol_law_optimality.specs.Signs.{Sign, letter_of, begins_over, ends_over, begins_under, ends_under, Signs}
+use Rattle.ol_law_optimality.specs.Signs.{onward, backward, reversed, signs_of, Signed, nothing, shared_up, shared_down}
+use Rattle.ol_law_optimality.specs.Signs.{to_function, from_function, to_body, from_body, from_variable, to_variable}
+use Rattle.ol_law_optimality.specs.Signs.{to_argument, from_argument, WordsAreSigned}
 
 module _ {A : Type 0} (N : NamedNet A) (letter : A → ℕ → ℕ) where
   both : {v w : List (Crossing A)} {a b : Signs} → Signed N letter v a → Signed N letter w b →

@@ -1,6 +1,5 @@
 -- A parallel step is a row of beta steps of the same degree, and so a family step.
-use Rattle.std.proofs.Common.{◌≡◌, ◌≢◌, ℕ, ◌==◌, ◌⊎◌, inl, inr, List, [], ◌∷◌}
-use Rattle.std.proofs.Common.{◌++◌, Some, refl, sym, ap, ◌∙◌, subst}
+use Rattle.std.proofs.Common.{◌≡◌, ◌≢◌, ℕ, ◌==◌, ◌⊎◌, inl, inr, List, [], ◌∷◌, ◌++◌, Some, refl, sym, ap, ◌∙◌, subst}
 use Rattle.std.proofs.lemmas.Bool.{cases_eq}
 use Rattle.std.proofs.lemmas.Option.{same_Some, none-some}
 use Rattle.std.specs.Option.{option_map}
@@ -9,10 +8,9 @@ use Rattle.ol_law_optimality.specs.Labels.{Label, none, atom, over, under, Label
 use Rattle.ol_law_optimality.specs.Labels.{degree_of_abstraction}
 use Rattle.ol_law_optimality.specs.LevysTheorem.{AtOnceIsOneStep, WholeFamiliesAreFamilies, WholeFamilyIsOne}
 use Rattle.ol_law_optimality.specs.LevysTheorem.{LeftmostFamiliesAreWhole}
-use Rattle.ol_law_optimality.specs.Reductions.{Contracts, ready, contract, FamilyStep, FamilyReduces, Parallel}
-use Rattle.ol_law_optimality.specs.Reductions.{of_var, of_free, of_lam, of_app, of_redex, reduct}
-use Rattle.ol_law_optimality.specs.Reductions.{WholeFamily, all_var, all_free, all_lam, all_app, all_redex}
-use Rattle.ol_law_optimality.specs.Reductions.{LeftmostFamilies}
+use Rattle.ol_law_optimality.specs.Reductions.{Contracts, ready, contract, FamilyStep, FamilyReduces, Parallel, of_var}
+use Rattle.ol_law_optimality.specs.Reductions.{of_free, of_lam, of_app, of_redex, reduct, WholeFamily, all_var}
+use Rattle.ol_law_optimality.specs.Reductions.{all_free, all_lam, all_app, all_redex, LeftmostFamilies}
 use Rattle.ol_law_optimality.specs.Reductions as reductions
 use Rattle.ol_law_optimality.proofs.Needed.{Of, contracts_then}
 

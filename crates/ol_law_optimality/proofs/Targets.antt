@@ -1,6 +1,5 @@
 -- A row on which contexts lead on leaves a row of the net after a step.
-use Rattle.std.proofs.Common.{◌≡◌, ◌≢◌, ℕ, suc, ◌+◌, ◌<◌, Bool, List, [], ◌∷◌, refl, sym, ap, ◌∙◌}
-use Rattle.std.proofs.Common.{subst, arith}
+use Rattle.std.proofs.Common.{◌≡◌, ◌≢◌, ℕ, suc, ◌+◌, ◌<◌, Bool, List, [], ◌∷◌, refl, sym, ap, ◌∙◌, subst, arith}
 use Rattle.ol_context.proofs.Contexts.{injective}
 use Rattle.ol_context.specs.Contexts.{Context, empty, up}
 use Rattle.ol_law_edges.specs.Edges.{IsTest}
@@ -15,8 +14,7 @@ use Rattle.ol_rules.specs.Contracting.{Vertex, old, f_copy, g_copy}
 use Rattle.ol_rules.specs.Laws.{IsFresh}
 use Rattle.ol_rules.specs.Rewriting.{Action, meeting, crossing, left, of_f, of_g, Rewrites}
 use Rattle.ol_law_optimality.specs.Redexes.{Carries}
-use Rattle.ol_law_optimality.specs.Routes.{Crossing, rise, fall, node_of, Row, along, rises, falls}
-use Rattle.ol_law_optimality.specs.Routes.{Residue}
+use Rattle.ol_law_optimality.specs.Routes.{Crossing, rise, fall, node_of, Row, along, rises, falls, Residue}
 use Rattle.ol_law_optimality.specs.Routes as routes
 use Rattle.ol_law_optimality.proofs.Sources.{arrives, beside}
 use Rattle.ol_law_optimality.proofs.Trails.{At, at_old, at_f, at_g, Next, direct, to_f, to_g, by_f, by_g}

@@ -1,6 +1,5 @@
 -- What is joined by way of the slots of a step's two nodes, said by links and joins in turn.
-use Rattle.std.proofs.Common.{◌≡◌, ◌≢◌, ℕ, zero, suc, ◌<◌, Bool, true, false, refl, sym, ap, ◌∙◌}
-use Rattle.std.proofs.Common.{subst}
+use Rattle.std.proofs.Common.{◌≡◌, ◌≢◌, ℕ, zero, suc, ◌<◌, Bool, true, false, refl, sym, ap, ◌∙◌, subst}
 use Rattle.ol_law_edges.specs.Edges.{IsTest, Joined, here, on, back}
 use Rattle.ol_net.specs.Nets.{NamedPort, free, slot, NamedNet, Linked, IsNet, Faces}
 use Rattle.ol_net.specs.Parts.{arity}

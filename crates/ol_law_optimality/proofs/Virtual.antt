@@ -1,6 +1,5 @@
 -- The beta steps of a run, and the virtual redexes of its first net.
-use Rattle.std.proofs.Common.{◌≡◌, ℕ, zero, suc, List, [], ◌∷◌, length, Some, ◌⊎◌, inl, inr, refl}
-use Rattle.std.proofs.Common.{sym, ap, ◌∙◌, subst}
+use Rattle.std.proofs.Common.{◌≡◌, ℕ, zero, suc, List, [], ◌∷◌, length, Some, ◌⊎◌, inl, inr, refl, sym, ap, ◌∙◌, subst}
 use Rattle.ol_context.specs.Contexts.{Level, empty}
 use Rattle.ol_invariance.proofs.Table.{rule_suits}
 use Rattle.ol_law_levels.proofs.Runs.{start_levelled}

@@ -4,8 +4,7 @@ use Rattle.ol_context.proofs.Ways.{through_back, through_one}
 use Rattle.ol_context.specs.Contexts.{Context}
 use Rattle.ol_context.specs.Paths.{Through, through, inward, outward, IsBarred}
 use Rattle.ol_demand.proofs.Pairs.{no_free}
-use Rattle.ol_demand.specs.Chains.{IsAtNoPair, Chain, starts, crosses, left, undefined, Stands}
-use Rattle.ol_demand.specs.Chains.{at_port, barred}
+use Rattle.ol_demand.specs.Chains.{IsAtNoPair, Chain, starts, crosses, left, undefined, Stands, at_port, barred}
 use Rattle.ol_law_edges.specs.Edges.{Joined, here, on, back}
 use Rattle.ol_net.specs.Nets.{NamedPort, free, slot, NamedNet, Linked, IsNet, IsPrincipalOf}
 use Rattle.ol_rules.proofs.FreshPairs.{linked_sym}

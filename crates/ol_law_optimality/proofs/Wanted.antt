@@ -5,8 +5,7 @@ use Rattle.ol_law_meaning.specs.Contraction.{Tree, lam, app, Level, empty, Conte
 use Rattle.ol_law_meaning.specs.Contraction.{wire, at, Edge, Trail, IsRight, HeadStep, beta, below, before}
 use Rattle.ol_law_meaning.specs.Steps.{SameBelow, below_o, below_star, below_wire, SameBefore}
 use Rattle.ol_law_meaning.specs.Steps.{before_root, before_left, before_right, Same}
-use Rattle.ol_law_meaning.specs.Heads.{os, head_app, Normal}
-use Rattle.ol_law_meaning.specs.Heads.{Steps, done, step, SameAlong, Arg, last, earlier, inner}
+use Rattle.ol_law_meaning.specs.Heads.{os, head_app, Normal, Steps, done, step, SameAlong, Arg, last, earlier, inner}
 use Rattle.ol_law_meaning.specs.Heads.{StandsAt}
 use Rattle.ol_term.specs.declared.translations.Translation.{Translation}
 use Rattle.ol_law_meaning.specs.Sites.{Site, in_lam, in_function, in_argument, PartAt, function_at}

@@ -1,30 +1,27 @@
 -- Each redex that a question comes to has the word of a degree that leftmost reduction to a normal form contracts.
 use Rattle.std.proofs.Common.{◌≡◌, ℕ, zero, suc, ◌++◌, Bool, true, false, if◌then◌else◌, ◌⊎◌, inl, inr, List}
 use Rattle.std.proofs.Common.{[], ◌∷◌, Option, Some, None, refl, sym, ap, ◌∙◌, subst}
-use Rattle.std.specs.Option.{option_or}
+use Rattle.std.specs.Option.{option_or, option_map}
 use Rattle.ol_beta.specs.Leftmost.{leftmost, is_abstraction}
 use Rattle.ol_beta.specs.Leftmost as beta_steps
-use Rattle.std.specs.Option.{option_map}
 use Rattle.ol_law_edges.specs.Edges.{IsIn}
 use Rattle.ol_law_meaning.specs.Contraction.{Tree, lam, app, Level, empty, o, star, Context, Wire, bound, name, under}
-use Rattle.ol_law_meaning.specs.Contraction.{left, Place, root}
-use Rattle.ol_law_meaning.specs.Contraction.{wire, Spot, at, Edge, Trail, HeadStep}
+use Rattle.ol_law_meaning.specs.Contraction.{left, Place, root, wire, Spot, at, Edge, Trail, HeadStep}
 use Rattle.ol_law_meaning.specs.Steps.{Same}
-use Rattle.ol_law_meaning.specs.Heads.{outer, Spine, up_root, up_own, up_wire, head_var, head_free, head_app}
-use Rattle.ol_law_meaning.specs.Heads.{Normal, flat, layer}
-use Rattle.ol_law_meaning.specs.Heads.{done, step, inner}
+use Rattle.ol_law_meaning.specs.Heads.{outer, Spine, up_root, up_own, up_wire, head_var, head_free, head_app, Normal}
+use Rattle.ol_law_meaning.specs.Heads.{flat, layer, done, step, inner}
 use Rattle.ol_law_meaning.proofs.LeftmostSteps.{leftmost_step}
 use Rattle.ol_law_meaning.proofs.Walking.{passing, least_or, root_stays, normal_or_step}
 use Rattle.ol_term.specs.declared.translations.Translation.{Translation}
 use Rattle.ol_law_optimality.specs.Met.{IsMatched}
 use Rattle.ol_law_optimality.proofs.Meeting.{Comes, too_few}
 use Rattle.ol_law_optimality.proofs.Sites.{base}
-use Rattle.ol_law_optimality.proofs.Wanted.{Asks, whole, part, IsWanted, ArgWanted, in_last, in_earlier, in_body, arg_wanted}
-use Rattle.ol_law_optimality.proofs.Wanted.{one_step, arg_stops, after_part}
+use Rattle.ol_law_optimality.proofs.Wanted.{Asks, whole, part, IsWanted, ArgWanted, in_last, in_earlier, in_body}
+use Rattle.ol_law_optimality.proofs.Wanted.{arg_wanted, one_step, arg_stops, after_part}
 use Rattle.ol_law_optimality.specs.Labels.{Label, Labelled, erased, degree, contracted, LeftmostContracts}
 use Rattle.ol_law_optimality.specs.Labels as labels
-use Rattle.ol_law_meaning.specs.Sites.{Site, in_lam, in_function, in_argument, spot_in, of_lam, of_function, of_argument}
-use Rattle.ol_law_meaning.specs.Sites.{function_at}
+use Rattle.ol_law_meaning.specs.Sites.{Site, in_lam, in_function, in_argument, spot_in, of_lam, of_function}
+use Rattle.ol_law_meaning.specs.Sites.{of_argument, function_at}
 use Rattle.ol_law_optimality.specs.Signs.{Signs, signs_of}
 use Rattle.ol_law_optimality.specs.Readings.{AreAlike, word_of, word_along, function_label, moved}
 use Rattle.ol_law_optimality.proofs.HeadWords.{Step, step_of, matched_goes, redex_word}

@@ -1,11 +1,16 @@
 -- Where an application or an abstraction of M[N] comes from, in the cut.
 use Rattle.std.proofs.Common.{◌≡◌, ℕ, suc, ◌+◌, true, false, Option, Some, None, refl, sym, ap, ◌∙◌, subst}
-use Rattle.ol_law_meaning.specs.Contraction.{Tree, var, free, lam, app, Level, empty, Context, bound, root, wire, Spot, at, body, fun, arg, Trail, left, right, lift, lifted_wire, lifted, without, put, subst_for, Cut, inM, inN, CutEdge, Held, at_root, x_spot, p_body, p_fun, p_arg, n_body, n_fun, n_arg}
+use Rattle.ol_law_meaning.specs.Contraction.{Tree, var, free, lam, app, Level, empty, Context, bound, root, wire, Spot}
+use Rattle.ol_law_meaning.specs.Contraction.{at, body, fun, arg, Trail, left, right, lift, lifted_wire, lifted, without}
+use Rattle.ol_law_meaning.specs.Contraction.{put, subst_for, Cut, inM, inN, CutEdge, Held, at_root, x_spot, p_body}
+use Rattle.ol_law_meaning.specs.Contraction.{p_fun, p_arg, n_body, n_fun, n_arg}
 use Rattle.ol_law_meaning.proofs.Trails.{tr_trans}
 use Rattle.ol_term.specs.declared.translations.Translation.{Translation}
-use Rattle.ol_law_meaning.proofs.Back.{held_root, held_fine, of_body, of_fun, of_arg, var_copied, body_trail, fun_trail, arg_trail}
+use Rattle.ol_law_meaning.proofs.Back.{held_root, held_fine, of_body, of_fun, of_arg, var_copied, body_trail, fun_trail}
+use Rattle.ol_law_meaning.proofs.Back.{arg_trail}
 use Rattle.ol_law_optimality.proofs.Sites.{base, Is, Stands, lifted_spot}
-use Rattle.ol_law_meaning.specs.Sites.{Site, self, in_lam, in_function, in_argument, spot_in, PartAt, whole, of_lam, of_function, of_argument}
+use Rattle.ol_law_meaning.specs.Sites.{Site, self, in_lam, in_function, in_argument, spot_in, PartAt, whole, of_lam}
+use Rattle.ol_law_meaning.specs.Sites.{of_function, of_argument}
 use Rattle.std.proofs.Common.{Bool, ◌⊎◌, inl, inr}
 
 -- ---- lifted parts

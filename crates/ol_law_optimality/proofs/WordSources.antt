@@ -12,7 +12,8 @@ use Rattle.ol_law_meaning.specs.Sites.{Site, spot_in, PartAt, function_at}
 use Rattle.ol_law_meaning.proofs.Trails.{tr_trans}
 use Rattle.ol_term.specs.declared.translations.Translation.{Translation}
 use Rattle.ol_law_optimality.specs.Signs.{Signs, signs_of}
-use Rattle.ol_law_optimality.specs.Readings.{word_along, word_of, function_label, moved, AreAlike, ready, contract, DegreesAreWords}
+use Rattle.ol_law_optimality.specs.Readings.{word_along, word_of, function_label, moved, AreAlike, ready, contract}
+use Rattle.ol_law_optimality.specs.Readings.{DegreesAreWords}
 use Rattle.ol_law_optimality.proofs.HeadWords.{Step, step_of, matched_goes}
 use Rattle.ol_law_optimality.proofs.Keeping.{Goes, undo}
 use Rattle.ol_law_optimality.proofs.Leading.{degrees_are_met}

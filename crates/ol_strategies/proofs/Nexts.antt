@@ -7,7 +7,8 @@ use Rattle.std.specs.Option.{option_map, option_or}
 use Rattle.ol_term.specs.Trees.{Tree, var, free, lam, app}
 use Rattle.ol_beta.specs.Beta.{contracted}
 use Rattle.ol_beta.specs.Leftmost.{is_abstraction, under, leftmost, IsNormal}
-use Rattle.ol_beta.proofs.Redexes.{no_under, no_leftmost, leftmost_first, map_some, some_map, map_none, both_none, abstraction_applied}
+use Rattle.ol_beta.proofs.Redexes.{no_under, no_leftmost, leftmost_first, map_some, some_map, map_none, both_none}
+use Rattle.ol_beta.proofs.Redexes.{abstraction_applied}
 use Rattle.ol_law_meaning.specs.Shows.{IsHeadAddress}
 use Rattle.ol_strategies.specs.Redexes.{head_redex, weak_head_redex, root_if, applicative_redex, is_value, value_redex}
 use Rattle.ol_strategies.specs.Redexes.{next}

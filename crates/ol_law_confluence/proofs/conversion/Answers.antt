@@ -1,7 +1,6 @@
 -- The law of conversion.
 use Rattle.ol_law_confluence.proofs.conversion.Goals as goal
-use Rattle.ol_law_confluence.proofs.Meetings.{convertible_meet, meet_convertible, convertible_leads}
-use Rattle.ol_law_confluence.proofs.Meetings.{convertible_normal}
+use Rattle.ol_law_confluence.proofs.Meetings.{convertible_meet, meet_convertible, convertible_leads, convertible_normal}
 
 pub returns-clause-meet : goal.returns-clause-meet
 returns-clause-meet g = λ t u. (λ c. convertible_meet c, λ m. meet_convertible m)

@@ -1,7 +1,6 @@
 use Rattle.ol_law_optimality.proofs.Asked as asked
 use Rattle.ol_law_optimality.proofs.demand_contracts_what_is_seen.Goals as goal
-use Rattle.ol_law_optimality.proofs.Asked.{betas_of_demand, demand_contracts_the_seen}
-use Rattle.ol_law_optimality.proofs.Asked.{demand_contracts_the_fewest}
+use Rattle.ol_law_optimality.proofs.Asked.{betas_of_demand, demand_contracts_the_seen, demand_contracts_the_fewest}
 use Rattle.ol_law_optimality.proofs.Seen as seen
 
 pub returns-clause-contracted : goal.returns-clause-contracted

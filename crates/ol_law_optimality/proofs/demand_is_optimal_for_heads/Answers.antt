@@ -3,7 +3,8 @@ use Rattle.ol_law_optimality.proofs.demand_is_optimal_for_heads.Goals as goal
 use Rattle.ol_law_optimality.proofs.FirstHeadsReached.{betas_are_of_each_reduction_to_heads, none_is_shorter_for_heads}
 use Rattle.ol_law_optimality.proofs.FirstHeadsReached.{demand_is_as_short_for_heads}
 use Rattle.ol_law_optimality.proofs.FirstHeadsLeftmost.{betas_are_families_up_to}
-use Rattle.ol_law_optimality.proofs.FirstHeadsPrinted.{heads_are_found, printed_heads_are_as_short, no_reduction_to_heads_is_shorter}
+use Rattle.ol_law_optimality.proofs.FirstHeadsPrinted.{heads_are_found, printed_heads_are_as_short}
+use Rattle.ol_law_optimality.proofs.FirstHeadsPrinted.{no_reduction_to_heads_is_shorter}
 
 pub returns-clause-each : goal.returns-clause-each
 returns-clause-each c = betas_are_of_each_reduction_to_heads
