@@ -4,7 +4,7 @@ use Rattle.ol_wire.specs.declared.view.View.{View}
 use Rattle.ol_wire.specs.Stand.{TableState, SeatState, IsNewSeat}
 use Rattle.ol_reduce.specs.Works.{IsSeated}
 use Rattle.ol_reduce.specs.declared.workers.Worker.{Worker}
-use Rattle.ol_machine_tests.proofs.workers.hired.Goals as goal
+use Rattle.ol_net_tests.proofs.workers.hired.Goals as goal
 
 seated : (b : TableState) (w : Worker) → IsNewSeat b w.seat → IsSeated b w
 seated b w f =

@@ -1,6 +1,6 @@
 use Rattle.std.proofs.Common.{Bool, true, false, if◌then◌else◌, ◌==◌, [], arith}
 use Rattle.ol_pool.specs.Looks.{Part, HasCounts, new_part}
-use Rattle.ol_machine_tests.proofs.pools.FakeLook.parts.Goals as goal
+use Rattle.ol_net_tests.proofs.pools.FakeLook.parts.Goals as goal
 
 one_of : (a b c : Bool) (x y z : Part) → HasCounts x → HasCounts y → HasCounts z →
     HasCounts (if a then x else if b then y else if c then z else new_part)
