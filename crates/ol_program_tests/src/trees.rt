@@ -5,7 +5,7 @@ ghost use Rattle.ol_readback.specs.Texts.{AreNamed};
 ghost use Rattle.ol_term.specs.Trees.{tree_of, depth, EachOccurs};
 
 use crate::rows::{Asked, Question, assert_rows};
-use crate::small_nets::{net_of, parsed};
+use crate::small_terms::{net_of, parsed};
 use ol_invariance::run_kept;
 use ol_readback::{ReadTree, read_back, tree_text};
 use ol_term::{TermFile, Translation};

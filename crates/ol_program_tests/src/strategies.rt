@@ -4,7 +4,7 @@ ghost use Rattle.std.specs.Prelude.{◌≤◌};
 ghost use Rattle.ol_term.specs.Trees.{tree_of, depth};
 
 use crate::rows::{Asked, Question, assert_rows};
-use crate::small_nets::parsed;
+use crate::small_terms::parsed;
 use ol_beta::Address;
 use ol_limits::NoMemory;
 use ol_strategies::{Order, reached, redex};

@@ -1,5 +1,5 @@
 use Rattle.ol_context.proofs.Shapes.{extends_refl, extends_trans}
-use Rattle.ol_walk_tests.proofs.values.tower.Goals as goal
+use Rattle.ol_program_tests.proofs.values.tower.Goals as goal
 
 pub loop-init : goal.loop-init
 loop-init c = (extends_refl c.args.values.now, c.requires)

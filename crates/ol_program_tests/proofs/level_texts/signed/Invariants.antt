@@ -1,5 +1,5 @@
 use Rattle.ol_context.specs.Shapes.{IsHeld, Extends}
-use Rattle.ol_walk_tests.proofs.level_texts.signed.Given as goal
+use Rattle.ol_program_tests.proofs.level_texts.signed.Given as goal
 
 abbrev pub invariant-loop-sign : goal.invariant-loop-sign
 invariant-loop-sign l =

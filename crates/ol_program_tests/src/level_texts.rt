@@ -4,7 +4,7 @@ ghost use Rattle.std.specs.Prelude.{IfOk};
 ghost use Rattle.ol_context.specs.Shapes.{IsHeld, AreHeld, Extends};
 
 use crate::rows::Asked;
-use crate::small_nets::{net_of, parsed};
+use crate::small_terms::{net_of, parsed};
 use ol_context::{Context, Shape, Val, Values, Walk, walk};
 use ol_limits::NoMemory;
 use ol_net::Net;
