@@ -47,3 +47,4 @@ mod VerdictLines
 mod BothFiles
 mod FirstAlone
 mod Workers
+pub mod TwoCalls

@@ -26,6 +26,7 @@ pub mod Laws
 pub mod Handed
 pub mod Completeness
 pub mod Says
+pub mod TwoCalls
 -- What only contracts of private functions and proofs cite.
 pub mod RefusalTexts
 pub mod Cases
