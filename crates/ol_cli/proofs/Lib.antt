@@ -48,3 +48,4 @@ mod VerdictLines
 mod BothFiles
 mod FirstAlone
 mod Workers
+pub mod TwoCalls

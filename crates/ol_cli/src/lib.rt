@@ -11,6 +11,7 @@
 //! - `verdicts`: the texts of verdicts
 //! - `numbers`: the numbers of the jobs that rewrite a term's net and read it back
 //! - `laws`: the laws of answers
+//! - `two_calls`: two calls of `ol` that ask the same of the same files
 #![tactic(auto)]
 
 mod answer;
@@ -23,6 +24,7 @@ mod ready;
 mod status;
 mod texts;
 mod top;
+mod two_calls;
 mod verdicts;
 
 pub use laws::{
@@ -31,3 +33,4 @@ pub use laws::{
 };
 pub use status::Status;
 pub use top::{Outcome, ol};
+pub use two_calls::twice;
