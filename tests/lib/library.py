@@ -8,6 +8,7 @@ made from other sources than those that stand here, and where no C compiler is f
 is tried. The programs are those that tests/lib/which_ol.py finds. The last line is 'N passed, M failed'.
 """
 import os
+import re
 import shutil
 import subprocess
 import tempfile
@@ -123,11 +124,10 @@ def write(room, name, text):
 def try_the_page(folder, room):
     """The example of library/README.md prints what the page says that it prints."""
     with open(os.path.join(TOP, "library", "README.md"), encoding="utf-8") as file:
-        source, printed = file.read().split('    #include "olcheck.h"\n')[1].split("\nIt prints:\n")
-    blocks = ['#include "olcheck.h"\n' + textwrap.dedent(source), textwrap.dedent(printed.split("\n\n")[0].strip("\n")) + "\n"]
-    program = built(write(room, "page.c", blocks[0]), folder, room)
+        source, printed = re.search(r"^```c\n(.*?)^```\n.*?^It prints [^\n]*\n\n((?:    [^\n]*\n)+)", file.read(), re.M | re.S).groups()
+    program = built(write(room, "page.c", source), folder, room)
     done = subprocess.run([program], stdout=subprocess.PIPE, text=True)
-    expect("the example of library/README.md", done.stdout == blocks[1])
+    expect("the example of library/README.md", done.stdout == textwrap.dedent(printed))
 
 
 def try_row(number, row, programs, room):

@@ -14,6 +14,7 @@ the end. `ol`, `./ol`, `ol-bench` and `./ol-bench` are the programs there (tests
 unless a `...` is among the old ones. The last line is 'N passed, M failed'.
 """
 import collections
+import concurrent.futures
 import contextlib
 import glob
 import os
@@ -138,18 +139,19 @@ def read(path, cut=sections):
 def try_pages(asked, found, programs):
     """Tries these pages with these programs, and prints the sum."""
     cases = [(page, section) for page in found for section in page.sections]
-    told = progress.in_pool(lambda case: (case[0], case[0].tried(programs, case[1])), cases)
     passed = failed = 0
     changes = collections.defaultdict(list)
-    for page, answers in told:
-        for command, wanted, got in answers:
-            is_right = fits(wanted, got)
-            if not is_right and asked.write and page.path and "..." not in wanted:
-                changes[page].append((command, got))
-                is_right = True
-            passed, failed = passed + is_right, failed + (not is_right)
-            if not is_right:
-                print(page.fault(command, wanted, got), flush=True)
+    with concurrent.futures.ThreadPoolExecutor(os.cpu_count()) as pool:
+        told = pool.map(lambda case: case[0].tried(programs, case[1]), cases)
+        for (page, _), answers in zip(cases, progress.shown(told, len(cases))):
+            for command, wanted, got in answers:
+                is_right = fits(wanted, got)
+                if not is_right and asked.write and page.path and "..." not in wanted:
+                    changes[page].append((command, got))
+                    is_right = True
+                passed, failed = passed + is_right, failed + (not is_right)
+                if not is_right:
+                    print(page.fault(command, wanted, got), flush=True)
     for page, its in changes.items():
         page.change(its)
     return summing.told(summing.Sum(passed, failed))
