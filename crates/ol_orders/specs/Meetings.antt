@@ -1,4 +1,4 @@
--- Private: words of private contracts alone: which nodes of two nets have met.
+-- Which nodes of two nets have met.
 use Rattle.std.specs.Prelude.{◌≡◌, ℕ, Bool, true, false, List, length, Option, None, Some, is_some}
 use Rattle.std.specs.Prelude.{slice_index_or, count_by, ◌↔◌, ◌+◌, ◌*◌, ◌<◌}
 use Rattle.ol_law_edges.specs.Edges.{IsIn}
