@@ -1,6 +1,6 @@
 -- Where the walk of a term's net stands between two jumps; and how it falls along the wire of a variable to
 -- an occurrence.
--- Used in Onward, Nodes and Bounding.
+-- Used in Onward, Nodes, Bounding and Circling.
 use Rattle.std.proofs.Common.{◌≡◌, ℕ, zero, suc, ◌+◌, ◌<◌, length, Bool, true, false, [], ◌∷◌, nat_eq}
 use Rattle.std.proofs.Common.{Option, None, Some, refl, sym, ap, ◌∙◌, subst, arith}
 use Rattle.std.proofs.lemmas.Bool.{and_parts, eqb-true}
@@ -17,7 +17,6 @@ use Rattle.ol_law_meaning.proofs.Fans.{Merges, wire_here}
 use Rattle.ol_law_meaning.proofs.Parts.{Has, argument, has_lam, Wires, has_app, has_app_to, has_head, bare_occurs}
 use Rattle.ol_law_meaning.proofs.Parts.{bare_lacks, key, IsInside, inside_under}
 use Rattle.ol_law_meaning.proofs.States.{Before, before_arg, H, L, if_true, if_false}
-use Rattle.ol_law_meaning.proofs.Turns.{turn_out}
 use Rattle.ol_law_meaning.specs.Sites.{Site, self, spot_in}
 use Rattle.ol_law_meaning.specs.Spots.{Wire, bound, name, under, occurs, left, IsRight, root, wire, Spot, at, body, fun}
 use Rattle.ol_law_meaning.specs.Spots.{arg}
@@ -26,7 +25,7 @@ use Rattle.ol_term.specs.declared.translations.Translation.{Translation}
 use Rattle.ol_term.specs.declared.translations.Translation.TheVariants.{One, Two}
 use Rattle.ol_translate.proofs.Joints.{few_wires}
 use Rattle.ol_translate.specs.Translation.{Subnet, subnet_of, applied, bare_variable, wire_of, slot_port}
-use Rattle.ol_law_completeness.proofs.Crossings.{Till, comes, mapped, moved, sooner, by_turn}
+use Rattle.ol_law_completeness.proofs.Crossings.{Till, comes, mapped, moved, sooner, goes_down}
 use Rattle.ol_law_completeness.proofs.Jumps.{Reached, at_var, at_name, by_lam, by_fun, by_arg}
 
 -- ---- where the walk stands
@@ -116,8 +115,7 @@ module _ (τ : Translation) {N : NamedNet ℕ} (net : IsNet N) where
       numbered_port (subnet_of τ t d n k).root ≡ nets.slot k 1 →
       {p : NamedPort ℕ} → Linked N p (nets.slot k 0) → Till N (Fallen t y a c d n k F) 2 p (F (cons a c))
   at_head t d n k F y a c b h r q l =
-      sooner (omega arith) (by_turn net l (turn_out N (λ w u. Till N (Fallen t y a c d n k F) 0 u.0 u.1)
-      k kind.Croissant n F (cons a c) b h go))
+      sooner (omega arith) (goes_down net {m = 0} k kind.Croissant refl n F (cons a c) l b h go)
     where
       go : (s : ℕ) (e : Context) → s < 1 → cons empty e ≡ cons a c →
           Till N (Fallen t y a c d n k F) 0 (nets.slot k (suc s)) (F e)
@@ -179,7 +177,7 @@ module _ (τ : Translation) {N : NamedNet ℕ} (net : IsNet N) where
         ((a v : Level) → pair a v ≡ e 0 → IsRight τ M Q y a v w) → tail e ≡ c →
         {p : NamedPort ℕ} → Linked N p (nets.slot x 0) → Till N (Goal w c) (suc (room Q)) p (F e)
     by_bracket none ih x q eq hb lb e w c f g l =
-        by_turn net l (turn_out N (λ _ u. Till N (Goal w c) (room Q) u.0 u.1) x kind.Bracket n F e b hb go)
+        goes_down net {m = (room Q)} x kind.Bracket refl n F e l b hb go
       where
         go : (s : ℕ) (e' : Context) → s < 1 → cons (pair (e' 1) (e' 0)) (tail (tail e')) ≡ e →
             Till N (Goal w c) (room Q) (nets.slot x (suc s)) (F e')
@@ -211,8 +209,7 @@ module _ (τ : Translation) {N : NamedNet ℕ} (net : IsNet N) where
         let same : slot_port z 0 ≡ r = cc in
         let o' = occurs_there τ Q y d (n + 1) j q I.1 inside eq in
         let m' = occurs_there τ M y d n (k + 1) a I.0 inside ea in
-        sooner (omega arith) (by_turn net (subst (λ r. Linked N p (numbered_port r)) (sym same) l)
-        (turn_out N (λ _ u. Till N (Goal w c) (suc (room M + room Q)) u.0 u.1) z kind.Fan n F (cons w c) b hf (go o' m')))
+        sooner (omega arith) (goes_down net {m = (suc (room M + room Q))} z kind.Fan refl n F (cons w c) (subst (λ r. Linked N p (numbered_port r)) (sym same) l) b hf (go o' m'))
       where
         go : occurs y Q ≡ true → occurs y M ≡ true → (s : ℕ) (e : Context) → s < 2 → change kind.Fan s e ≡ cons w c →
             Till N (Goal w c) (suc (room M + room Q)) (nets.slot z (suc s)) (F e)
@@ -259,9 +256,7 @@ module _ (τ : Translation) {N : NamedNet ℕ} (net : IsNet N) where
         let same : slot_port z 0 ≡ r = cc in
         let f = bare_occurs τ d x Q y (slot_port k 2) q bare I.1 inside eq in
         let m' = occurs_there τ M y d n (k + 1) a I.0 inside ea in
-        sooner (omega arith) (by_turn net (subst (λ r. Linked N p (numbered_port r)) (sym same) l)
-        (turn_out N (λ _ u. Till N (Goal w c) (suc (room M + room Q)) u.0 u.1) z kind.Fan n F (cons w c) b hf
-        (go f.0 m' (subst (λ q. L N (slot_port z 2) q) f.1 lg))))
+        sooner (omega arith) (goes_down net {m = (suc (room M + room Q))} z kind.Fan refl n F (cons w c) (subst (λ r. Linked N p (numbered_port r)) (sym same) l) b hf (go f.0 m' (subst (λ q. L N (slot_port z 2) q) f.1 lg)))
       where
         go : occurs y Q ≡ true → occurs y M ≡ true → L N (slot_port z 2) (slot_port k 2) →
             (s : ℕ) (e : Context) → s < 2 → change kind.Fan s e ≡ cons w c →

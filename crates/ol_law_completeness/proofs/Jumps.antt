@@ -1,7 +1,8 @@
 -- Walks over a term from root to root: each jump goes into a part by its root or comes out of it, and
 -- goes along the wire of a variable, from its abstraction to an occurrence or back, at once.
--- Used in Putting, Redexes, Rules and Crossings.
-use Rattle.std.proofs.Common.{◌≡◌, ℕ, suc, ◌+◌, ◌<◌, ◌≤◌, Bool, true, false, refl, sym, ap, ◌∙◌, subst, arith}
+-- Used in Putting, Redexes, Rules, Hops and the walks over the net.
+use Rattle.std.proofs.Common.{◌≡◌, ℕ, suc, ◌+◌, ◌<◌, ◌≤◌, Bool, true, false, refl, sym, ap, ◌∙◌}
+use Rattle.std.proofs.Common.{subst, arith}
 use Rattle.std.proofs.lemmas.Bool.{or_left, or_right}
 use Rattle.ol_context.specs.Contexts.{Level, empty, o, star, Context, cons}
 use Rattle.ol_law_meaning.proofs.Addresses.{left_one, right_one, sides_apart}
@@ -49,6 +50,20 @@ pub data Jump (τ : Translation) : Tree → Bool → Spot → Bool → Spot → 
       Jump τ (app M N) d (fun s) e (fun z)
   in_arg : {M N : Tree} {v : Level} {d e : Bool} {s z : Spot} → Jump τ N d s e z →
       Jump τ (app M N) d (arg v s) e (arg v z)
+
+-- it pushes a mark; else it pops one
+abbrev pub pushes : {τ : Translation} {t : Tree} {d e : Bool} {s z : Spot} → Jump τ t d s e z → Bool
+pushes to_body = false
+pushes (to_var r e q) = false
+pushes to_fun = true
+pushes (to_arg e) = false
+pushes from_body = true
+pushes (from_var r e q) = true
+pushes from_fun = false
+pushes (from_arg e) = true
+pushes (in_body j) = pushes j
+pushes (in_fun j) = pushes j
+pushes (in_arg j) = pushes j
 
 -- each row of jumps from here has fewer than n of them
 pub data Ends (τ : Translation) (t : Tree) : ℕ → Bool → Spot → Type 0 where

@@ -1,5 +1,5 @@
 -- Rows of crossings that lead each context on, and links of several links, which such a row joins.
--- Used in Traces, First and Ending.
+-- Used in Traces, First and OnlyStrong.
 use Rattle.std.proofs.Common.{◌≡◌, ℕ, suc, ◌<◌, ◌≤◌, List, [], ◌∷◌, ◌++◌, length, length-append, refl, sym, ap}
 use Rattle.std.proofs.Common.{subst, arith}
 use Rattle.ol_context.specs.Contexts.{Level, Context, cons, at_level, change, up}

@@ -1,5 +1,5 @@
 -- Where a walk stands first that leaves a node of a term's net by its slot 0, with whatever context.
--- Used in Bounding.
+-- Used in Bounding and Circling.
 use Rattle.std.proofs.Common.{◌≡◌, ℕ, zero, suc, ◌+◌, ◌-◌, ◌<◌, ◌≤◌, List, [], ◌∷◌, ◌++◌, length, length-append}
 use Rattle.std.proofs.Common.{Bool, true, false, nat_eq, nat_lt, if◌then◌else◌}
 use Rattle.std.proofs.Common.{Option, None, Some, inl, inr, refl, sym, ap, ◌∙◌, subst, arith, eq-eqb}
@@ -11,7 +11,7 @@ use Rattle.ol_context.proofs.Contexts.{eta}
 use Rattle.ol_net.specs.declared.parts.Kind.{Kind}
 use Rattle.ol_net.specs.declared.parts.Kind.TheVariants as kind
 use Rattle.ol_net.specs.declared.parts.Port.{Port}
-use Rattle.ol_net.specs.Nets.{NamedNet, NamedPort, HasNode, Linked, IsNet}
+use Rattle.ol_net.specs.Nets.{NamedNet, NamedPort, Linked, IsNet}
 use Rattle.ol_net.specs.Nets as nets
 use Rattle.ol_net.specs.Numbered.{numbered_port, numbered_from}
 use Rattle.ol_law_meaning.proofs.Down.{wire_under}
@@ -20,17 +20,16 @@ use Rattle.ol_law_meaning.proofs.Fans.{Merges, fans_merge, none_there, rewired_h
 use Rattle.ol_law_meaning.proofs.Parts.{Has, argument, HasLam, has_lam, Wires, has_app}
 use Rattle.ol_law_meaning.proofs.Parts.{has_head, HasHead, key, IsInside}
 use Rattle.ol_law_meaning.proofs.States.{Before, before_arg, H, L}
-use Rattle.ol_law_meaning.proofs.Turns.{turn_in}
 use Rattle.ol_law_meaning.specs.Spots.{Wire, bound, name, left, root, Spot, at, body, fun, arg}
 use Rattle.ol_term.specs.Trees.{Tree, var, free, lam, app, is_below}
 use Rattle.ol_term.specs.declared.translations.Translation.{Translation}
 use Rattle.ol_translate.proofs.Counts.{times}
 use Rattle.ol_translate.proofs.Joints.{few_wires, times-bracketed}
 use Rattle.ol_translate.proofs.Walks.{length-bracket_nodes}
-use Rattle.ol_translate.specs.Translation.{Subnet, subnet_of, applied, application, application_to, bare_variable}
-use Rattle.ol_translate.specs.Translation.{wire_of, slot_port, bound_port, erasers, bracket_nodes, bracket_links}
-use Rattle.ol_translate.specs.Translation.{past_brackets, fans, fan_nodes, fan_links, merged, reconnected}
-use Rattle.ol_law_completeness.proofs.Crossings.{Till, comes, and_then, moved, sooner, by_turn}
+use Rattle.ol_translate.specs.Translation.{Subnet, subnet_of, applied, application, application_to, bare_variable, wire_of}
+use Rattle.ol_translate.specs.Translation.{slot_port, bound_port, erasers, bracket_nodes, bracket_links, past_brackets}
+use Rattle.ol_translate.specs.Translation.{fans, fan_nodes, fan_links, merged, reconnected}
+use Rattle.ol_law_completeness.proofs.Crossings.{Within, comes, and_then, moved, sooner, loosely, goes_up}
 use Rattle.ol_law_completeness.proofs.Falling.{bare_stand, if_bare, Stand, room}
 use Rattle.ol_law_completeness.proofs.Onward.{back_link, left_out, right_out}
 
@@ -124,7 +123,7 @@ pub data From (N : NamedNet ℕ) (τ : Translation) (t : Tree) (d n k : ℕ) (F 
 module _ (τ : Translation) {N : NamedNet ℕ} (net : IsNet N) where
   abbrev pub Begins : Tree → (d n k : ℕ) → ℕ → Kind → ℕ → Type 0
   Begins t d n k x K i = (F : Context → Context) → Before n F → (e : Context) →
-      Till N (From N τ t d n k F) (room t) (nets.slot x 0) (F e)
+      Within N (From N τ t d n k F) (room t) (nets.slot x 0) (F e)
 
   -- at the end of a wire with this key
   at_end : (t : Tree) (d n k v x : ℕ) → wire_of v (subnet_of τ t d n k).wires ≡ Some (slot_port x 0) →
@@ -147,26 +146,22 @@ module _ (τ : Translation) {N : NamedNet ℕ} (net : IsNet N) where
 
     from_wire : (F : Context → Context) → Before n F → (y : Wire) (a : Level) (c : Context) (w : Port) → IsInside (d + 1) y →
         wire_of (key (d + 1) y) (subnet_of τ M (d + 1) n (k + 1)).wires ≡ Some w →
-        Till N (From N τ (lam M) d n k F) 1 (numbered_port w) (F (cons a c))
+        Within N (From N τ (lam M) d n k F) 1 (numbered_port w) (F (cons a c))
     from_wire F b (bound zero) a c w inside e =
         let l : L N (slot_port k 2) w = subst (λ x. L N (slot_port k 2) (bound_port x E)) e A.var_link in
-        by_turn net (back_link τ net (slot_port k 2) w l)
-        (turn_in N (λ _ u. Till N (From N τ (lam M) d n k F) 0 u.0 u.1) k kind.Lam n 1 F (cons a c) b A.node
-        (comes (stands false (at root (star a) c) (refl, refl))))
+        goes_up net {m = 0} k kind.Lam tt n 1 F (cons a c) (back_link τ net (slot_port k 2) w l) b A.node (comes (stands false (at root (star a) c) (refl, refl)))
     from_wire F b (bound (suc y)) a c w inside e =
         comes (last (bound y) a c w (let g : y < d = omega (arith, inside) in g) (wire_under τ M (bound y) d n k ∙ e) refl refl)
     from_wire F b (name f) a c w inside e = comes (last (name f) a c w tt (wire_under τ M (name f) d n k ∙ e) refl refl)
 
     from_body : (F : Context → Context) → Before n F → (p : NamedPort ℕ) (x : Context) → From N τ M (d + 1) n (k + 1) F p x →
-        Till N (From N τ (lam M) d n k F) 1 p x
+        Within N (From N τ (lam M) d n k F) 1 p x
     from_body F b p x (stands e z st) = comes (stands e (body z) st)
     from_body F b p x (last y a c w inside e ep ex) = moved ep ex (from_wire F b y a c w inside e)
 
     eraser_begins : (o : Option Port) → L N (slot_port k 2) (bound_port o E) → Holds (Begins (lam M) d n k) E (erasers o)
     eraser_begins None l = (
-      λ F b e. sooner (omega arith) (by_turn net (back_link τ net (slot_port k 2) (slot_port E 0) l)
-          (turn_in N (λ _ u. Till N (From N τ (lam M) d n k F) 0 u.0 u.1) k kind.Lam n 1 F e b A.node
-          (comes (stands false (at root (star (e 0)) (tail e)) (refl, refl))))),
+      λ F b e. sooner (omega arith) (goes_up net {m = 0} k kind.Lam tt n 1 F e (back_link τ net (slot_port k 2) (slot_port E 0) l) b A.node (comes (stands false (at root (star (e 0)) (tail e)) (refl, refl)))),
       tt,
     )
     eraser_begins (Some w) l = tt
@@ -197,19 +192,19 @@ module _ (τ : Translation) {N : NamedNet ℕ} (net : IsNet N) where
     B = has_head (H N) (L N) n k (bare_variable τ d Q) (subnet_of τ M d n (k + 1)) (argument τ M Q d n k) h
 
     from_fun : (F : Context → Context) → Before n F → (p : NamedPort ℕ) (x : Context) → From N τ M d n (k + 1) F p x →
-        Till N (From N τ (app M Q) d n k F) 1 p x
+        Within N (From N τ (app M Q) d n k F) 1 p x
     from_fun F b p x (stands e z st) = comes (stands e (fun z) st)
     from_fun F b p x (last y a c w inside e ep ex) =
-        moved ep ex (left_out τ net M Q d n k F b i h y inside w e a c (λ r er. last y (left Q y a) c r inside er refl refl))
+        moved ep ex (loosely (left_out τ net M Q d n k F b i h y inside w e a c (λ r er. last y (left Q y a) c r inside er refl refl)))
 
     from_arg : bare_variable τ d Q ≡ None → (F : Context → Context) → Before n F → (v : Level) (p : NamedPort ℕ) (x : Context) →
-        From N τ Q d (n + 1) U (λ c. F (cons v c)) p x → Till N (From N τ (app M Q) d n k F) 2 p x
+        From N τ Q d (n + 1) U (λ c. F (cons v c)) p x → Within N (From N τ (app M Q) d n k F) 2 p x
     from_arg none F b v p x (stands e z st) =
         comes (stands e (arg v z)
         (subst (λ o. if_bare o (Stand N τ z Q e d (n + 1) U (λ c. F (cons v c)) p x)
         (bare_stand N z e k (λ c. F (cons v c)) p x)) (sym none) st))
     from_arg none F b v p x (last y a c w inside e ep ex) =
-        moved ep ex (right_out τ net M Q d n k F b i h y inside none w e a v c (λ r er u g. last y u c r inside er refl refl))
+        moved ep ex (loosely (right_out τ net M Q d n k F b i h y inside none w e a v c (λ r er u g. last y u c r inside er refl refl)))
 
     app_first : Begins (app M Q) d n k k kind.App n
     app_first F b e = comes (stands true (fun (at root (e 0) (tail e))) (B.link, ap F (sym (eta e))))
@@ -240,10 +235,8 @@ module _ (τ : Translation) {N : NamedNet ℕ} (net : IsNet N) where
         let g : nets.slot z 1 ≡ nets.slot x 1 = net.one_link (numbered_port q) (nets.slot z 1) (nets.slot x 1)
         (back_link τ net (slot_port z 1) q lb) (back_link τ net (slot_port x 1) q l) in
         let same : z ≡ x = cc in
-        sooner (omega arith) (by_turn net (subst (λ z. Linked N (nets.slot z 0) (nets.slot y 2)) same
-        (back_link τ net (slot_port y 2) (slot_port z 0) lg))
-        (turn_in N (λ _ u. Till N (From N τ (app M Q) d n k F) 0 u.0 u.1) y kind.Fan n 1 F e b hf
-        (comes (at_end (app M Q) d n k v y (er ∙ ey) F (cons (star (e 0)) (tail e))))))
+        sooner (omega arith) (goes_up net {m = 0} y kind.Fan tt n 1 F e (subst (λ z. Linked N (nets.slot z 0) (nets.slot y 2)) same
+        (back_link τ net (slot_port y 2) (slot_port z 0) lg)) b hf (comes (at_end (app M Q) d n k v y (er ∙ ey) F (cons (star (e 0)) (tail e)))))
 
     boxed_begins : bare_variable τ d Q ≡ None → Has (H N) (L N) k (application n k P R) →
         ((v : ℕ) → Wires (H N) (L N) n (wire_of v P.wires) (wire_of v R.wires) (wire_of v (subnet_of τ (app M Q) d n k).wires)) →

@@ -51,8 +51,8 @@ use Rattle.ol_term.specs.declared.translations.Translation.{Translation}
 use Rattle.ol_translate.proofs.Whole.{translation_net}
 use Rattle.ol_translate.specs.Names.{HasNames}
 use Rattle.ol_translate.specs.Translation.{subnet_of, translation_of}
-use Rattle.ol_law_completeness.proofs.Degrees.{size, Weak, at_redex, at_function, argument_of, degree_of, Norm, of_var}
-use Rattle.ol_law_completeness.proofs.Degrees.{of_free, of_app, plain, of_lam, of_redex, too_great, all_norm}
+use Rattle.ol_law_completeness.proofs.Walls.{size, Weak, at_redex, at_function, argument_of, Norm, of_var, of_free}
+use Rattle.ol_law_completeness.proofs.Walls.{of_app, plain, of_lam, of_redex, wall, all_norm}
 use Rattle.ol_law_completeness.proofs.First.{unlabelled, erased_unlabelled, port_of, H, L, first}
 use Rattle.ol_law_completeness.proofs.Links.{Goes, goes_at, goes_to, goes_row, goes_carries, Link, single}
 use Rattle.ol_law_completeness.proofs.Traces.{Env, AtEnd, Starts, own, Trace, steps}
@@ -116,11 +116,10 @@ module _ (N : NamedNet NodeName) (net : IsNet N) (b : ℕ) (short : AreShort N b
           Carries N (put K (cons (c 0) (tail c))) w (put K' (cons (c 0) (tail c))) → Carries N (put K c) w (put K' c)
       carried w K K' c h = subst (λ c. Carries N (put K c) w (put K' c)) (eta c) h
 
-  -- the degree of its weak head redex
-  small : {t u : Labelled} (s : Weak t u) (env : Env) (l : Link N) → Trace N t env l → size (degree_of s) ≤ b
-  small at_redex env l (t', x, n, K, r, (m, s, (t, x', n', K', r', k, s', z)), a) =
+  -- the degree of a redex
+  small : (c a : Labelled) (v w : Label) (env : Env) (l : Link N) → Trace N (labels.app (labels.lam c v) a w) env l → size v ≤ b
+  small c a v w env l (t', x, n, K, r, (m, s, (t, x', n', K', r', k, s', z)), g) =
       let h = virtual env l m x n K r s x' n' K' r' in omega (arith, t, h)
-  small (at_function q) env l (t, x, n, K, r, (m, s, k), a) = small q env m k
 
   -- the argument of it is traced too
   part : {t u : Labelled} (s : Weak t u) (env : Env) (l : Link N) → Trace N t env l → (q : Link N) × Trace N (argument_of s) env q
@@ -141,7 +140,7 @@ module _ (N : NamedNet NodeName) (net : IsNet N) (b : ℕ) (short : AreShort N b
       let a = part s env l z in
       let k = steps N net s env l z in
       rules.of_redex g.step (subst (λ a. Normalises false a) (sym g.is) (built p env a.0 a.1)) (built q env k.link k.trace)
-  built (too_great s h) env l z = let g = small s env l z in absurd (omega (arith, g, h))
+  built (wall {b = c} {c = a} {v = v} {w = w} h p q) env l z = let g = small c a v w env l z in absurd (omega (arith, g, h))
 
 -- ---- a term's net, under the names with which a run begins
 

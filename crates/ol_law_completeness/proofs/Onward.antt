@@ -1,5 +1,5 @@
 -- From the root of a part a walk over a term's net makes one jump, or leaves by a wire of the term.
--- Used in Nodes and Bounding.
+-- Used in Nodes, Bounding and Circling.
 use Rattle.std.proofs.Common.{◌≡◌, ℕ, zero, suc, ◌+◌, ◌<◌, length, Bool, true, false, [], ◌∷◌}
 use Rattle.std.proofs.Common.{Option, None, Some, ◌⊎◌, inl, inr, refl, sym, ap, ◌∙◌, subst, arith, eq-eqb}
 use Rattle.std.proofs.lemmas.Bool.{and_parts}
@@ -19,7 +19,7 @@ use Rattle.ol_law_meaning.proofs.Parts.{Has, argument, HasLam, has_lam, Wires, h
 use Rattle.ol_law_meaning.proofs.Parts.{has_head, HasHead, applied_root, bare_there, bare_occurs, bare_lacks}
 use Rattle.ol_law_meaning.proofs.Parts.{key, IsInside, wire_there, wire_not, occurs_inside}
 use Rattle.ol_law_meaning.proofs.States.{Before, before_arg, H, L, if_true, if_false, bool_or}
-use Rattle.ol_law_meaning.proofs.Turns.{turn_in, turn_out, turn_eraser, of_cons}
+use Rattle.ol_law_meaning.proofs.Turns.{of_cons}
 use Rattle.ol_law_meaning.specs.Sites.{Site, self, in_lam, in_function, in_argument, spot_in}
 use Rattle.ol_law_meaning.specs.Spots.{Wire, bound, name, occurs, left, IsRight, root, wire, Spot, at, body, fun, arg}
 use Rattle.ol_term.specs.Trees.{Tree, var, free, lam, app, is_below}
@@ -27,16 +27,23 @@ use Rattle.ol_term.specs.declared.translations.Translation.{Translation}
 use Rattle.ol_translate.proofs.Joints.{few_wires}
 use Rattle.ol_translate.specs.Translation.{Subnet, subnet_of, applied, bare_variable, wire_of, slot_port}
 use Rattle.ol_translate.specs.Translation.{bound_port, erasers}
-use Rattle.ol_law_completeness.proofs.Crossings.{Till, comes, and_then, mapped, moved, sooner, by_turn}
+use Rattle.ol_law_completeness.proofs.Crossings.{Till, comes, and_then, mapped, moved, sooner, goes_up, is_erased}
+use Rattle.ol_law_completeness.proofs.Crossings.{Marked, marks_on, marks_up, marks_down}
 use Rattle.ol_law_completeness.proofs.Falling.{bare_stand, if_bare, Stand, room, bare_reached, Found, found, falls}
 use Rattle.ol_law_completeness.proofs.Jumps.{Reached, at_var, at_name, by_lam, by_fun, by_arg, reached_occurs}
-use Rattle.ol_law_completeness.proofs.Jumps.{Jump, to_body, to_var, to_fun, to_arg, from_body, from_var, from_fun}
+use Rattle.ol_law_completeness.proofs.Jumps.{Jump, pushes, to_body, to_var, to_fun, to_arg, from_body, from_var, from_fun}
 use Rattle.ol_law_completeness.proofs.Jumps.{from_arg, in_body, in_fun, in_arg}
 
--- one jump is made, or the walk stands at the end of a wire, on the way out of the term
+-- one jump is made, upwards where it pushes
+pub data Landed (N : NamedNet ℕ) (τ : Translation) (t : Tree) (e : Bool) (s : Spot) (d n k : ℕ) (F : Context → Context)
+    (b : Bool) (p : NamedPort ℕ) (x : Context) : Type 0 where
+  landed : {e' : Bool} {z : Spot} (j : Jump τ t e s e' z) → pushes j ≡ b → Stand N τ z t e' d n k F p x →
+      Landed N τ t e s d n k F b p x
+
+-- a jump is made next, or the walk stands at the end of a wire, on the way out of the term
 pub data Next (N : NamedNet ℕ) (τ : Translation) (t : Tree) (e : Bool) (s : Spot) (d n k : ℕ) (F : Context → Context)
     (p : NamedPort ℕ) (x : Context) : Type 0 where
-  jumps : {e' : Bool} {z : Spot} → Jump τ t e s e' z → Stand N τ z t e' d n k F p x → Next N τ t e s d n k F p x
+  jumps : Marked N (Landed N τ t e s d n k F) (room t) p x → Next N τ t e s d n k F p x
   leaves : {y : Wire} {a v : Level} {c : Context} {r : Site} {w : Port} → e ≡ true → s ≡ spot_in r (at root v c) →
       Reached τ t y a r → wire_of (key d y) (subnet_of τ t d n k).wires ≡ Some w → p ≡ numbered_port w →
       x ≡ F (cons a (cons v c)) → Next N τ t e s d n k F p x
@@ -102,9 +109,7 @@ module _ (τ : Translation) {N : NamedNet ℕ} (net : IsNet N) where
           comes (subst (λ a. Q' (numbered_port w) (F (cons a c))) (if_false N (occurs y Q) (o a) a n') (f w (er ∙ x)))
       left_boxed none w (Some q) r eq er (x, z, ez, hb, lb, hf, lf, lg) a c f =
           let o' = occurs_there τ Q y d (n + 1) j q I.1 inside eq in
-          by_turn net (back_link (slot_port z 1) w lf)
-          (turn_in N (λ _ u. Till N Q' 0 u.0 u.1) z kind.Fan n 0 F (cons a c) b hf
-          (comes (subst (λ a. Q' (nets.slot z 0) (F (cons a c))) (if_true N (occurs y Q) (o a) a o') (f (slot_port z 0) (er ∙ ez)))))
+          goes_up net {m = 0} z kind.Fan refl n 0 F (cons a c) (back_link (slot_port z 1) w lf) b hf (comes (subst (λ a. Q' (nets.slot z 0) (F (cons a c))) (if_true N (occurs y Q) (o a) a o') (f (slot_port z 0) (er ∙ ez))))
 
       left_bare : (x : ℕ) → bare_variable τ d Q ≡ Some x → (w : Port) (q r : Option Port) →
           wire_of (key d y) ((x, slot_port k 2) ∷ []) ≡ q → wire_of (key d y) W.wires ≡ r → Merges (H N) (L N) n (Some w) q r →
@@ -114,9 +119,7 @@ module _ (τ : Translation) {N : NamedNet ℕ} (net : IsNet N) where
           comes (subst (λ a. Q' (numbered_port w) (F (cons a c))) (if_false N (occurs y Q) (o a) a n') (f w (er ∙ g)))
       left_bare x bare w (Some q) r eq er (z, ez, hf, lf, lg) a c f =
           let o' = (bare_occurs τ d x Q y (slot_port k 2) q bare I.1 inside eq).0 in
-          by_turn net (back_link (slot_port z 1) w lf)
-          (turn_in N (λ _ u. Till N Q' 0 u.0 u.1) z kind.Fan n 0 F (cons a c) b hf
-          (comes (subst (λ a. Q' (nets.slot z 0) (F (cons a c))) (if_true N (occurs y Q) (o a) a o') (f (slot_port z 0) (er ∙ ez)))))
+          goes_up net {m = 0} z kind.Fan refl n 0 F (cons a c) (back_link (slot_port z 1) w lf) b hf (comes (subst (λ a. Q' (nets.slot z 0) (F (cons a c))) (if_true N (occurs y Q) (o a) a o') (f (slot_port z 0) (er ∙ ez))))
 
       left_both : (x : Option ℕ) → bare_variable τ d Q ≡ x → (w : Port) → wire_of (key d y) P.wires ≡ Some w →
           (a : Level) (c : Context) → Last Q' (left Q y a) c → Till N Q' 1 (numbered_port w) (F (cons a c))
@@ -136,18 +139,12 @@ module _ (τ : Translation) {N : NamedNet ℕ} (net : IsNet N) where
           LastRight Q' a v c → Till N Q' 2 (numbered_port q) (F (cons v (cons a c)))
       from_bracket none None r ep q er (x, ex, hb, lb) a v c f =
           let n' = occurs_not τ M y d n (k + 1) I.0 inside ep in
-          sooner (omega arith) (by_turn net (back_link (slot_port x 1) q lb)
-          (turn_in N (λ _ u. Till N Q' 0 u.0 u.1) x kind.Bracket n 0 F (cons v (cons a c)) b hb
-          (comes (f (slot_port x 0) (er ∙ ex) (pair a v)
-          (packed_right M y a v (has_box τ d Q none) (sym (if_false N (occurs y M) (star (pair a v)) (pair a v) n')))))))
+          sooner (omega arith) (goes_up net {m = 0} x kind.Bracket refl n 0 F (cons v (cons a c)) (back_link (slot_port x 1) q lb) b hb (comes (f (slot_port x 0) (er ∙ ex) (pair a v)
+          (packed_right M y a v (has_box τ d Q none) (sym (if_false N (occurs y M) (star (pair a v)) (pair a v) n'))))))
       from_bracket none (Some p) r ep q er (x, z, ez, hb, lb, hf, lf, lg) a v c f =
           let m' = occurs_there τ M y d n (k + 1) p I.0 inside ep in
-          by_turn net (back_link (slot_port x 1) q lb)
-          (turn_in N (λ _ u. Till N Q' 1 u.0 u.1) x kind.Bracket n 0 F (cons v (cons a c)) b hb
-          (by_turn net (back_link (slot_port z 2) (slot_port x 0) lg)
-          (turn_in N (λ _ u. Till N Q' 0 u.0 u.1) z kind.Fan n 1 F (cons (pair a v) c) b hf
-          (comes (f (slot_port z 0) (er ∙ ez) (star (pair a v))
-          (packed_right M y a v (has_box τ d Q none) (sym (if_true N (occurs y M) (star (pair a v)) (pair a v) m'))))))))
+          goes_up net {m = 1} x kind.Bracket refl n 0 F (cons v (cons a c)) (back_link (slot_port x 1) q lb) b hb (goes_up net {m = 0} z kind.Fan refl n 1 F (cons (pair a v) c) (back_link (slot_port z 2) (slot_port x 0) lg) b hf (comes (f (slot_port z 0) (er ∙ ez) (star (pair a v))
+          (packed_right M y a v (has_box τ d Q none) (sym (if_true N (occurs y M) (star (pair a v)) (pair a v) m'))))))
 
       pub right_out : bare_variable τ d Q ≡ None → (q : Port) → wire_of (key d y) R.wires ≡ Some q →
           (a v : Level) (c : Context) → LastRight Q' a v c → Till N Q' 2 (numbered_port q) (F (cons v (cons a c)))
@@ -164,10 +161,8 @@ module _ (τ : Translation) {N : NamedNet ℕ} (net : IsNet N) where
           (bare_right M y v (is_wire τ d x Q bare) (sym (if_false N (occurs y M) (star v) v n'))))
       from_slot x bare (Some p) r ep er (z, ez, hf, lf, lg) v c f =
           let m' = occurs_there τ M y d n (k + 1) p I.0 inside ep in
-          by_turn net (back_link (slot_port z 2) (slot_port k 2) lg)
-          (turn_in N (λ _ u. Till N Q' 0 u.0 u.1) z kind.Fan n 1 F (cons v c) b hf
-          (comes (f (slot_port z 0) (er ∙ ez) (star v)
-          (bare_right M y v (is_wire τ d x Q bare) (sym (if_true N (occurs y M) (star v) v m'))))))
+          goes_up net {m = 0} z kind.Fan refl n 1 F (cons v c) (back_link (slot_port z 2) (slot_port k 2) lg) b hf (comes (f (slot_port z 0) (er ∙ ez) (star v)
+          (bare_right M y v (is_wire τ d x Q bare) (sym (if_true N (occurs y M) (star v) v m')))))
 
       pub bare_out : (x : ℕ) → bare_variable τ d Q ≡ Some x → occurs y Q ≡ true → (v : Level) (c : Context) →
           LastRight Q' empty v c → Till N Q' 1 (nets.slot k 2) (F (cons v c))
@@ -186,11 +181,10 @@ module _ (τ : Translation) {N : NamedNet ℕ} (net : IsNet N) where
       (v : Level) (c : Context) {p : NamedPort ℕ} → Linked N p (nets.slot k 1) →
       Till N (Nexts t true (at root v c) d n k F) 2 p (F (cons v c))
   head_on t d n k F y b h r w v c l =
-      by_turn net l (turn_in N (λ _ u. Till N (Nexts t true (at root v c) d n k F) 1 u.0 u.1) k kind.Croissant n 0 F
-      (cons v c) b h (comes (leaves {r = self} refl refl r w refl refl)))
+      goes_up net {m = 1} k kind.Croissant refl n 0 F (cons v c) l b h (comes (leaves {r = self} refl refl r w refl refl))
 
   abbrev OfLam : (M : Tree) (d n k : ℕ) → (Context → Context) → Level → Context → NamedPort ℕ → Context → Type 0
-  OfLam M d n k F v c p x = Till N (Nexts (lam M) true (at root v c) d n k F) (suc (room M)) p x
+  OfLam M d n k F v c p x = Till N (Landed N τ (lam M) true (at root v c) d n k F false) (room (lam M)) p x
 
   root_on : (t : Tree) (d n k : ℕ) (F : Context → Context) → Before n F → is_below d t ≡ true →
       Has (H N) (L N) k (subnet_of τ t d n k) → (v : Level) (c : Context) {p : NamedPort ℕ} →
@@ -202,15 +196,14 @@ module _ (τ : Translation) {N : NamedNet ℕ} (net : IsNet N) where
       let own : wire_of (d + f) ((d + f, slot_port k 0) ∷ []) ≡ Some (slot_port k 0) = rw (eq-eqb (d + f) (d + f) refl) refl in
       head_on (free f) d n k F (name f) b h.nodes.0 at_name own v c l
   root_on (lam M) d n k F b i h v c l =
-      by_turn net l (turn_out N (λ _ u. Till N (Nexts (lam M) true (at root v c) d n k F) (suc (room M)) u.0 u.1)
-      k kind.Lam n F (cons v c) b A.node go)
+      comes (jumps (marks_down net {m = room (lam M)} k kind.Lam refl n F (cons v c) l b A.node go))
     where
       A : HasLam (H N) (L N) n k (subnet_of τ M (d + 1) n (k + 1))
       A = has_lam (H N) (L N) n k (subnet_of τ M (d + 1) n (k + 1)) h
 
       to_own : (e : Context) (p : NamedPort ℕ) (x : Context) → Found N τ M (bound 0) (e 0) (tail e) (d + 1) n (k + 1) F p x →
-          Nexts (lam M) true (at root (star (e 0)) (tail e)) d n k F p x
-      to_own e p x (found r g st) = jumps (to_var r g refl) st
+          Landed N τ (lam M) true (at root (star (e 0)) (tail e)) d n k F false p x
+      to_own e p x (found r g st) = landed (to_var r g refl) refl st
 
       own : (e : Context) → (occurs (bound 0) M ≡ true) ⊎ (occurs (bound 0) M ≡ false) →
           OfLam M d n k F (star (e 0)) (tail e) (nets.slot k 2) (F e)
@@ -227,21 +220,20 @@ module _ (τ : Translation) {N : NamedNet ℕ} (net : IsNet N) where
           (λ w. L N (slot_port k 2) (bound_port w (k + 1 + length (subnet_of τ M (d + 1) n (k + 1)).nodes))) none A.var_link in
           let e' : Holds (H N) (k + 1 + length (subnet_of τ M (d + 1) n (k + 1)).nodes) ((kind.Eraser, 0) ∷ []) =
           subst (λ w. Holds (H N) (k + 1 + length (subnet_of τ M (d + 1) n (k + 1)).nodes) (erasers w)) none A.eraser in
-          by_turn net l (turn_eraser N (λ _ u. Till N (Nexts (lam M) true (at root (star (e 0)) (tail e)) d n k F) (room M) u.0 u.1)
-          x 0 (F e) e'.0)
+          is_erased net {m = suc (room M)} x refl 0 (F e) l e'.0
 
       go : (s : ℕ) (e : Context) → s < arity kind.Lam → change kind.Lam s e ≡ cons v c → OfLam M d n k F v c (nets.slot k (suc s)) (F e)
       go zero e low q = of_cons (λ v c. OfLam M d n k F v c (nets.slot k 1) (F e)) (o (e 0)) v (tail e) c q
-          (comes (jumps to_body (A.link, ap F (sym (eta e)))))
+          (comes (landed to_body refl (A.link, ap F (sym (eta e)))))
       go (suc zero) e low q = of_cons (λ v c. OfLam M d n k F v c (nets.slot k 2) (F e)) (star (e 0)) v (tail e) c q
           (own e (bool_or N (occurs (bound 0) M)))
       go (suc (suc s)) e low q = absurd (omega (arith, low))
   root_on (app M Q) d n k F b i h v c {p} l =
       let P = subnet_of τ M d n (k + 1) in
       let A = has_head (H N) (L N) n k (bare_variable τ d Q) P (argument τ M Q d n k) h in
-      by_turn net (subst (λ r. Linked N p (numbered_port r)) (applied_root n k (bare_variable τ d Q) P (argument τ M Q d n k)) l)
-      (turn_in N (λ _ u. Till N (Nexts (app M Q) true (at root v c) d n k F) (suc (suc (room M + room Q))) u.0 u.1)
-      k kind.App n 0 F (cons v c) b A.node (comes (jumps to_fun (A.link, refl))))
+      comes (jumps (marks_up net {m = room (app M Q)} k kind.App refl n 0 F (cons v c)
+      (subst (λ r. Linked N p (numbered_port r)) (applied_root n k (bare_variable τ d Q) P (argument τ M Q d n k)) l) b A.node
+      (comes (landed to_fun refl (A.link, refl)))))
 
   -- ---- an abstraction
 
@@ -258,26 +250,28 @@ module _ (τ : Translation) {N : NamedNet ℕ} (net : IsNet N) where
         let l : L N (slot_port k 2) w = subst
         (λ x. L N (slot_port k 2) (bound_port x (k + 1 + length (subnet_of τ M (d + 1) n (k + 1)).nodes))) f A.var_link in
         subst (λ e. Till N (Nexts (lam M) e (body s) d n k F) 1 (numbered_port w) (F (cons a (cons v c)))) (sym g)
-        (by_turn net (back_link (slot_port k 2) w l)
-        (turn_in N (λ _ u. Till N (Nexts (lam M) true (body s) d n k F) 0 u.0 u.1) k kind.Lam n 1 F (cons a (cons v c)) b A.node
-        (comes (jumps (from_var t refl q) (refl, refl)))))
+        (comes (jumps (marks_up net {m = room (lam M)} k kind.Lam refl n 1 F (cons a (cons v c)) (back_link (slot_port k 2) w l) b A.node
+        (comes (landed (from_var t refl q) refl (refl, refl))))))
     body_wire e s (bound (suc y)) a v c r w g q t f =
         comes (leaves {y = bound y} {r = in_lam r} g (ap body q) (by_lam t) (wire_under τ M (bound y) d n k ∙ f) refl refl)
     body_wire e s (name y) a v c r w g q t f =
         comes (leaves {y = name y} {r = in_lam r} g (ap body q) (by_lam t) (wire_under τ M (name y) d n k ∙ f) refl refl)
 
+    body_landed : (e : Bool) (s : Spot) (up : Bool) (p : NamedPort ℕ) (x : Context) →
+        Landed N τ M e s (d + 1) n (k + 1) F up p x → Landed N τ (lam M) e (body s) d n k F up p x
+    body_landed e s up p x (landed j q st) = landed (in_body j) q st
+
     body_on : (e : Bool) (s : Spot) (p : NamedPort ℕ) (x : Context) → Nexts M e s (d + 1) n (k + 1) F p x →
         Till N (Nexts (lam M) e (body s) d n k F) 1 p x
-    body_on e s p x (jumps j st) = comes (jumps (in_body j) st)
+    body_on e s p x (jumps j) = comes (jumps (marks_on (omega arith) (body_landed e s) j))
     body_on e s p x (leaves {y = y} {a = a} {v = v} {c = c} {r = r} {w = w} g q t f ep ex) =
         moved ep ex (body_wire e s y a v c r w g q t f)
 
     body_out : (v : Level) (c : Context) (p : NamedPort ℕ) (x : Context) → p ≡ numbered_port (subnet_of τ M (d + 1) n (k + 1)).root →
         x ≡ F (cons v c) → Till N (Nexts (lam M) false (body (at root v c)) d n k F) 1 p x
     body_out v c p x ep ex =
-        moved ep ex (by_turn net (back_link (slot_port k 1) (subnet_of τ M (d + 1) n (k + 1)).root A.link)
-        (turn_in N (λ _ u. Till N (Nexts (lam M) false (body (at root v c)) d n k F) 0 u.0 u.1) k kind.Lam n 0 F (cons v c) b A.node
-        (comes (jumps from_body (refl, refl)))))
+        moved ep ex (comes (jumps (marks_up net {m = room (lam M)} k kind.Lam refl n 0 F (cons v c)
+        (back_link (slot_port k 1) (subnet_of τ M (d + 1) n (k + 1)).root A.link) b A.node (comes (landed from_body refl (refl, refl))))))
 
   -- ---- an application
 
@@ -301,22 +295,26 @@ module _ (τ : Translation) {N : NamedNet ℕ} (net : IsNet N) where
         Nexts (app M Q) e (fun s) d n k F (numbered_port z) (F (cons (left Q y a) (cons v c)))
     fun_wire e s y a v c r g q t z f = leaves {r = in_function r} g (ap fun q) (by_fun t refl) f refl refl
 
+    fun_landed : (e : Bool) (s : Spot) (up : Bool) (p : NamedPort ℕ) (x : Context) →
+        Landed N τ M e s d n (k + 1) F up p x → Landed N τ (app M Q) e (fun s) d n k F up p x
+    fun_landed e s up p x (landed j q st) = landed (in_fun j) q st
+
     fun_on : (e : Bool) (s : Spot) (p : NamedPort ℕ) (x : Context) → Nexts M e s d n (k + 1) F p x →
         Till N (Nexts (app M Q) e (fun s) d n k F) 1 p x
-    fun_on e s p x (jumps j st) = comes (jumps (in_fun j) st)
+    fun_on e s p x (jumps j) = comes (jumps (marks_on (omega arith) (fun_landed e s) j))
     fun_on e s p x (leaves {y = y} {a = a} {v = v} {c = c} {r = r} {w = w} g q t f ep ex) =
         moved ep ex (left_out M Q d n k F b i h y (occurs_inside M y d J.0 (reached_occurs t)) w f a (cons v c)
         (fun_wire e s y a v c r g q t))
 
     to_argument : (o : Option ℕ) → bare_variable τ d Q ≡ o → (e : Context) →
-        Next N τ (app M Q) false (fun (at root (star (e 0)) (tail e))) d n k F (nets.slot k 2) (F e)
+        Landed N τ (app M Q) false (fun (at root (star (e 0)) (tail e))) d n k F false (nets.slot k 2) (F e)
     to_argument None none e =
-        jumps (to_arg (sym (eta (tail e))))
+        landed (to_arg (sym (eta (tail e)))) refl
         (subst (λ o. if_bare o (Stand N τ (at root (e 1) (tail (tail e))) Q true d (n + 1) U (λ c. F (cons (e 0) c)) (nets.slot k 2) (F e))
         (bare_stand N (at root (e 1) (tail (tail e))) true k (λ c. F (cons (e 0) c)) (nets.slot k 2) (F e))) (sym none)
         ((C none).arg_link, ap F (sym (eta2 e))))
     to_argument (Some x) bare e =
-        jumps (to_arg (sym (eta (tail e))))
+        landed (to_arg (sym (eta (tail e)))) refl
         (subst (λ o. if_bare o (Stand N τ (at root (e 1) (tail (tail e))) Q true d (n + 1) U (λ c. F (cons (e 0) c)) (nets.slot k 2) (F e))
         (bare_stand N (at root (e 1) (tail (tail e))) true k (λ c. F (cons (e 0) c)) (nets.slot k 2) (F e))) (sym bare)
         (refl, ap F (sym (eta2 e))))
@@ -324,19 +322,19 @@ module _ (τ : Translation) {N : NamedNet ℕ} (net : IsNet N) where
     fun_out : (v : Level) (c : Context) (p : NamedPort ℕ) (x : Context) → p ≡ numbered_port (subnet_of τ M d n (k + 1)).root →
         x ≡ F (cons v c) → Till N (Nexts (app M Q) false (fun (at root v c)) d n k F) 1 p x
     fun_out v c p x ep ex =
-        moved ep ex (by_turn net (back_link (slot_port k 0) (subnet_of τ M d n (k + 1)).root B.link)
-        (turn_out N (λ _ u. Till N (Nexts (app M Q) false (fun (at root v c)) d n k F) 0 u.0 u.1) k kind.App n F (cons v c) b B.node go))
+        moved ep ex (comes (jumps (marks_down net {m = room (app M Q)} k kind.App refl n F (cons v c)
+        (back_link (slot_port k 0) (subnet_of τ M d n (k + 1)).root B.link) b B.node go)))
       where
         go : (s : ℕ) (e : Context) → s < 2 → change kind.App s e ≡ cons v c →
-            Till N (Nexts (app M Q) false (fun (at root v c)) d n k F) 0 (nets.slot k (suc s)) (F e)
-        go zero e low q = of_cons (λ v c. Till N (Nexts (app M Q) false (fun (at root v c)) d n k F) 0 (nets.slot k 1) (F e))
+            Till N (Landed N τ (app M Q) false (fun (at root v c)) d n k F false) (room (app M Q)) (nets.slot k (suc s)) (F e)
+        go zero e low q = of_cons (λ v c. Till N (Landed N τ (app M Q) false (fun (at root v c)) d n k F false) (room (app M Q)) (nets.slot k 1) (F e))
             (o (e 0)) v (tail e) c q
-            (comes (jumps from_fun (
+            (comes (landed from_fun refl (
               sym (ap numbered_port (applied_root n k (bare_variable τ d Q) (subnet_of τ M d n (k + 1))
                   (argument τ M Q d n k))),
               ap F (sym (eta e)),
             )))
-        go (suc zero) e low q = of_cons (λ v c. Till N (Nexts (app M Q) false (fun (at root v c)) d n k F) 0 (nets.slot k 2) (F e))
+        go (suc zero) e low q = of_cons (λ v c. Till N (Landed N τ (app M Q) false (fun (at root v c)) d n k F false) (room (app M Q)) (nets.slot k 2) (F e))
             (star (e 0)) v (tail e) c q (comes (to_argument (bare_variable τ d Q) refl e))
         go (suc (suc s)) e low q = absurd (omega (arith, low))
 
@@ -344,8 +342,8 @@ module _ (τ : Translation) {N : NamedNet ℕ} (net : IsNet N) where
     slot_out : (v u : Level) (c : Context) {p : NamedPort ℕ} → Linked N p (nets.slot k 2) →
         Till N (Nexts (app M Q) false (arg v (at root u c)) d n k F) 1 p (F (cons v (cons u c)))
     slot_out v u c l =
-        by_turn net l (turn_in N (λ _ w. Till N (Nexts (app M Q) false (arg v (at root u c)) d n k F) 0 w.0 w.1) k kind.App n 1 F
-        (cons v (cons u c)) b B.node (comes (jumps (from_arg refl) (B.link, refl))))
+        comes (jumps (marks_up net {m = room (app M Q)} k kind.App refl n 1 F (cons v (cons u c)) l b B.node
+        (comes (landed (from_arg refl) refl (B.link, refl)))))
 
     arg_wire : (e : Bool) (w : Level) (s : Spot) (y : Wire) (a v : Level) (c : Context) (r : Site) → e ≡ true →
         s ≡ spot_in r (at root v c) → Reached τ Q y a r → (z : Port) → wire_of (key d y) (subnet_of τ (app M Q) d n k).wires ≡ Some z →
@@ -353,11 +351,15 @@ module _ (τ : Translation) {N : NamedNet ℕ} (net : IsNet N) where
         Nexts (app M Q) e (arg w s) d n k F (numbered_port z) (F (cons u (cons v c)))
     arg_wire e w s y a v c r g q t z f u k' = leaves {r = in_argument w r} g (ap (arg w) q) (by_arg t k') f refl refl
 
+    arg_landed : bare_variable τ d Q ≡ None → (e : Bool) (w : Level) (s : Spot) (up : Bool) (p : NamedPort ℕ) (x : Context) →
+        Landed N τ Q e s d (n + 1) U (λ c. F (cons w c)) up p x → Landed N τ (app M Q) e (arg w s) d n k F up p x
+    arg_landed none e w s up p x (landed {e' = e'} {z = z} j q st) =
+        landed (in_arg j) q (subst (λ o. if_bare o (Stand N τ z Q e' d (n + 1) U (λ c. F (cons w c)) p x)
+        (bare_stand N z e' k (λ c. F (cons w c)) p x)) (sym none) st)
+
     arg_on : bare_variable τ d Q ≡ None → (e : Bool) (w : Level) (s : Spot) (p : NamedPort ℕ) (x : Context) →
         Nexts Q e s d (n + 1) U (λ c. F (cons w c)) p x → Till N (Nexts (app M Q) e (arg w s) d n k F) 2 p x
-    arg_on none e w s p x (jumps {e' = e'} {z = z} j st) =
-        comes (jumps (in_arg j) (subst (λ o. if_bare o (Stand N τ z Q e' d (n + 1) U (λ c. F (cons w c)) p x)
-        (bare_stand N z e' k (λ c. F (cons w c)) p x)) (sym none) st))
+    arg_on none e w s p x (jumps j) = comes (jumps (marks_on (omega arith) (arg_landed none e w s) j))
     arg_on none e w s p x (leaves {y = y} {a = a} {v = v} {c = c} {r = r} {w = z} g q t f ep ex) =
         moved ep ex (right_out M Q d n k F b i h y (occurs_inside Q y d J.1 (reached_occurs t)) none z f a w (cons v c)
         (arg_wire e w s y a v c r g q t))

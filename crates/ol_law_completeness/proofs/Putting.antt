@@ -1,6 +1,6 @@
 -- Jumps over a term that stands under more abstractions than before, and over a term with another in a
 -- variable's place.
--- Used in Redexes.
+-- Used in Redexes and Hops.
 use Rattle.std.proofs.Common.{◌≡◌, ℕ, suc, Bool, false, Some, refl, sym, ap, ◌∙◌, subst}
 use Rattle.ol_context.specs.Contexts.{Level, empty}
 use Rattle.ol_law_meaning.proofs.Addresses.{without_own, occurs_same, left_same, bare_same, zero_lifted}
@@ -17,7 +17,7 @@ use Rattle.ol_law_completeness.proofs.Jumps.{Jump, to_body, to_var, to_fun, to_a
 use Rattle.ol_law_completeness.proofs.Jumps.{from_arg, in_body, in_fun, in_arg}
 
 module _ {τ : Translation} where
-  reached_lifted : {M : Tree} {y : Wire} {a : Level} {p : Site} (d i : ℕ) → Reached τ M y a p →
+  pub reached_lifted : {M : Tree} {y : Wire} {a : Level} {p : Site} (d i : ℕ) → Reached τ M y a p →
       Reached τ (lift d i M) (lifted_wire d i y) a p
   reached_lifted d i at_var = at_var
   reached_lifted d i at_name = at_name
@@ -43,7 +43,7 @@ module _ {τ : Translation} where
   jump_lifted k i (in_arg j) = in_arg (jump_lifted k i j)
 
   -- a wire that isn't N's leads to the same occurrences, with the same levels
-  reached_kept : (N : Tree) {M : Tree} {y : Wire} {a : Level} {p : Site} (i : ℕ) (z : Wire) → Reached τ M y a p →
+  pub reached_kept : (N : Tree) {M : Tree} {y : Wire} {a : Level} {p : Site} (i : ℕ) (z : Wire) → Reached τ M y a p →
       wire_without i y ≡ Some z → occurs z (lift 0 i N) ≡ false → Reached τ (subst_for i N M) z a p
   reached_kept N i z (at_var {y = y}) e f =
       let t = wire_some (without i y) z e in
@@ -59,7 +59,7 @@ module _ {τ : Translation} where
       by_arg (reached_kept N i z r e f) (right_like (subst_for i N M1) (subst_for i N M2) z
       (occurs_same M1 N i y z e f) (bare_same τ M2 N i y z e (reached_occurs r)) q)
 
-  own_kept : (N : Tree) {M : Tree} {a : Level} {p : Site} (i : ℕ) → Reached τ M (bound 0) a p →
+  pub own_kept : (N : Tree) {M : Tree} {a : Level} {p : Site} (i : ℕ) → Reached τ M (bound 0) a p →
       Reached τ (subst_for (suc i) N M) (bound 0) a p
   own_kept N i r = reached_kept N (suc i) (bound 0) r refl (zero_lifted N i)
 

@@ -1,24 +1,14 @@
 -- A net that has a weight has no ring of principal ports.
--- For `light_has_no_ring` and `strongly_normalising_ends`.
+-- For `light_has_no_ring`.
 use Rattle.std.proofs.Common.{◌≡◌, ℕ, suc, List, refl, sym, ◌∙◌, subst, arith}
 use Rattle.ol_law_levels.specs.Rings.{Descends, first, next}
 use Rattle.ol_law_levels.specs.Unblocked.{Change}
-use Rattle.ol_net.specs.Nets.{NamedNet, NamedPort, free, slot, HasNode, Linked, IsNet, net_under}
-use Rattle.ol_net.specs.Numbered.{net_of}
+use Rattle.ol_net.specs.Nets.{NamedNet, NamedPort, free, slot, HasNode, Linked, IsNet}
 use Rattle.ol_net.specs.declared.parts.Kind.{Kind}
 use Rattle.ol_rules.proofs.FreshPairs.{linked_sym}
-use Rattle.ol_rules.proofs.StartNets.{start_net, start_named}
-use Rattle.ol_diamond.proofs.OneThreadRuns.{run_net}
-use Rattle.ol_rules.specs.declared.journal.NodeName.TheVariants.{Init}
-use Rattle.ol_translate.proofs.Whole.{translation_net}
-use Rattle.ol_translate.specs.Translation.{translation_of}
 use Rattle.ol_law_completeness.specs.BoundedRuns.{LightHasNoRing}
-use Rattle.ol_law_completeness.specs.StrongNormalisation.{StronglyNormalisingHasNoRing}
 use Rattle.ol_law_completeness.specs.Walks.{ComesDown, leaves, rises, comes}
 use Rattle.ol_law_completeness.specs.Weights.{WeighsAtMost}
-use Rattle.ol_law_completeness.proofs.Bounding.{strong_is_bounded}
-use Rattle.ol_law_completeness.proofs.Renaming.{weighs_same, weighs_under}
-use Rattle.ol_law_completeness.proofs.Running.{bounded_is_light, runs_are_short}
 
 module _ {A : Type 0} (N : NamedNet A) (net : IsNet N) (p : NamedPort A) (ring : Descends N p p) where
   -- the port of the ring before this one
@@ -85,14 +75,3 @@ module _ {A : Type 0} (N : NamedNet A) (net : IsNet N) (p : NamedPort A) (ring :
 
 pub light_has_no_ring : {A : Type 0} → LightHasNoRing A
 light_has_no_ring N m net w p ring = none N net p ring m w
-
-pub strong_has_no_ring : StronglyNormalisingHasNoRing
-strong_has_no_ring τ t names h strong g n same journal M run =
-    let N = translation_of τ t names in
-    let b = strong_is_bounded τ t names h strong in
-    let is_net : IsNet (translation_of τ t names) = translation_net τ t names h in
-    let l = bounded_is_light N b.0 is_net b.1 in
-    let w = weighs_under Init (net_of g) _ (weighs_same N (net_of g) same _ l) in
-    let net : IsNet (net_under Init (net_of g)) = start_net (net_of g) n in
-    let r = runs_are_short (net_under Init (net_of g)) M 0 journal _ net (start_named (net_of g)) run w in
-    light_has_no_ring M r.0 (run_net (net_under Init (net_of g)) M 0 journal net (start_named (net_of g)) run) r.2

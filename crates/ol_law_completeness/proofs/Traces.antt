@@ -1,6 +1,6 @@
 -- A labelled term whose links are links of several links of a net, and that what is left of its redexes is
 -- such a term again.
--- Used in First and Ending.
+-- Used in First and OnlyStrong.
 use Rattle.std.proofs.Common.{◌≡◌, ℕ, zero, suc, ◌≤◌, List, [], ◌∷◌, ◌++◌, length, length-append, refl, sym, ◌∙◌}
 use Rattle.std.proofs.Common.{subst, arith}
 use Rattle.ol_context.specs.Contexts.{Level, o, star, Context, cons}
@@ -17,9 +17,8 @@ use Rattle.ol_net.specs.declared.parts.Kind.{Kind}
 use Rattle.ol_net.specs.declared.parts.Kind.TheVariants as kind
 use Rattle.ol_rules.proofs.FreshPairs.{linked_sym}
 use Rattle.ol_rules.specs.declared.journal.NodeName.{NodeName}
-use Rattle.ol_law_completeness.proofs.Degrees.{size, size_joined, Weak, at_redex, at_function}
-use Rattle.ol_law_completeness.proofs.Links.{length_turned, Goes, goes_on, goes_at, goes_to, upwards, downwards, back}
-use Rattle.ol_law_completeness.proofs.Links.{Link, prefixed}
+use Rattle.ol_law_completeness.proofs.Walls.{size, size_joined, Weak, at_redex, at_function}
+use Rattle.ol_law_completeness.proofs.Links.{length_turned, Goes, goes_on, goes_at, goes_to, upwards, downwards, back, Link, prefixed}
 
 -- what is asked of a variable's occurrence, by the end of its link
 abbrev pub Env : Type 1

@@ -5,12 +5,7 @@ use Rattle.std.specs.Prelude.{◌≡◌, ℕ, true, false, Bool, List, Some, ◌
 use Rattle.ol_beta.specs.Beta.{contracted}
 use Rattle.ol_law_confluence.specs.Reductions.{WeakStep, weak_beta, weak_before}
 use Rattle.ol_net.specs.Graph.{Graph}
-use Rattle.ol_net.specs.Nets.{NamedNet, IsNet, SameNet, net_under}
-use Rattle.ol_rules.specs.Runs.{IsRun}
-use Rattle.ol_rules.specs.declared.journal.Entry.{Entry}
-use Rattle.ol_rules.specs.declared.journal.NodeName.{NodeName}
-use Rattle.ol_rules.specs.declared.journal.NodeName.TheVariants.{Init}
-use Rattle.ol_law_levels.specs.Rings.{HasNoRing}
+use Rattle.ol_net.specs.Nets.{IsNet, SameNet}
 use Rattle.ol_net.specs.Numbered.{net_of}
 use Rattle.ol_term.specs.Trees.{Tree, var, free, lam, app}
 use Rattle.ol_term.specs.declared.translations.Translation.{Translation}
@@ -55,10 +50,3 @@ abbrev pub StronglyNormalisingEnds : Type 0
 StronglyNormalisingEnds = (τ : Translation) (t : Tree) (names : ℕ) → HasNames t names →
     IsStronglyNormalising t → (n : ℕ) × ((g : Graph) → IsNet (net_of g) →
     SameNet (net_of g) (translation_of τ t names) → RunsEndWithin g n)
-
--- And no run leads to a ring of principal ports.
-abbrev pub StronglyNormalisingHasNoRing : Type 0
-StronglyNormalisingHasNoRing = (τ : Translation) (t : Tree) (names : ℕ) → HasNames t names →
-    IsStronglyNormalising t → (g : Graph) → IsNet (net_of g) →
-    SameNet (net_of g) (translation_of τ t names) → (journal : List Entry)
-    (M : NamedNet NodeName) → IsRun (net_under Init (net_of g)) 0 journal M → HasNoRing M

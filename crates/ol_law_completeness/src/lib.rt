@@ -1,6 +1,7 @@
 //! Termination and optimality of interactions: on-demand reduction finds every normal form and
 //! every head normal form, with the fewest interactions of all sufficient reductions, and reduction
-//! by one thread ends exactly on strongly normalising terms.
+//! by one thread ends exactly on strongly normalising terms. No reduction of a term's net leads to a
+//! vicious circle of principal ports.
 //!
 //! A reduction is *sufficient* (it serves, `CanBeRead`) for a number of places, in preorder, if the
 //! paths that read these places from its final net meet no active pair. Strongly normalising terms
@@ -15,9 +16,9 @@
 //! a principal port and the second down from a principal port. It continues with completeness of
 //! on-demand reduction (`heads_are_read` to `terms_are_read`), its optimality (`demand_is_least` to
 //! `terms_are_read_least`), termination of all reductions of nets with bounded walks
-//! (`step_lightens` to `light_has_no_ring`), and strongly normalising terms
-//! (`strongly_normalising_by_rules` to `ends_exactly_if_strongly_normalising`). Every function is a
-//! theorem, without code.
+//! (`step_lightens` to `light_has_no_ring`), strongly normalising terms
+//! (`strongly_normalising_by_rules` to `ends_exactly_if_strongly_normalising`), and absence of
+//! vicious circles (`no_ring`). Every function is a theorem, without code.
 //!
 //! The theorems count interactions, and neither crossings of paths nor time. They compare
 //! reductions of the same net, with the readback of `ol_readback`. The bounds on the number of
@@ -38,10 +39,10 @@ ghost use Rattle.ol_law_completeness.specs.EndsExactly.{EveryRunEndsExactly};
 ghost use Rattle.ol_law_completeness.specs.Laws.{StepShortensRow, ChainIsOnPath, ChainsMeetAlike};
 ghost use Rattle.ol_law_completeness.specs.Least.{DemandIsLeast, DemandedIsLeast, EnoughAsItIs};
 ghost use Rattle.ol_law_completeness.specs.Least.{EnoughWithoutHeads, CompleteIsEnough, ReadAsItIs};
+ghost use Rattle.ol_law_completeness.specs.NoRing.{TermHasNoRing};
 ghost use Rattle.ol_law_completeness.specs.StrongNormalisation.{StronglyNormalisingByRules};
 ghost use Rattle.ol_law_completeness.specs.StrongNormalisation.{StronglyNormalisingIsBounded};
 ghost use Rattle.ol_law_completeness.specs.StrongNormalisation.{StronglyNormalisingEnds};
-ghost use Rattle.ol_law_completeness.specs.StrongNormalisation.{StronglyNormalisingHasNoRing};
 ghost use Rattle.ol_law_completeness.specs.Terms.{LevelledCrossesNoStuck, NormalFormIsRead};
 ghost use Rattle.ol_law_completeness.specs.Terms.{HeadNormalFormIsRead, PlacesAreOfTerm};
 ghost use Rattle.ol_law_completeness.specs.Terms.{ReadsExactlyNormalForms, TermIsReadLeast};
@@ -226,11 +227,10 @@ pub fn strongly_normalising_by_rules()
 
 /// If a term is strongly normalising, the walks over its net are bounded, by either translation. It
 /// follows that every reduction of the net, of any pairs in any order, ends within a number of
-/// interactions that the net determines, and leads to no vicious circle of principal ports.
+/// interactions that the net determines.
 pub fn strongly_normalising_ends()
     ensures bounded { StronglyNormalisingIsBounded }
     ensures ends { StronglyNormalisingEnds }
-    ensures rings { StronglyNormalisingHasNoRing }
 {}
 
 /// If some reduction of a term's net, by either translation, leads to a net without an active pair,
@@ -245,4 +245,11 @@ pub fn only_strongly_normalising_ends()
 pub fn ends_exactly_if_strongly_normalising()
     ensures one { OneThreadEndsExactly }
     ensures every { EveryRunEndsExactly }
+{}
+
+/// Theorem: no reduction of a term's net, of any pairs in any order, by either translation, leads to
+/// a vicious circle of principal ports (Lafont, Interaction Nets, POPL 1990). The term is any term,
+/// with or without a normal form.
+pub fn no_ring()
+    ensures { TermHasNoRing }
 {}

@@ -1,5 +1,4 @@
 use Rattle.ol_law_completeness.proofs.Bounding as bounding
-use Rattle.ol_law_completeness.proofs.Rings as rings
 use Rattle.ol_law_completeness.proofs.Terms as terms
 use Rattle.ol_law_completeness.proofs.strongly_normalising_ends.Goals as goal
 
@@ -8,6 +7,3 @@ returns-clause-bounded c = bounding.strong_is_bounded
 
 pub returns-clause-ends : goal.returns-clause-ends
 returns-clause-ends c = terms.strongly_normalising_ends
-
-pub returns-clause-rings : goal.returns-clause-rings
-returns-clause-rings c = rings.strong_has_no_ring

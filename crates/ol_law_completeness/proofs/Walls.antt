@@ -1,7 +1,7 @@
--- Labelled terms are normalised by the rules if redexes of too great a degree aren't contracted.
--- Used in Traces and Ending.
-use Rattle.std.proofs.Common.{◌≡◌, ℕ, zero, suc, ◌+◌, ◌<◌, ◌≤◌, Bool, true, false, ◌⊎◌, inl, inr, refl, sym, subst}
-use Rattle.std.proofs.Common.{arith}
+-- Labelled terms are normalised by the rules if redexes of too great a degree aren't contracted, but stand as heads, and
+-- their parts are normalised too.
+-- Used in Hops, Short, Simulating, Walked, Traces and OnlyStrong.
+use Rattle.std.proofs.Common.{◌≡◌, ℕ, zero, suc, ◌+◌, ◌<◌, ◌≤◌, Bool, true, false, ◌⊎◌, inl, inr, refl, sym, subst, arith}
 use Rattle.std.proofs.lemmas.Bool.{cases_lt}
 use Rattle.ol_law_optimality.specs.Readings.{label_of}
 use Rattle.ol_law_optimality.proofs.Putting.{ren, up, inst}
@@ -38,17 +38,13 @@ pub data Weak : Labelled → Labelled → Type 0 where
   at_redex : {b c : Labelled} {v w : Label} → Weak (app (lam b v) c w) (reduct w v c b)
   at_function : {f g a : Labelled} {w : Label} → Weak f g → Weak (app f a w) (app g a w)
 
-abbrev pub degree_of : {t u : Labelled} → Weak t u → Label
-degree_of (at_redex {v = v}) = v
-degree_of (at_function s) = degree_of s
-
 abbrev pub argument_of : {t u : Labelled} → Weak t u → Labelled
 argument_of (at_redex {c = c}) = c
 argument_of (at_function s) = argument_of s
 
--- By the rules: with true, a variable or a name with arguments; with false, whatever the rules build,
--- whose weak head reduction leads to no abstraction with a label of fewer than k words. A redex with
--- a degree of K words or more is left.
+-- By the rules: with true, a variable, a name or a wall with arguments; with false, whatever the rules build,
+-- whose weak head reduction leads to no abstraction with a label of fewer than k words. A wall is a redex with
+-- a degree of K words or more.
 pub data Norm (K : ℕ) : ℕ → Bool → Labelled → Type 0 where
   of_var : {k y : ℕ} {w : Label} → Norm K k true (var y w)
   of_free : {k f : ℕ} {w : Label} → Norm K k true (free f w)
@@ -56,7 +52,8 @@ pub data Norm (K : ℕ) : ℕ → Bool → Labelled → Type 0 where
   plain : {k : ℕ} {t : Labelled} → Norm K k true t → Norm K k false t
   of_lam : {k : ℕ} {m : Labelled} {w : Label} → k ≤ size w → Norm K 0 false m → Norm K k false (lam m w)
   of_redex : {k : ℕ} {t u : Labelled} (s : Weak t u) → Norm K 0 false (argument_of s) → Norm K k false u → Norm K k false t
-  too_great : {k : ℕ} {t u : Labelled} (s : Weak t u) → K ≤ size (degree_of s) → Norm K k false t
+  wall : {k : ℕ} {b c : Labelled} {v w : Label} → K ≤ size v → Norm K 0 false b → Norm K 0 false c →
+      Norm K k true (app (lam b v) c w)
 
 weak_grows : {t u : Labelled} → Weak t u → weight t ≤ weight u
 weak_grows (at_redex {b = b} {c = c} {v = v} {w = w}) =
@@ -65,32 +62,31 @@ weak_grows (at_redex {b = b} {c = c} {v = v} {w = w}) =
     omega (arith, e, f)
 weak_grows (at_function s) = omega arith
 
-record Moved (t' u' a : Labelled) (d : Label) : Type 0 where
+record Moved (t' u' a : Labelled) : Type 0 where
   step : Weak t' u'
   argument : argument_of step ≡ a
-  degree : degree_of step ≡ d
 
-moved_on : {t u u' a : Labelled} {d : Label} → u ≡ u' → Moved t u a d → Moved t u' a d
-moved_on {t} {a = a} {d = d} e m = subst (λ u. Moved t u a d) e m
+moved_on : {t u u' a : Labelled} → u ≡ u' → Moved t u a → Moved t u' a
+moved_on {t} {a = a} e m = subst (λ u. Moved t u a) e m
 
-in_function : {t u a c : Labelled} {d w : Label} → Moved t u a d → Moved (app t c w) (app u c w) a d
-in_function m = record { step = at_function m.step; argument = m.argument; degree = m.degree }
+in_function : {t u a c : Labelled} {w : Label} → Moved t u a → Moved (app t c w) (app u c w) a
+in_function m = record { step = at_function m.step; argument = m.argument }
 
-put_before : (x : Label) {t u : Labelled} (s : Weak t u) → Moved (before x t) (before x u) (argument_of s) (degree_of s)
+put_before : (x : Label) {t u : Labelled} (s : Weak t u) → Moved (before x t) (before x u) (argument_of s)
 put_before x (at_redex {b = b} {c = c} {v = v} {w = w}) =
-    moved_on (sym (before_reduct x w v c b)) (record { step = at_redex; argument = refl; degree = refl })
-put_before x (at_function s) = record { step = at_function s; argument = refl; degree = refl }
+    moved_on (sym (before_reduct x w v c b)) (record { step = at_redex; argument = refl })
+put_before x (at_function s) = record { step = at_function s; argument = refl }
 
 -- other variables
-ren_step : (ξ : ℕ → ℕ) {t u : Labelled} (s : Weak t u) → Moved (ren ξ t) (ren ξ u) (ren ξ (argument_of s)) (degree_of s)
+ren_step : (ξ : ℕ → ℕ) {t u : Labelled} (s : Weak t u) → Moved (ren ξ t) (ren ξ u) (ren ξ (argument_of s))
 ren_step ξ (at_redex {b = b} {c = c} {v = v} {w = w}) =
-    moved_on (sym (ren_reduct ξ w v c b)) (record { step = at_redex; argument = refl; degree = refl })
+    moved_on (sym (ren_reduct ξ w v c b)) (record { step = at_redex; argument = refl })
 ren_step ξ (at_function s) = in_function (ren_step ξ s)
 
 -- terms for variables
-inst_step : (σ : ℕ → Labelled) {t u : Labelled} (s : Weak t u) → Moved (inst σ t) (inst σ u) (inst σ (argument_of s)) (degree_of s)
+inst_step : (σ : ℕ → Labelled) {t u : Labelled} (s : Weak t u) → Moved (inst σ t) (inst σ u) (inst σ (argument_of s))
 inst_step σ (at_redex {b = b} {c = c} {v = v} {w = w}) =
-    moved_on (sym (inst_reduct σ w v c b)) (record { step = at_redex; argument = refl; degree = refl })
+    moved_on (sym (inst_reduct σ w v c b)) (record { step = at_redex; argument = refl })
 inst_step σ (at_function s) = in_function (inst_step σ s)
 
 module _ (K : ℕ) where
@@ -101,7 +97,7 @@ module _ (K : ℕ) where
   plain_any (plain m) e = absurd (cc)
   plain_any (of_lam h m) e = absurd (cc)
   plain_any (of_redex s m n) e = absurd (cc)
-  plain_any (too_great s h) e = absurd (cc)
+  plain_any (wall h m n) e = wall h m n
 
   -- what the label of the whole term tells
   raised : {j k : ℕ} {b : Bool} {t : Labelled} → Norm K j b t → k ≤ weight t → Norm K k false t
@@ -111,16 +107,13 @@ module _ (K : ℕ) where
   raised (plain m) h = raised m h
   raised (of_lam g m) h = of_lam h m
   raised (of_redex s m n) h = of_redex s m (raised n (omega (arith, h, weak_grows s)))
-  raised (too_great s g) h = too_great s g
+  raised (wall g m n) h = plain (wall g m n)
 
   lowered : {k : ℕ} {b : Bool} {t : Labelled} → Norm K k b t → Norm K 0 false t
   lowered r = raised r (omega arith)
 
-  again : {k : ℕ} {t' u' a : Labelled} {d : Label} → Moved t' u' a d → Norm K 0 false a → Norm K k false u' → Norm K k false t'
+  again : {k : ℕ} {t' u' a : Labelled} → Moved t' u' a → Norm K 0 false a → Norm K k false u' → Norm K k false t'
   again m n u = of_redex m.step (subst (λ a. Norm K 0 false a) (sym m.argument) n) u
-
-  too_great_again : {k : ℕ} {t' u' a : Labelled} {d : Label} → Moved t' u' a d → K ≤ size d → Norm K k false t'
-  too_great_again m h = too_great m.step (subst (λ d. K ≤ size d) (sym m.degree) h)
 
   pub relabelled : (x : Label) {k : ℕ} {b : Bool} {t : Labelled} → Norm K k b t → Norm K k b (before x t)
   relabelled x of_var = of_var
@@ -129,7 +122,7 @@ module _ (K : ℕ) where
   relabelled x (plain m) = plain (relabelled x m)
   relabelled x (of_lam {w = w} h m) = let e = size_joined x w in of_lam (omega (arith, h, e)) m
   relabelled x (of_redex s m n) = again (put_before x s) m (relabelled x n)
-  relabelled x (too_great s h) = too_great_again (put_before x s) h
+  relabelled x (wall h m n) = wall h m n
 
   renamed : (ξ : ℕ → ℕ) {k : ℕ} {b : Bool} {t : Labelled} → Norm K k b t → Norm K k b (ren ξ t)
   renamed ξ of_var = of_var
@@ -138,7 +131,7 @@ module _ (K : ℕ) where
   renamed ξ (plain m) = plain (renamed ξ m)
   renamed ξ (of_lam h m) = of_lam h (renamed (up_ren ξ) m)
   renamed ξ (of_redex s m n) = again (ren_step ξ s) (renamed ξ m) (renamed ξ n)
-  renamed ξ (too_great s h) = too_great_again (ren_step ξ s) h
+  renamed ξ (wall h m n) = wall h (renamed (up_ren ξ) m) (renamed ξ n)
 
   abbrev Applies : ℕ → Type 0
   Applies k = (m n : Labelled) (w : Label) → Norm K k false m → Norm K 0 false n → Norm K k false (app m n w)
@@ -163,7 +156,7 @@ module _ (K : ℕ) where
   put_in k a σ g (plain r) = lowered (put_in k a σ g r)
   put_in k a σ g (of_lam h r) = of_lam (omega arith) (put_in k a (up σ) (good_up k σ g) r)
   put_in k a σ g (of_redex s r u) = again (inst_step σ s) (put_in k a σ g r) (put_in k a σ g u)
-  put_in k a σ g (too_great s h) = too_great_again (inst_step σ s) h
+  put_in k a σ g (wall h m n) = plain (wall h (put_in k a (up σ) (good_up k σ g) m) (put_in k a σ g n))
 
   good_point : (k : ℕ) (c : Labelled) → Norm K k false c → Good k (point c)
   good_point k c h zero = h
@@ -183,7 +176,7 @@ module _ (K : ℕ) where
 
   at_lam : (v w : Label) (b c : Labelled) (k : ℕ) → k ≤ size v → ((size v < K) ⊎ (K ≤ size v)) →
       (size v < K → Applies (suc (size v))) → Norm K 0 false b → Norm K 0 false c → Norm K k false (app (lam b v) c w)
-  at_lam v w b c k h (inr g) next r s = too_great (at_redex {b = b} {c = c} {v = v} {w = w}) g
+  at_lam v w b c k h (inr g) next r s = plain (wall g r s)
   at_lam v w b c k h (inl g) next r s =
       of_redex at_redex s (raised (contracts v w b c (next g) r s) (let e = weight_before (joined w (over v none))
       (substituted (before (under v none) c) 0 b) in let f = size_joined w (over v none) in omega (arith, e, f, h)))
@@ -196,7 +189,7 @@ module _ (K : ℕ) where
   applied k next n w s (plain r) = plain (of_app r s)
   applied k next n w s (of_lam {m = m} {w = v} h r) = at_lam v w m n k h (cases_lt (size v) K) (next v h) r s
   applied k next n w s (of_redex q r u) = of_redex (at_function q) r (applied k next n w s u)
-  applied k next n w s (too_great q h) = too_great (at_function q) h
+  applied k next n w s (wall h r r') = plain (of_app (wall h r r') s)
 
   applies : (f k : ℕ) → K ≤ k + f → Applies k
   applies zero k h m n w r s = applied k (λ v g g'. absurd (omega (arith, h, g, g'))) n w s r
