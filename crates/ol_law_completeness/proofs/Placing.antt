@@ -4,8 +4,9 @@ use Rattle.std.proofs.Common.{◌≡◌, ◌≢◌, ℕ, zero, suc, ◌+◌, ◌
 use Rattle.std.proofs.Common.{if◌then◌else◌, Option, Some, None, refl, sym, ap, ◌∙◌, subst, arith}
 use Rattle.std.proofs.lemmas.Bool.{eqb-true, eq-eqb, ltb-true, ltb-false}
 use Rattle.ol_law_meaning.proofs.Addresses.{without_own}
-use Rattle.ol_law_meaning.proofs.LeftmostSteps.{low, high}
-use Rattle.ol_law_meaning.specs.Contraction.{up_from, suc_of, without, lift, put, subst_for}
+use Rattle.ol_law_meaning.proofs.LeftmostSteps.{shift_var, kept, lowered}
+use Rattle.ol_law_meaning.specs.Contraction.{up_from, without, lift, put, subst_for}
+use Rattle.ol_law_optimality.proofs.Erasing.{erased_before}
 use Rattle.ol_law_optimality.specs.Labels.{Label, Labelled, var, free, lam, app, before, shifted, substituted, erased}
 use Rattle.ol_term.specs.Trees.{Tree}
 use Rattle.ol_term.specs.Trees as trees
@@ -26,12 +27,6 @@ in_place i c (free f w) = free f w
 in_place i c (lam t w) = lam (in_place (suc i) c t) w
 in_place i c (app t u w) = app (in_place i c t) (in_place i c u) w
 
-pub erased_before : (x : Label) (t : Labelled) → erased (before x t) ≡ erased t
-erased_before x (var y w) = refl
-erased_before x (free f w) = refl
-erased_before x (lam t w) = refl
-erased_before x (app t u w) = refl
-
 pub erased_lifted : (t : Labelled) (d i : ℕ) → erased (lifted d i t) ≡ lift d i (erased t)
 erased_lifted (var y w) d i = refl
 erased_lifted (free f w) d i = refl
@@ -50,28 +45,12 @@ erased_in_place (app t u w) c i = rw (erased_in_place t c i, erased_in_place u c
 
 -- ---- it is `substituted`
 
-shift_var : (d i y : ℕ) (b : Bool) → nat_lt y d ≡ b → up_from d i y ≡ (if b then y else y + i)
-shift_var d i y true e = low d i y (ltb-true y d e)
-shift_var d i y false e = high d i y (ltb-false y d e)
-
 lift_shift : (t : Labelled) (d i : ℕ) → lifted d i t ≡ shifted i d t
 lift_shift (var y w) d i = ap (λ y. var y w) (shift_var d i y (nat_lt y d) refl)
 lift_shift (free f w) d i = refl
 lift_shift (lam t w) d i = ap (λ t. lam t w) (lift_shift t (suc d) i
     ∙ ap (λ d. shifted i d t) (let e : suc d ≡ d + 1 = omega arith in e))
 lift_shift (app t u w) d i = ap (λ t. app t (lifted d i u) w) (lift_shift t d i) ∙ ap (λ u. app (shifted i d t) u w) (lift_shift u d i)
-
-kept : (i y : ℕ) → y < i → without i y ≡ Some y
-kept zero y h = absurd (omega arith)
-kept (suc i) zero h = refl
-kept (suc i) (suc y) h = ap suc_of (kept i y (omega arith))
-
-lowered : (i y : ℕ) → i < y → without i y ≡ Some (y - 1)
-lowered zero zero h = absurd (omega arith)
-lowered zero (suc y) h = ap Some (let e : y ≡ suc y - 1 = omega arith in e)
-lowered (suc i) zero h = absurd (omega arith)
-lowered (suc i) (suc y) h = ap suc_of (lowered i y (omega arith))
-    ∙ ap Some (let e : suc (y - 1) ≡ suc y - 1 = omega arith in e)
 
 put_var : (c : Labelled) (w : Label) (i y : ℕ) (b e : Bool) → nat_lt y i ≡ b → (y == i) ≡ e →
     placed i c w (without i y) ≡ (if b then var y w else if e then before w (shifted i 0 c) else var (y - 1) w)

@@ -23,7 +23,7 @@ high zero i y h = omega arith
 high (suc d) i zero h = absurd (omega arith)
 high (suc d) i (suc y) h = ap suc (high d i y (omega arith)) ∙ (let e : suc (y + i) ≡ suc y + i = omega arith in e)
 
-shift_var : (d i y : ℕ) (b : Bool) → nat_lt y d ≡ b → up_from d i y ≡ (if b then y else y + i)
+pub shift_var : (d i y : ℕ) (b : Bool) → nat_lt y d ≡ b → up_from d i y ≡ (if b then y else y + i)
 shift_var d i y true e = low d i y (ltb-true y d e)
 shift_var d i y false e = high d i y (ltb-false y d e)
 
@@ -36,12 +36,12 @@ lift_shift (app t u) d i = ap (λ t. app t (lift d i u)) (lift_shift t d i) ∙ 
 
 -- ---- a term for a variable
 
-kept : (i y : ℕ) → y < i → without i y ≡ Some y
+pub kept : (i y : ℕ) → y < i → without i y ≡ Some y
 kept zero y h = absurd (omega arith)
 kept (suc i) zero h = refl
 kept (suc i) (suc y) h = ap suc_of (kept i y (omega arith))
 
-lowered : (i y : ℕ) → i < y → without i y ≡ Some (y - 1)
+pub lowered : (i y : ℕ) → i < y → without i y ≡ Some (y - 1)
 lowered zero zero h = absurd (omega arith)
 lowered zero (suc y) h = ap Some (let e : y ≡ suc y - 1 = omega arith in e)
 lowered (suc i) zero h = absurd (omega arith)
