@@ -2,9 +2,10 @@
 
     tests/all [--long]
 
-It tries the scripts `ol` and `prove`, the commands of the pages, the term files of examples/, the vectors, the sessions,
-the library for C where it is built, typical bugs of a runtime, comparisons of `ol-bench` with plain code on a few terms,
-and the scripts themselves, with the programs that tests/lib/which_ol.py finds: those that OL and OL_BENCH name; else the proved ones, where they are there; else `ol` on PATH; else the scripts `ol` and
+It tries the scripts `ol` and `prove`, the commands of the pages, the term files of examples/, the vectors, the sessions of
+tests/sessions and the examples of `ol-bench COMMAND --help`, the library for C where it is built, typical bugs of a runtime,
+comparisons of `ol-bench` with plain code on a few terms, and the scripts themselves, with the programs that
+tests/lib/which_ol.py finds: those that OL and OL_BENCH name; else the proved ones, where they are there; else `ol` on PATH; else the scripts `ol` and
 `ol-bench` at the top. With --long it runs those too that are named at the end with the time that they take. The last line is 'N passed, M failed', over all.
 """
 import collections
