@@ -1,6 +1,6 @@
 -- A job that rewrites until no pair is active is done exactly where the term is strongly normalising, with enough fuel.
-use Rattle.std.proofs.Common.{◌≡◌, ◌≢◌, ℕ, zero, suc, ◌≤◌, ◌↔◌, ◌⊎◌, inl, inr, true, List, [], length, Option, Some, None, String, Global}
-use Rattle.std.proofs.Common.{refl, sym, ap, ◌∙◌, subst, arith, slice_get}
+use Rattle.std.proofs.Common.{◌≡◌, ℕ, ◌≤◌, ◌↔◌, inl, inr, true, List, length, Option, Some, String, Global}
+use Rattle.std.proofs.Common.{sym, ap, ◌∙◌, subst, arith}
 use Rattle.ol_diamond.proofs.OneThreadRuns.{runs_agree}
 use Rattle.ol_io.specs.Outside.{Appended}
 use Rattle.ol_law_completeness.proofs.OnlyStrong.{one_thread_ends}
@@ -17,7 +17,6 @@ use Rattle.ol_translate.proofs.Whole.{translation_net}
 use Rattle.ol_translate.specs.Names.{HasNames}
 use Rattle.ol_translate.specs.Sizes.{size_of_translation}
 use Rattle.ol_translate.specs.Translation.{translation_of}
-use Rattle.ol_words.specs.Texts.{Text}
 use Rattle.ol_words.specs.declared.jobs.Job.{Job}
 use Rattle.ol_words.specs.declared.jobs.Job.TheVariants as jobs
 use Rattle.ol_cli.proofs.AnyRun.{any_run_ends}
@@ -30,12 +29,12 @@ use Rattle.ol_cli.proofs.TermLaws.{laws, trace_ends, trace_runs_out}
 use Rattle.ol_cli.specs.Answers.{IsAnswer}
 use Rattle.ol_cli.specs.Cases.{FileAnswer, JobAnswer, TermAnswer, of_file, made}
 use Rattle.ol_cli.specs.Generate.{plain_run}
-use Rattle.ol_cli.specs.Jobs.{AreTold, AskFor, Files, TellsFiles, term_bytes, translation_in}
+use Rattle.ol_cli.specs.Jobs.{AreTold, Files, TellsFiles, term_bytes, translation_in}
 use Rattle.ol_cli.specs.Run.{RunEnds, RunsOut, start_net_of_term}
 use Rattle.ol_cli.specs.TermFiles.{IsTermFile}
 use Rattle.ol_cli.specs.Termination.{EndsExactly, JobEndsExactly, run_fuel}
 use Rattle.ol_cli.specs.declared.status.Status.{Status}
-use Rattle.ol_cli.specs.declared.status.Status.TheVariants.{Done, Spent, NoMemory}
+use Rattle.ol_cli.specs.declared.status.Status.TheVariants.{Done, Spent}
 use Rattle.ol_law_meaning.proofs.FileNames.{file_names}
 
 -- ---- a term
