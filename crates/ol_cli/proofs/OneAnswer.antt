@@ -134,24 +134,27 @@ one_file_answer job bytes s s' x x' h h' = one_of_file job bytes s s' x x'
 -- ---- a file within the limits
 
 module _ (job : Job) (bytes : List ℕ) (t : Tree) (names : List (List ℕ))
-    (i : IsTermFile (translation_in job) bytes t names) (ends : EndsWithinFuel job t names) where
-  done_tree : (u : Tree) (others : List (List ℕ)) → IsFileOf bytes u others →
-      (s : Status) (x : List ℕ) → OfTree job u others s x → s ≡ Done
-  done_tree u others f s x (too_deep d h) = let b = i.shallow in
+    (i : IsTermFile (translation_in job) bytes t names) where
+  own_tree : (u : Tree) (others : List (List ℕ)) → IsFileOf bytes u others →
+      (s : Status) (x : List ℕ) → OfTree job u others s x → TermAnswer job t names s x
+  own_tree u others f s x (too_deep d h) = let b = i.shallow in
       let e = ap depth (one_file bytes t u names others i.file f).0 in absurd (omega arith)
-  done_tree u others f s x (too_large d z h) = let b = i.small in
+  own_tree u others f s x (too_large d z h) = let b = i.small in
       let e = ap (size_of_translation (translation_in job))
       (one_file bytes t u names others i.file f).0 in absurd (omega arith)
-  done_tree u others f s x (done d z h) =
-      let same = one_file bytes t u names others i.file f in
-      let ends' = subst (λ t. EndsWithinFuel job t others) same.0
-      (subst (λ names. EndsWithinFuel job t names) same.1 ends) in
-      done_by_laws (laws job u others) (file_net (translation_in job) bytes u others f) ends' s x h
+  own_tree u others f s x (done d z h) =
+      let same = one_file bytes u t others names f i.file in
+      subst (λ t. TermAnswer job t names s x) same.0 (subst (λ names. TermAnswer job u names s x) same.1 h)
 
-  pub done_file : (s : Status) (x : List ℕ) → OfFile job bytes s x → s ≡ Done
-  done_file s x (too_long l h) = let b = i.short in absurd (omega arith)
-  done_file s x (refused l at r h) = absurd (r.0 i.file.named i.file.text)
-  done_file s x (has_term l u others f h) = done_tree u others f s x h
+  -- what is answered is answered to its term
+  pub own_term : (s : Status) (x : List ℕ) → OfFile job bytes s x → TermAnswer job t names s x
+  own_term s x (too_long l h) = let b = i.short in absurd (omega arith)
+  own_term s x (refused l at r h) = absurd (r.0 i.file.named i.file.text)
+  own_term s x (has_term l u others f h) = own_tree u others f s x h
+
+  pub done_file : EndsWithinFuel job t names → (s : Status) (x : List ℕ) → OfFile job bytes s x → s ≡ Done
+  done_file ends s x o =
+      done_by_laws (laws job t names) (file_net (translation_in job) bytes t names i.file) ends s x (own_term s x o)
 
 -- ---- two files
 

@@ -1,28 +1,24 @@
 -- A job that rewrites until no pair is active is done exactly where the term is strongly normalising, with enough fuel.
-use Rattle.std.proofs.Common.{◌≡◌, ◌≢◌, ℕ, zero, suc, ◌≤◌, ◌↔◌, ◌⊎◌, inl, inr, true, List, [], length, Option, Some, None, String, Global}
-use Rattle.std.proofs.Common.{refl, sym, ap, ◌∙◌, subst, arith, slice_get}
+use Rattle.std.proofs.Common.{◌≡◌, ℕ, ◌≤◌, ◌↔◌, inl, inr, true, List, length, Option, Some, String, Global}
+use Rattle.std.proofs.Common.{sym, ◌∙◌, subst, arith}
+use Rattle.std.proofs.lemmas.Option.{same_Some}
 use Rattle.ol_diamond.proofs.OneThreadRuns.{runs_agree}
 use Rattle.ol_io.specs.Outside.{Appended}
 use Rattle.ol_law_completeness.proofs.OnlyStrong.{one_thread_ends}
 use Rattle.ol_law_completeness.specs.StrongNormalisation.{IsStronglyNormalising}
 use Rattle.ol_net.specs.Nets.{IsNet}
-use Rattle.ol_parse.proofs.Exact.{one_file}
-use Rattle.ol_parse.specs.Parsed.{IsFileOf}
 use Rattle.ol_rules.proofs.LeadRuns.{as_run}
 use Rattle.ol_rules.proofs.Relation.{same_refl}
 use Rattle.ol_term.specs.Generated.{doubled_text}
-use Rattle.ol_term.specs.Trees.{Tree, depth}
+use Rattle.ol_term.specs.Trees.{Tree}
 use Rattle.ol_term.specs.declared.translations.Translation.{Translation}
 use Rattle.ol_translate.proofs.Whole.{translation_net}
 use Rattle.ol_translate.specs.Names.{HasNames}
-use Rattle.ol_translate.specs.Sizes.{size_of_translation}
 use Rattle.ol_translate.specs.Translation.{translation_of}
-use Rattle.ol_words.specs.Texts.{Text}
 use Rattle.ol_words.specs.declared.jobs.Job.{Job}
 use Rattle.ol_words.specs.declared.jobs.Job.TheVariants as jobs
 use Rattle.ol_cli.proofs.AnyRun.{any_run_ends}
-use Rattle.ol_cli.proofs.OneAnswer.{OfFile, too_long, refused, has_term, OfTree, too_deep, too_large, done, of_file_answer}
-use Rattle.ol_cli.proofs.OneAnswer.{one_job, own_job}
+use Rattle.ol_cli.proofs.OneAnswer.{of_file_answer, one_job, own_job, own_term}
 use Rattle.ol_cli.proofs.OnePrint.{ends_or_runs_out, start_is_net, start_is_named}
 use Rattle.ol_cli.proofs.Sourced.{one_name}
 use Rattle.ol_cli.proofs.Statuses.{settled}
@@ -30,12 +26,12 @@ use Rattle.ol_cli.proofs.TermLaws.{laws, trace_ends, trace_runs_out}
 use Rattle.ol_cli.specs.Answers.{IsAnswer}
 use Rattle.ol_cli.specs.Cases.{FileAnswer, JobAnswer, TermAnswer, of_file, made}
 use Rattle.ol_cli.specs.Generate.{plain_run}
-use Rattle.ol_cli.specs.Jobs.{AreTold, AskFor, Files, TellsFiles, term_bytes, translation_in}
+use Rattle.ol_cli.specs.Jobs.{AreTold, Files, TellsFiles, term_bytes, translation_in}
 use Rattle.ol_cli.specs.Run.{RunEnds, RunsOut, start_net_of_term}
 use Rattle.ol_cli.specs.TermFiles.{IsTermFile}
 use Rattle.ol_cli.specs.Termination.{EndsExactly, JobEndsExactly, run_fuel}
 use Rattle.ol_cli.specs.declared.status.Status.{Status}
-use Rattle.ol_cli.specs.declared.status.Status.TheVariants.{Done, Spent, NoMemory}
+use Rattle.ol_cli.specs.declared.status.Status.TheVariants.{Done, Spent}
 use Rattle.ol_law_meaning.proofs.FileNames.{file_names}
 
 -- ---- a term
@@ -98,27 +94,24 @@ module _ (tr : Translation) (t : Tree) (names : List (List ℕ)) (h : HasNames t
 
 -- ---- each command
 
-same_fuel : (a b : ℕ) → Some a ≡ Some b → a ≡ b
-same_fuel a b e = cc
-
 module _ (t : Tree) (names : List (List ℕ)) (fuel : ℕ) where
   done_ends : (job : Job) → run_fuel job ≡ Some fuel → IsNet (translation_of (translation_in job) t (length names)) →
       (x : List ℕ) → TermAnswer job t names Done x → RunEnds (start_net_of_term (translation_in job) t names) fuel
-  done_ends (jobs.Run tr w f heads name) e n x a = subst (RunEnds (start_net_of_term tr t names)) (same_fuel f fuel e) a.ends
+  done_ends (jobs.Run tr w f heads name) e n x a = subst (RunEnds (start_net_of_term tr t names)) (same_Some f fuel e) a.ends
   done_ends (jobs.Trace tr w f name) e n x a =
-      subst (RunEnds (start_net_of_term tr t names)) (same_fuel f fuel e) (trace_ends tr t names f n x a)
+      subst (RunEnds (start_net_of_term tr t names)) (same_Some f fuel e) (trace_ends tr t names f n x a)
   done_ends (jobs.Certify tr b w f heads name) e n x a =
-      subst (RunEnds (start_net_of_term tr t names)) (same_fuel f fuel e) a.last.ends
+      subst (RunEnds (start_net_of_term tr t names)) (same_Some f fuel e) a.last.ends
   done_ends (jobs.Gen tr true k) e n x a = absurd a
   done_ends _ e n x a = absurd (cc)
 
   spent_runs_out : (job : Job) → run_fuel job ≡ Some fuel → IsNet (translation_of (translation_in job) t (length names)) →
       (x : List ℕ) → TermAnswer job t names Spent x → RunsOut (start_net_of_term (translation_in job) t names) fuel
-  spent_runs_out (jobs.Run tr w f heads name) e n x a = subst (RunsOut (start_net_of_term tr t names)) (same_fuel f fuel e) a.0
+  spent_runs_out (jobs.Run tr w f heads name) e n x a = subst (RunsOut (start_net_of_term tr t names)) (same_Some f fuel e) a.0
   spent_runs_out (jobs.Trace tr w f name) e n x a =
-      subst (RunsOut (start_net_of_term tr t names)) (same_fuel f fuel e) (trace_runs_out tr t names f n x a)
+      subst (RunsOut (start_net_of_term tr t names)) (same_Some f fuel e) (trace_runs_out tr t names f n x a)
   spent_runs_out (jobs.Certify tr b w f heads name) e n x a =
-      subst (RunsOut (start_net_of_term tr t names)) (same_fuel f fuel e) a.0
+      subst (RunsOut (start_net_of_term tr t names)) (same_Some f fuel e) a.0
   spent_runs_out (jobs.Gen tr true k) e n x a = absurd a
   spent_runs_out _ e n x a = absurd (cc)
 
@@ -137,30 +130,12 @@ module _ (job : Job) (fuel : ℕ) (e : run_fuel job ≡ Some fuel) (bytes : List
         | inr s ↦ ran_out s (spent_runs_out t names fuel job e n x (subst (λ st. TermAnswer job t names st x) s a))
       ]
 
-  tree_ends : (u : Tree) (others : List (List ℕ)) → IsFileOf bytes u others → (st : Status) (x : List ℕ) →
-      OfTree job u others st x → Ended (translation_in job) t names has fuel st
-  tree_ends u others f st x (too_deep d h) = let b = i.shallow in
-      let e = ap depth (one_file bytes t u names others i.file f).0 in absurd (omega arith)
-  tree_ends u others f st x (too_large d z h) = let b = i.small in
-      let e = ap (size_of_translation (translation_in job)) (one_file bytes t u names others i.file f).0 in
-      absurd (omega arith)
-  tree_ends u others f st x (done d z h) =
-      let same = one_file bytes u t others names f i.file in
-      term_ends st x (subst (λ t. TermAnswer job t names st x) same.0 (subst (λ names. TermAnswer job u names st x) same.1 h))
-
-  of_file_ends : (st : Status) (x : List ℕ) → OfFile job bytes st x → Ended (translation_in job) t names has fuel st
-  of_file_ends st x (too_long l h) = let b = i.short in absurd (omega arith)
-  of_file_ends st x (refused l at r h) = absurd (r.0 i.file.named i.file.text)
-  of_file_ends st x (has_term l u others f h) = tree_ends u others f st x h
-
   pub file_ends : (st : Status) (x : List ℕ) → FileAnswer job bytes st x → EndsExactly (translation_in job) t names fuel st
   file_ends st x a =
-      ends_exactly (translation_in job) t names has fuel st (of_file_ends st x (of_file_answer job bytes st x a))
+      ends_exactly (translation_in job) t names has fuel st
+      (term_ends st x (own_term job bytes t names i st x (of_file_answer job bytes st x a)))
 
 -- ---- a job
-
-same_bytes : (a b : List ℕ) → Some a ≡ Some b → a ≡ b
-same_bytes a b e = cc
 
 module _ (files : Files) (st : Status) (x : List ℕ) (fuel : ℕ) (bytes : List ℕ) (t : Tree) (names : List (List ℕ)) where
   job_ends : (job : Job) → run_fuel job ≡ Some fuel → term_bytes (files 0) job ≡ Some bytes →
@@ -168,16 +143,16 @@ module _ (files : Files) (st : Status) (x : List ℕ) (fuel : ℕ) (bytes : List
       EndsExactly (translation_in job) t names fuel st
   job_ends (jobs.Run tr w f heads name) e told i (of_file {bytes = other} has k a) =
       file_ends (jobs.Run tr w f heads name) fuel e bytes t names i st x
-      (subst (λ b. FileAnswer (jobs.Run tr w f heads name) b st x) (same_bytes other bytes (sym k ∙ told)) a)
+      (subst (λ b. FileAnswer (jobs.Run tr w f heads name) b st x) (same_Some other bytes (sym k ∙ told)) a)
   job_ends (jobs.Trace tr w f name) e told i (of_file {bytes = other} has k a) =
       file_ends (jobs.Trace tr w f name) fuel e bytes t names i st x
-      (subst (λ b. FileAnswer (jobs.Trace tr w f name) b st x) (same_bytes other bytes (sym k ∙ told)) a)
+      (subst (λ b. FileAnswer (jobs.Trace tr w f name) b st x) (same_Some other bytes (sym k ∙ told)) a)
   job_ends (jobs.Certify tr b w f heads name) e told i (of_file {bytes = other} has k a) =
       file_ends (jobs.Certify tr b w f heads name) fuel e bytes t names i st x
-      (subst (λ c. FileAnswer (jobs.Certify tr b w f heads name) c st x) (same_bytes other bytes (sym k ∙ told)) a)
+      (subst (λ c. FileAnswer (jobs.Certify tr b w f heads name) c st x) (same_Some other bytes (sym k ∙ told)) a)
   job_ends (jobs.Gen tr true k) e told i (made m) =
       file_ends (plain_run tr) fuel e bytes t names i st x
-      (subst (λ b. FileAnswer (plain_run tr) b st x) (same_bytes (doubled_text k) bytes told) m)
+      (subst (λ b. FileAnswer (plain_run tr) b st x) (same_Some (doubled_text k) bytes told) m)
   job_ends (jobs.Gen tr true k) e told i (of_file has q a) = absurd has
   job_ends _ e told i a = absurd (cc)
 

@@ -113,21 +113,21 @@ abbrev pub NoneIsStuck : List (String Global) → List ℕ → Option (List ℕ)
 NoneIsStuck words bytes old new = (job : Job) → AskFor words job → PrintsCounts job →
     (source : Named) → IsText bytes source → CountsSay (λ line beta. Unit {0}) old new
 
--- No reduction of the source to a term of this sort, of whatever redexes in whatever order, has fewer than n beta steps;
--- nor has one of n family steps, which contract any redexes of one degree at once (Lévy), where each subterm of the source
--- has a letter of its own as its label.
+-- No reduction of the source to a term of this sort, of whatever redexes in whatever order, has fewer than n beta steps.
+-- Nor has a reduction by family steps, which contract any redexes of one degree at once (Lévy), fewer than n of them,
+-- where each subterm of the source has a letter of its own as its label.
 pub record NoReductionIsShorter (Goal : Tree → Type 0) (source : Named) (n : ℕ) : Type 0 where
   pub plain : (v : Tree) (r : BetaReduces (by_names_of source source) v) → Goal v → n ≤ steps_of r
   pub families : (T : Labelled) → erased T ≡ by_names_of source source → HaveOwnLetters T →
       NoFamilyReductionIsShorter Goal T n
 
--- one by family steps has just n
+-- some reduction by family steps has exactly n
 abbrev pub OneIsAsLong : (Tree → Type 0) → Named → ℕ → Type 0
 OneIsAsLong Goal source n = (T : Labelled) → erased T ≡ by_names_of source source → HaveOwnLetters T →
     FamilyReductionOfLength Goal T n
 
--- No reduction of the source to a normal form is shorter than there are beta steps; and if the line is a text of a term,
--- one by family steps is just as long.
+-- No reduction of the source to a normal form has fewer steps than there are beta steps; and if the line is a text of a
+-- term, some reduction by family steps has exactly as many.
 abbrev pub AreFewest : Named → List ℕ → ℕ → Type 0
 AreFewest source line beta = NoReductionIsShorter IsNormal source beta
     × ((result : Named) → IsText line result → OneIsAsLong IsNormal source beta)
@@ -140,9 +140,9 @@ BetasAreFewest words bytes old new = (translation : Translation) (fuel heads : �
     (source : Named) → IsText bytes source → CountsSay (AreFewest source) old new
 
 -- The same for so many heads: the first ones, in preorder, of the source's Böhm tree. No reduction of the source to a term
--- that shows them is shorter than there are beta steps. The line is a text of these places. If the source reduces to a term
--- that shows so many heads, each of the first so many places has one; and if each has one, a reduction by family steps is
--- just as long.
+-- that shows them has fewer steps than there are beta steps. The line is a text of these places. If the source reduces to a
+-- term that shows so many heads, each of the first so many places has a head; and if each has, some reduction by family
+-- steps has exactly as many steps.
 pub record AreFewestForHeads (heads : ℕ) (source : Named) (line : List ℕ) (beta : ℕ) : Type 0 where
   pub fewest : NoReductionIsShorter (HasFirstHeads heads) source beta
   pub places : List ReadNode

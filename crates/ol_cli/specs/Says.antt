@@ -25,9 +25,9 @@ pub record SaysWhenDone (words : List (String Global)) (files : Files) (old new 
   -- there is one and variables stand in at most 4,096 places of it.
   pub plain_demand : PlainDemandSays (λ source. FirstLine (IsFoundWithin 4096 source)) words files old new
   -- And no reduction of the term in the file to a normal form, of whatever redexes in whatever order,
-  -- has fewer beta steps than the number after `beta`. Nor has one by family steps, which contract any
-  -- redexes of one family at once, told by Lévy's labels; and if the line is a text of a term, one by
-  -- family steps has just as many.
+  -- has fewer beta steps than the number after `beta`. Nor has a reduction by family steps, which
+  -- contract any redexes of one family at once, told by Lévy's labels; and if the line is a text of a
+  -- term, some reduction by family steps has exactly as many.
   pub plain_fewest : PlainDemandSays (λ source. CountsSay (AreFewest source)) words files old new
   -- After `ol equal A B` the line is `equal` only where the terms in the two files are convertible, and
   -- begins with `different` only where they aren't. Beta reduction alone counts, and free names are the
@@ -47,7 +47,8 @@ pub record SaysWhenDone (words : List (String Global)) (files : Files) (old new 
   -- And for as many heads as `demand` was asked for, also where the term has no normal form: no
   -- reduction of the term, nor one by family steps, to a term that shows so many heads of its Böhm tree, in
   -- preorder, has fewer steps than the number after `beta`. If the term reduces to such a term, each place
-  -- that was asked is printed with a head; and if each is, one by family steps has just as many.
+  -- that was asked is printed with a head; and if each is, some reduction by family steps has exactly as
+  -- many.
   pub fewest_heads : (bytes : List ℕ) → TellsTerm (files 0) words bytes → BetasAreFewestForHeads words bytes old new
   -- The tenth and last line that `run`, `demand` or `gen --run` writes is `stuck 0`. (No pair is ever
   -- stuck in a run from the net of a term: law `no_pair_is_stuck` of ol_law_levels.)
@@ -90,9 +91,9 @@ pub record SaysOfAnswer (words : List (String Global)) (files : Files) (st : Sta
   -- and its run ending within the fuel, the job is done and its answer's text written, or no memory was
   -- found and nothing was written.
   pub completeness : AskForWhatCanBeDone words files → IsDoneOrNothing words files st old new
-  -- With enough fuel `run`, `trace`, `certify` and `gen --run` are done exactly if the job's own term is strongly
-  -- normalising: if no reduction of it goes on for ever. Where their fuel is spent, the term isn't, or the one-thread
-  -- run is longer than the fuel; and else they are done.
+  -- With enough fuel `run`, `trace`, `certify` and `gen --run` are done exactly if the job's own term is
+  -- strongly normalising: if each reduction of it ends. If their fuel is spent, the term isn't strongly
+  -- normalising, or the one-thread run is longer than the fuel; otherwise they are done.
   pub termination : st ≢ status.NoMemory → JobEndsExactly words files st
   -- Each complete run of the own term of `run` or `gen --run`, whatever pairs it takes first, prints what
   -- is written, or is longer than the fuel where that is spent. It is longer too where the fuel of
