@@ -78,9 +78,9 @@ through t x v ds es (contract {t = t'} {u = u} {v = x'} {w = d} {ws = fs} at l e
       small = λ z. g.small (m.1 (f.small z));
     }
 
-no_more : (x v : Labelled) (ds : List Label) (r : LeftmostContracts x ds v) → leftmost (erased x) ≡ None → ds ≡ []
-no_more x v ds ready n = refl
-no_more x v ds (contract {t = t} at l e c r) n = absurd (none-some at (sym n ∙ l))
+nothing_more : (x v : Labelled) (ds : List Label) (r : LeftmostContracts x ds v) → leftmost (erased x) ≡ None → ds ≡ []
+nothing_more x v ds ready n = refl
+nothing_more x v ds (contract {t = t} at l e c r) n = absurd (none-some at (sym n ∙ l))
 
 some_more : (x v : Labelled) (ds : List Label) (r : LeftmostContracts x ds v) → IsSome (leftmost (erased x)) →
     leftmost (erased v) ≡ None → 0 < length ds
@@ -95,7 +95,7 @@ same_end : (t x v : Labelled) (ds es : List Label) (s : LeftmostContracts t es x
     leftmost (erased x) ≡ None → leftmost (erased v) ≡ None → ds ≡ es
 same_end t x v ds es s r m n =
     let h = through t x v ds es s r n in
-    h.is ∙ ap (λ (more : List Label). es ++ more) (no_more x v h.more h.onward m) ∙ append_nil es
+    h.is ∙ ap (λ (more : List Label). es ++ more) (nothing_more x v h.more h.onward m) ∙ append_nil es
 
 first_small : (x v : Labelled) (ds : List Label) (r : LeftmostContracts x ds v) → AreShortLabelled r → IsShortLabelled x
 first_small x v ds (ready {t = t}) s = s
