@@ -509,9 +509,44 @@ static GRADE_ROWS: [Row; 6] = [
     },
 ];
 
-/// A command.
+/// The commands on one file.
+#[derive(Clone, Copy)]
+pub(crate) enum ActionOnOne {
+    Journal,
+    Steps,
+    Counts,
+    Where,
+    Derivation,
+    Free,
+    Waves,
+    Story,
+    Show,
+    Tree,
+}
+
+/// The commands on two files.
+#[derive(Clone, Copy)]
+pub(crate) enum ActionOnTwo {
+    Check,
+    Explain,
+    After,
+    Same,
+}
+
+/// The commands.
+#[derive(Clone, Copy)]
+pub(crate) enum Action {
+    OnOne(ActionOnOne),
+    OnTwo(ActionOnTwo),
+    Walk,
+    Grade,
+}
+
+/// The name of a command, and what the help says of the command.
 #[derive(Clone, Copy)]
 pub(crate) struct Verb {
+    /// The command.
+    pub(crate) action: Action,
     /// How it is written.
     pub(crate) word: &'static str,
     /// What the help says of it.
@@ -527,6 +562,7 @@ pub(crate) const VERBS: u32 = 16;
 
 fn journal() -> Verb {
     Verb {
+        action: Action::OnOne(ActionOnOne::Journal),
         word: "journal",
         about: "The trace of a reduction in one of three orders",
         below: help::JOURNAL,
@@ -536,6 +572,7 @@ fn journal() -> Verb {
 
 fn check() -> Verb {
     Verb {
+        action: Action::OnTwo(ActionOnTwo::Check),
         word: "check",
         about: "The verdict of `ol check` on a trace, with an exit status for each verdict",
         below: help::CHECK,
@@ -545,6 +582,7 @@ fn check() -> Verb {
 
 fn explain() -> Verb {
     Verb {
+        action: Action::OnTwo(ActionOnTwo::Explain),
         word: "explain",
         about: "The verdict of `ol check` on a trace, and the reason",
         below: help::EXPLAIN,
@@ -554,6 +592,7 @@ fn explain() -> Verb {
 
 fn after() -> Verb {
     Verb {
+        action: Action::OnTwo(ActionOnTwo::After),
         word: "after",
         about: "The net after the first lines of a trace, with the names of the trace",
         below: help::AFTER,
@@ -563,6 +602,7 @@ fn after() -> Verb {
 
 fn steps() -> Verb {
     Verb {
+        action: Action::OnOne(ActionOnOne::Steps),
         word: "steps",
         about: "A reduction term by term, with the address of each redex",
         below: help::STEPS,
@@ -572,6 +612,7 @@ fn steps() -> Verb {
 
 fn counts() -> Verb {
     Verb {
+        action: Action::OnOne(ActionOnOne::Counts),
         word: "counts",
         about: "What a term costs by several strategies, a column for each",
         below: help::COUNTS,
@@ -581,6 +622,7 @@ fn counts() -> Verb {
 
 fn same() -> Verb {
     Verb {
+        action: Action::OnTwo(ActionOnTwo::Same),
         word: "same",
         about: "Whether two nets are equal up to the numbers of nodes, or where they differ",
         below: help::SAME,
@@ -590,6 +632,7 @@ fn same() -> Verb {
 
 fn places() -> Verb {
     Verb {
+        action: Action::OnOne(ActionOnOne::Where),
         word: "where",
         about: "Line and column of a byte, or of the first syntax error, with a caret",
         below: help::WHERE,
@@ -599,6 +642,7 @@ fn places() -> Verb {
 
 fn derivation() -> Verb {
     Verb {
+        action: Action::OnOne(ActionOnOne::Derivation),
         word: "derivation",
         about: "Whether each term of a derivation follows from the term before by one beta step",
         below: help::DERIVATION,
@@ -608,6 +652,7 @@ fn derivation() -> Verb {
 
 fn free() -> Verb {
     Verb {
+        action: Action::OnOne(ActionOnOne::Free),
         word: "free",
         about: "The free names of a term, with line and column",
         below: help::FREE,
@@ -617,6 +662,7 @@ fn free() -> Verb {
 
 fn waves() -> Verb {
     Verb {
+        action: Action::OnOne(ActionOnOne::Waves),
         word: "waves",
         about: "How many interactions each wave of a reduction has, by rule",
         below: help::WAVES,
@@ -626,6 +672,7 @@ fn waves() -> Verb {
 
 fn story() -> Verb {
     Verb {
+        action: Action::OnOne(ActionOnOne::Story),
         word: "story",
         about: "A reduction step by step: its nodes, the nodes that are created, the pairs that are left",
         below: help::STORY,
@@ -635,6 +682,7 @@ fn story() -> Verb {
 
 fn show() -> Verb {
     Verb {
+        action: Action::OnOne(ActionOnOne::Show),
         word: "show",
         about: "The normal form of a term, and the numerals, booleans, pairs and lists that it encodes",
         below: help::SHOW,
@@ -644,6 +692,7 @@ fn show() -> Verb {
 
 fn tree() -> Verb {
     Verb {
+        action: Action::OnOne(ActionOnOne::Tree),
         word: "tree",
         about: "The Böhm tree of a term down to a depth",
         below: help::TREE,
@@ -653,6 +702,7 @@ fn tree() -> Verb {
 
 fn walk() -> Verb {
     Verb {
+        action: Action::Walk,
         word: "walk",
         about: "The paths by which `ol walk` reads a subterm, crossing by crossing",
         below: help::WALK,
@@ -662,6 +712,7 @@ fn walk() -> Verb {
 
 fn grade() -> Verb {
     Verb {
+        action: Action::Grade,
         word: "grade",
         about: "Whether students' functions agree with a solution on some inputs",
         below: help::GRADE,
@@ -689,4 +740,15 @@ pub(crate) fn verb_at(number: u32) -> Verb {
         14 => walk(),
         _ => grade(),
     }
+}
+
+/// The command that is written so, if there is one.
+pub(crate) fn action_of(word: &str) -> Option<Action> {
+    for number in 0..VERBS {
+        let verb = verb_at(number);
+        if verb.word == word {
+            return Some(verb.action);
+        }
+    }
+    None
 }
