@@ -9,8 +9,7 @@ use Rattle.std.proofs.lemmas.List.{map_push}
 use Rattle.ol_words.specs.Texts.{texts_of}
 use Rattle.std.specs.Borrow.{Bor}
 use Rattle.ol_words.specs.Texts.{Text}
-use Rattle.ol_words.specs.Lines.{Line, Known, line_from, is_dashed, is_end, option_of, after_option}
-use Rattle.ol_words.specs.Lines.{with_option, with_name}
+use Rattle.ol_words.specs.Lines.{Known, Line, after_option, is_dashed, is_end, line_from, option_of, with_name, with_option}
 
 abbrev pub seen : List (Bor Text × Bor Text) → List (Text × Text)
 seen options = map (λ p. (p.0.now, p.1.now)) options

@@ -1,19 +1,14 @@
--- Numbers of a command line, and the limits that they keep.
+-- Numbers of a command line, and the limits that they keep: `Limits` of src/numbers.rt.
 use Rattle.std.specs.Prelude.{ℕ, ◌&&◌, List, [], ◌∷◌, Option, None, Some}
 use Rattle.std.specs.Prelude.{if◌then◌else◌, length, nat_le, Bool}
 use Rattle.std.specs.Str.{all_ascii_digits}
 use Rattle.std.specs.Str.Parse.{digits_value}
 use Rattle.ol_words.specs.Texts.{Text}
+use Rattle.ol_words.specs.declared.numbers.Limits.{Limits}
 
 -- 1 to 8 ASCII digits
 abbrev pub is_number : Text → Bool
 is_number text = nat_le 1 (length text) && (nat_le (length text) 8 && all_ascii_digits text)
-
--- what a setting may be, and what it is where it isn't given
-pub record Limits : Type 0 where
-  pub least : ℕ
-  pub most : ℕ
-  pub default : ℕ
 
 -- limits by the least, the most and the default
 abbrev pub from_to : ℕ → ℕ → ℕ → Limits
