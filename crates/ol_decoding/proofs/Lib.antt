@@ -3,6 +3,7 @@ pub mod Decoding
 pub mod Fitting
 pub mod Saying
 pub mod Texts
+pub mod TermHeads
 pub mod NormalForms
 pub mod OneValue
 pub mod Answering
