@@ -8,8 +8,7 @@ use Rattle.std.specs.Prelude.{option_and_then, option_map}
 use Rattle.ol_term.specs.declared.translations.Translation.TheVariants.{Two}
 use Rattle.ol_parse.specs.Numbered.{names_of, number}
 use Rattle.ol_words.specs.Texts.{Text}
-use Rattle.ol_words.specs.Lines.{Line, Known, line_from, line_of, is_dashed, is_end, after_option}
-use Rattle.ol_words.specs.Lines.{option_of, with_name}
+use Rattle.ol_words.specs.Lines.{Line, Known, line_from, line_of, is_dashed, is_end, after_option, option_of, with_name}
 use Rattle.ol_words.specs.declared.jobs.Job.{Job}
 use Rattle.ol_words.specs.declared.jobs.Job.TheVariants as jobs
 use Rattle.ol_words.specs.declared.verbs.Verb.TheVariants as verbs

@@ -6,7 +6,7 @@ use Rattle.std.proofs.lemmas.Bool.Decides.{nat_tests}
 use Rattle.std.specs.Str.Parse.{digits_value}
 use Rattle.ol_words.specs.Texts.{Text}
 use Rattle.ol_words.specs.Lines.{Line, line_of}
-use Rattle.ol_words.specs.Numbers.{from_to, number_within, is_number, setting}
+use Rattle.ol_words.specs.Settings.{from_to, number_within, is_number, setting, known_in, setting_row}
 use Rattle.ol_words.specs.declared.jobs.Job.{Job}
 use Rattle.ol_words.specs.declared.jobs.Job.TheVariants as jobs
 use Rattle.ol_words.specs.declared.numbers.Limits.{Limits}
@@ -14,7 +14,6 @@ use Rattle.ol_words.specs.declared.settings.Setting.{Setting}
 use Rattle.ol_words.specs.declared.settings.Setting.TheVariants as set
 use Rattle.ol_words.specs.declared.verbs.Verb.{Verb}
 use Rattle.ol_words.specs.declared.verbs.Verb.TheVariants as verbs
-use Rattle.ol_words.specs.Settings.{known_in, setting_row}
 use Rattle.ol_words.specs.Asked.{asks, is_input, numbered, verb_named, verb_row}
 use Rattle.ol_words.specs.Jobs.{job_behind, job_of, job_on, number_on, numbers, values_of}
 use Rattle.ol_cli.specs.Jobs.{IsWithinLimits}

@@ -5,13 +5,12 @@ use Rattle.std.proofs.Common.{String, string_bytes}
 use Rattle.std.specs.declared.alloc.Global.{Global}
 use Rattle.std.specs.Prelude.{option_and_then}
 use Rattle.std.specs.Option.{option_map_or}
-use Rattle.ol_words.specs.Texts.{Text}
+use Rattle.ol_words.specs.Texts.{Text, texts_of}
 use Rattle.ol_words.specs.Asked.{verb_named}
 use Rattle.ol_words.specs.Command.{ids_of}
 use Rattle.ol_words.specs.Lines.{Line, line_of}
 use Rattle.ol_words.specs.Once.{agreed_verb, is_agreed, is_told_once, known_of, options_of}
 use Rattle.ol_words.specs.declared.verbs.Verb.{Verb}
-use Rattle.ol_words.specs.Texts.{texts_of}
 
 pub few_words : (words : List (String Global)) → length words < 2 → None ≡ agreed_verb (texts_of words)
 few_words [] few = refl

@@ -21,9 +21,8 @@ use Rattle.ol_words.specs.Command.{ids_of}
 use Rattle.ol_words.specs.Found.{flag_by, names_by, number_by, setting_by}
 use Rattle.ol_words.specs.Jobs.{number_on, numbers, values_of}
 use Rattle.ol_words.specs.Lines.{Line, is_option, line_of}
-use Rattle.ol_words.specs.Numbers.{from_to, setting}
+use Rattle.ol_words.specs.Settings.{from_to, setting, setting_row}
 use Rattle.ol_words.specs.Once.{flags_of, is_given_once, is_told_once, known_of, options_of}
-use Rattle.ol_words.specs.Settings.{setting_row}
 use Rattle.ol_words.specs.declared.numbers.Limits.{Limits}
 use Rattle.ol_words.specs.declared.settings.Setting.{Setting}
 use Rattle.ol_words.specs.declared.settings.Setting.TheVariants as set

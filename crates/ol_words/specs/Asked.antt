@@ -6,7 +6,7 @@ use Rattle.std.specs.Str.{bytes_eq}
 use Rattle.ol_term.specs.declared.translations.Translation.{Translation}
 use Rattle.ol_term.specs.declared.translations.Translation.TheVariants.{One, Two}
 use Rattle.ol_words.specs.Texts.{Text}
-use Rattle.ol_words.specs.Numbers.{from_to, number_within}
+use Rattle.ol_words.specs.Settings.{from_to, number_within}
 use Rattle.ol_words.specs.declared.settings.Setting.{Setting}
 use Rattle.ol_words.specs.declared.settings.Setting.TheVariants as set
 use Rattle.ol_words.specs.declared.verbs.Verb.{Verb}

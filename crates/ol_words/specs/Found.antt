@@ -5,13 +5,12 @@ use Rattle.clap.specs.Words.{first_value, found_of}
 use Rattle.clap.specs.declared.parser.matches.ArgMatches.{ArgMatches}
 use Rattle.ol_words.specs.Texts.{Text}
 use Rattle.ol_words.specs.declared.numbers.Limits.{Limits}
-use Rattle.ol_words.specs.Numbers.{number_within}
+use Rattle.ol_words.specs.Settings.{number_within, setting_row}
 use Rattle.ol_words.specs.declared.jobs.Job.{Job}
 use Rattle.ol_words.specs.declared.settings.Setting.{Setting}
 use Rattle.ol_words.specs.declared.verbs.Verb.{Verb}
 use Rattle.ol_words.specs.Asked.{asks, verb_row}
 use Rattle.ol_words.specs.Jobs.{numbers}
-use Rattle.ol_words.specs.Settings.{setting_row}
 use Rattle.ol_words.specs.Command.{ids_of}
 
 -- a setting by its value, if it has one

@@ -6,9 +6,8 @@ use Rattle.ol_words.specs.declared.jobs.Job.{Job}
 use Rattle.ol_words.specs.declared.settings.Setting.{Setting}
 use Rattle.ol_words.specs.declared.verbs.Verb.{Verb}
 use Rattle.ol_words.specs.Asked.{asks, verb_named, verb_row}
-use Rattle.ol_words.specs.Settings.{known_in, setting_row}
+use Rattle.ol_words.specs.Settings.{known_in, setting_row, setting}
 use Rattle.ol_words.specs.Lines.{Line, line_of}
-use Rattle.ol_words.specs.Numbers.{setting}
 
 -- the values that are given to an option
 abbrev pub values_of : Text → List (Text × Text) → List Text

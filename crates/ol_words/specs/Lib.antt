@@ -1,7 +1,6 @@
 -- What clauses of public functions rest on.
 pub mod Texts
 pub mod Lines
-pub mod Numbers
 pub mod Settings
 pub mod Asked
 pub mod Jobs

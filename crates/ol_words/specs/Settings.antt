@@ -1,12 +1,39 @@
--- The settings of a command line: the option of each, and its numbers. A setting is a `Setting` of src/settings.rt.
-use Rattle.std.specs.Prelude.{ℕ, List, Bool, true, false, map, filter, codes}
+-- The settings of a command line: the option of each, its number and the limits of that. A setting is a `Setting` of
+-- src/settings.rt, and limits are `Limits` of src/numbers.rt.
+use Rattle.std.specs.Prelude.{ℕ, ◌&&◌, List, [], ◌∷◌, Option, None, Some, Bool, true, false, codes, filter, map}
+use Rattle.std.specs.Prelude.{if◌then◌else◌, length, nat_le}
+use Rattle.std.specs.Str.{all_ascii_digits}
+use Rattle.std.specs.Str.Parse.{digits_value}
+use Rattle.ol_limits.specs.Limits.{most_edges, most_fuel, most_heads, most_steps, most_workers, plain_fuel, plain_heads, plain_workers}
 use Rattle.ol_words.specs.Texts.{Text}
-use Rattle.ol_words.specs.declared.numbers.Limits.{Limits}
 use Rattle.ol_words.specs.Lines.{Known}
-use Rattle.ol_words.specs.Numbers.{from_to}
+use Rattle.ol_words.specs.declared.numbers.Limits.{Limits}
 use Rattle.ol_words.specs.declared.settings.Setting.{Setting}
 use Rattle.ol_words.specs.declared.settings.Setting.TheVariants as set
-use Rattle.ol_limits.specs.Limits.{most_edges, most_fuel, most_heads, most_steps, most_workers, plain_fuel, plain_heads, plain_workers}
+
+-- ---- numbers
+
+-- 1 to 8 ASCII digits
+abbrev pub is_number : Text → Bool
+is_number text = nat_le 1 (length text) && (nat_le (length text) 8 && all_ascii_digits text)
+
+-- limits by the least, the most and the default
+abbrev pub from_to : ℕ → ℕ → ℕ → Limits
+from_to least most default = record { least = least; most = most; default = default }
+
+-- the number that a text gives within the limits
+abbrev pub number_within : Limits → Text → Option ℕ
+number_within limits text =
+    if is_number text && (nat_le limits.least (digits_value 10 text) && nat_le (digits_value 10 text) limits.most)
+    then Some (digits_value 10 text) else None
+
+-- a setting by the values that are given to it: it is given at most once
+abbrev pub setting : Limits → List Text → Option ℕ
+setting limits [] = Some limits.default
+setting limits (value ∷ []) = number_within limits value
+setting limits (value ∷ again ∷ more) = None
+
+-- ---- the table of settings
 
 -- how a setting is given: its option, whether this is a flag, and what its number may be
 pub record SettingRow : Type 0 where

@@ -2,7 +2,7 @@
 
 ghost use Rattle.std.specs.Prelude.{◌≡◌, option_map, Some, None, if◌then◌else◌};
 ghost use Rattle.std.specs.Str.Parse.{digits_value};
-ghost use Rattle.ol_words.specs.Numbers.{from_to, is_number, number_within};
+ghost use Rattle.ol_words.specs.Settings.{from_to, is_number, number_within};
 ghost use Rattle.ol_words.specs.Found.{setting_by};
 
 /// What a setting may be, and what it is where it isn't given.

@@ -157,8 +157,8 @@ impl Verb {
     }
 
     /// What the verb asks for by the numbers of its settings and by its names, both in their order.
-    /// The numbers and the text after these aren't read. `None`: the number of `gen` is outside its limits,
-    /// or both names are that of standard input.
+    /// Elements that the verb has no setting or name for aren't read. `None`: the number of `gen`
+    /// is outside its limits, or both names are that of standard input.
     pub(crate) fn asks(
         self,
         alloc: Global,

@@ -1,9 +1,8 @@
 use Rattle.std.proofs.Common.{◌≡◌, ◌++◌, ◌∷◌, [], ◌+◌, ◌-◌, length, Some, None, Option, option_map}
 use Rattle.std.proofs.Common.{map, drop, true, false, sym, ap, ◌∙◌, arith, rules, Bor, string_bytes}
-use Rattle.ol_words.specs.Texts.{Text}
+use Rattle.ol_words.specs.Texts.{Text, texts_of}
 use Rattle.ol_words.specs.Settings.{known_in}
 use Rattle.ol_words.specs.Lines.{is_dashed, is_end, option_of}
-use Rattle.ol_words.specs.Texts.{texts_of}
 use Rattle.ol_words.proofs.SoFar.{so_far, seen, word_here, none_left, value_dashed, value_taken}
 use Rattle.ol_words.proofs.SoFar.{value_lacks, all_read, ended, name_taken, written_out}
 use Rattle.ol_words.proofs.SoFar.{attached_taken, option_pushed, name_pushed, went_on, rest_length}
