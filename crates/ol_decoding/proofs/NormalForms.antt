@@ -3,10 +3,11 @@ use Rattle.std.proofs.Common.{ℕ, Bool, false, List, ◌++◌, ◌∷◌, [], l
 use Rattle.ol_term.specs.declared.translations.Translation.{Translation}
 use Rattle.ol_term.specs.Trees.{Tree}
 use Rattle.ol_net.specs.Graph.{Graph}
-use Rattle.ol_net.specs.Nets.{NamedNet}
+use Rattle.ol_net.specs.Nets.{NamedNet, NamedPort, SameNet}
 use Rattle.ol_net.specs.Numbered.{net_of}
 use Rattle.ol_rules.proofs.Relation.{same_sym}
-use Rattle.ol_context.specs.Paths.{HaveSamePaths}
+use Rattle.ol_context.specs.Contexts.{Context}
+use Rattle.ol_context.specs.Paths.{Path, ends, goes, HaveSamePaths}
 use Rattle.ol_translate.specs.Translation.{translation_of}
 use Rattle.ol_readback.specs.Frames.{Frame}
 use Rattle.ol_readback.specs.Heads.{head, no_head}
@@ -23,7 +24,12 @@ use Rattle.ol_law_meaning.proofs.Based.{tree_shows, shown_normal}
 use Rattle.ol_law_meaning.proofs.FileNames.{file_names}
 use Rattle.ol_subjects.specs.Subjects.{IsTerm, IsNetOfTerm}
 use Rattle.ol_decoding.specs.Shown.{IsNormalFormOf}
-use Rattle.ol_invariance.proofs.SameNets.{same_path}
+
+-- nets with the same links and nodes have the same paths
+pub same_path : {A : Type 0} (M N : NamedNet A) → SameNet M N →
+    {p : NamedPort A} {c d : Context} {q : ℕ} → Path M p c q d → Path N p c q d
+same_path M N s (ends l) = ends ((s.links _ _).0 l)
+same_path M N s (goes l h x r) = goes ((s.links _ _).0 l) ((s.nodes _ _ _).0 h) x (same_path M N s r)
 
 module _ (N M : NamedNet ℕ) (same : HaveSamePaths N M) (b : Bool) where
   keeps : {F : List Frame} {ss : List Subterm} {ns : List ReadNode} → HaveHeadsOf N b F ss ns → HaveHeadsOf M b F ss ns

@@ -22,7 +22,7 @@ use Rattle.ol_subjects.specs.Readied.{IsReady}
 use Rattle.ol_subjects.specs.declared.answers.End.{End}
 use Rattle.ol_decoding.specs.ToldTrees.{ShowTerm, IsTreeAnswer, told}
 use Rattle.ol_decoding.specs.TreesOfNets.{TellsNet}
-use Rattle.ol_invariance.proofs.SameNets.{same_path}
+use Rattle.ol_decoding.proofs.NormalForms.{same_path}
 
 module _ (N M : NamedNet ℕ) (same : HaveSamePaths N M) where
   moved : {F : List Frame} {ss : List Subterm} {ns : List ReadNode} → HaveHeadsOf N false F ss ns →

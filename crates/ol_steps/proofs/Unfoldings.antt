@@ -141,7 +141,7 @@ in_a_row order n (goes {terms = terms} {u = u} walk new step within) =
 
 -- ---- a walk
 
-some_is : (o : Option Tree) (v : Tree) → o ≡ Some v → IsSome o
+pub some_is : (o : Option Tree) (v : Tree) → o ≡ Some v → IsSome o
 some_is None v e = absurd (cc)
 some_is (Some u) v e = refl
 
