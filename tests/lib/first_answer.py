@@ -1,6 +1,6 @@
 """Tries the scripts `ol`, `ol-bench` and `prove` in a scratch folder, with programs and a command `rt` that only say what they are.
 
-    tests/first-answer
+    tests/run first-answer
 
 An unproved program must never pass for a proved one: whenever the program that runs isn't proved, or was made from other
 sources than those that stand there, standard error says so; and when it is proved, nothing is said. What counts is what
