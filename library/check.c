@@ -1,5 +1,5 @@
 /* What `ol check TERM JOURNAL` prints, by libolcheck; with -n the first file has a net, and with -t 1 or -t 2 the term
-   is taken by that translation. The program of tests/library. */
+   is taken by that translation. The program of tests/run library. */
 
 #include "olcheck.h"
 #include <stdio.h>

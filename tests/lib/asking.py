@@ -20,11 +20,3 @@ def positive(text):
     if number < 1:
         raise argparse.ArgumentTypeError(f"{text} is below 1")
     return number
-
-
-def for_random_terms(text, words, count):
-    """The words of a script that tries so many random terms, where nothing else is said."""
-    asked = parser(text)
-    asked.add_argument("--terms", type=positive, default=count, metavar="N", help=f"how many terms ({count})")
-    asked.add_argument("--seed", type=int, default=1, metavar="S", help="where the drawing begins (1)")
-    return asked.parse_args(words)

@@ -1,8 +1,8 @@
 """Runs the sessions of tests/sessions and the examples that `ol-bench COMMAND --help` shows, and compares what is printed with the texts.
 
-    tests/bench [--write] [SESSION ..]
+    tests/run bench [--write] [SESSION ..]
 
-A session is a file of commands and of what they print, as in a fenced block of a page (tests/pages --help). A line that
+A session is a file of commands and of what they print, as in a fenced block of a page (tests/run pages --help). A line that
 begins with `# ` is a comment. Each session is run in an empty folder, with the programs and folders that a page has. With
 --write each session gets the lines that were printed. Names of sessions leave out the examples of the help. The last
 line is 'N passed, M failed'.

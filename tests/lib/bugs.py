@@ -1,6 +1,6 @@
 """Plants typical bugs in a plain runtime, and shows which command tells each, and by which line.
 
-    tests/bugs [NAME ..]
+    tests/run bugs [NAME ..]
 
 There are fourteen: ten in the rewriting and the journal of tests/faults/runtime, two in the reading back of
 tests/faults/reader, one each in its translation and its parser. A bug is another line in place of one or two lines of
@@ -42,16 +42,16 @@ COMMANDS = {
     "ol check": (TERM + " | ol check {given} -", None, "complete"),
     "ol-bench check": (TERM + " | ol-bench check {given} -", NET + " | ol-bench check --net {given} -", "complete"),
     "ol-bench explain": (TERM + " | ol-bench explain {given} -", NET + " | ol-bench explain --net {given} -", "complete"),
-    "tests/vectors/bisect": ("tests/vectors/bisect 'python3 wrong' {given}",
-                             "tests/vectors/bisect --net 'python3 wrong' {given}", "complete"),
+    "tests/run vectors/bisect": ("tests/run vectors/bisect 'python3 wrong' {given}",
+                             "tests/run vectors/bisect --net 'python3 wrong' {given}", "complete"),
     "ol-bench same": ("ol net --from-term {given} | ol net - | sed '1,/^stuck/d' > last; "
                       "ol view {given} | python3 wrong --net | ol-bench same last -", None, "same"),
     "ol-bench after 3": (TERM + " > journal; " + TERM + " --after 3 | diff <(ol-bench after 3 {given} journal) -", None, None),
     "ol-bench same, of the first nets": ("ol net --from-term {given} > first; python3 wrong --start < {given} | ol-bench same first -",
                                         None, "same"),
     "ol equal": ("python3 wrong < {given} | sed -n 1p | ol equal {given} -", None, "equal"),
-    "tests/vectors/check --start": ("tests/vectors/check --every 20 --start 'python3 wrong --start'", None, "15 passed, 0 failed"),
-    "tests/vectors/check --terms": ("tests/vectors/check --every 100 --terms 'python3 wrong'", None, "43 passed, 0 failed"),
+    "tests/run vectors/check --start": ("tests/run vectors/check --every 20 --start 'python3 wrong --start'", None, "15 passed, 0 failed"),
+    "tests/run vectors/check --terms": ("tests/run vectors/check --every 100 --terms 'python3 wrong'", None, "43 passed, 0 failed"),
 }
 RUNTIME, READER = (os.path.join(TOP, "tests", "faults", name) for name in ("runtime", "reader"))
 SHIFT = 'SHIFT = {"eraser": 0, "fan": 0, "croissant": -1, "bracket": 1}'
@@ -69,18 +69,18 @@ BUGS = [
         [(SHIFT, SHIFT.replace("-1", "0"))], "double",
         {"ol check": (0, ["run 7"]),
          "ol-bench explain": (10, ["run 7", "beta 4 2 3.2"]),
-         "tests/vectors/bisect": (1, ["the net is wrong after line 5: cross-croissant 3 3 1.2",
+         "tests/run vectors/bisect": (1, ["the net is wrong after line 5: cross-croissant 3 3 1.2",
                                       "< 3.2 lam 0 2.0 3.0.1 3.1.1", "> 3.2 lam 1 2.0 3.0.1 3.1.1"])}),
     Bug("bracket", "what a bracket passes keeps its index", RUNTIME,
         [(SHIFT, SHIFT.replace("1}", "0}"))], "two",
         {"ol check": (0, ["run 38"]),
          "ol-bench explain": (10, ["run 38", "cross-croissant 4 6 11.2"]),
-         "tests/vectors/bisect": (1, ["the net is wrong after line 13: cross-bracket 3 7 1.3",
+         "tests/run vectors/bisect": (1, ["the net is wrong after line 13: cross-bracket 3 7 1.3",
                                       "< 11.2 lam 2 6.0 11.0.1 11.1.1", "> 11.2 lam 1 6.0 11.0.1 11.1.1"])}),
     Bug("slots", "the copies of a fan are joined to the copies of the other node by the wrong slots", RUNTIME,
         [FAULTS["wires"]], "both",
         {"ol-bench same": (1, ["different at 4.2: 6.0 of croissant 1 here, 5.0 of croissant 1 there"]),
-         "tests/vectors/bisect": (1, ["complete", "the net is wrong after line 3: cross-fan 2 5 6"]),
+         "tests/run vectors/bisect": (1, ["complete", "the net is wrong after line 3: cross-fan 2 5 6"]),
          "ol-bench after 3": (1, ["< 1.0 fan 0 7.1 1.2.1 1.3.1", "> 1.0 fan 0 7.1 1.3.1 1.2.1"])}),
     Bug("fan", "a fan meets a fan of another index", RUNTIME,
         [("if i == j and k == l and k in SHIFT:", 'if (i == j or k == "fan") and k == l and k in SHIFT:')], "two",
@@ -117,21 +117,21 @@ BUGS = [
         [("return (before, count) if fits and rest == EMPTY and len(levels) == m + 2 else None",
           "return (self.count - 1 - before, count) if fits and rest == EMPTY and len(levels) == m + 2 else None")], "two",
         {"ol equal": (0, ["different at root"]),
-         "tests/vectors/check --terms": (1, [r"broken-3.txt:853: (\y. (\v. y) y) (\r. \p. r p): different at "
+         "tests/run vectors/check --terms": (1, [r"broken-3.txt:853: (\y. (\v. y) y) (\r. \p. r p): different at "
                                              r"`0 99d2c1535bedc339 \a b. b a` and `0 ba02f5b1f2f72a32 \a b. a b`"])}),
     Bug("level", "a walk that comes into a bracket by slot 0 doesn't put back the second level", READER,
         [("levels[index:index + 1] = [value[2], value[1]]", "levels[index] = value[2]")], "nested",
         {"ol equal": (2, ["syntax at byte 13"]),
-         "tests/vectors/check --terms": (1, [r"random-1.txt:1208: (\s. (\q. q) s) (c c): different at "
+         "tests/run vectors/check --terms": (1, [r"random-1.txt:1208: (\s. (\q. q) s) (c c): different at "
                                              r"`0 32678c3f335bbdda c ?` and `0 875e6c8880283205 c c`"])}),
     Bug("argument", "an argument is translated at the level of its application", READER,
         [("root, inner = self.net(term[2], level + 1)", "root, inner = self.net(term[2], level)")], "double",
         {"ol-bench same, of the first nets": (1, ["different at 0.2: 5.0 of lam 1 here, 5.0 of lam 0 there"]),
-         "tests/vectors/check --start": (1, [r"(\s. s) (\p. p p): different at f0, in by slot 1, out by slot 2, in by slot 0: lam 0 and lam 1"])}),
+         "tests/run vectors/check --start": (1, [r"(\s. s) (\p. p p): different at f0, in by slot 1, out by slot 2, in by slot 0: lam 0 and lam 1"])}),
     Bug("parser", "a row of atoms is read from the right", READER,
         [('term = ("application", term, self.part())', 'term = ("application", term, self.term())')], "row",
         {"ol-bench same, of the first nets": (1, ["different at f1: 1.2 of app 0 here, 7.0 of bracket 0 there"]),
-         "tests/vectors/check --start": (1, [r"(\x y. x) a b: different at the numbers of nodes: 9 and 6"])}),
+         "tests/run vectors/check --start": (1, [r"(\x y. x) a b: different at the numbers of nodes: 9 and 6"])}),
 ]
 
 

@@ -1,6 +1,6 @@
 """Runs each term file of examples/ and compares what is printed with the file beside it.
 
-    tests/examples [--write] [NAME ..]
+    tests/run examples [--write] [NAME ..]
 
 A term file NAME.lam says in its first line how it is run, as `# ol run NAME.lam`. NAME.out has what that prints, and a
 last line `[status N]` where the status isn't 0. Further lines of that form right below the first are run as well, and

@@ -1,19 +1,12 @@
-"""Compares `ol-bench explain` with a replay of its own on many terms.
+"""Compares `ol-bench explain` with a replay by the plain runtime tests/faults/runtime.
 
-    tests/explains [--terms N] [--seed S]
+    tests/run explains [--terms N] [--seed S]
 
-N terms are drawn at random, 1,000 where nothing is said, and the journal of each is that of `ol-bench journal`, in the
-first or the second form. Of one in three only the first lines are taken, and of these terms some have many redexes; in
-the others something is changed in one line: a name, its place, the rule, the wave, or the order of the names. Some journals are
-those of translation 1. The first line of
-`explain` has to be that of `ol check`, and below it has to stand what the plain runtime of tests/vectors has to say: of
-a line that isn't one of a run its cause, and of a run that isn't complete the pairs that are left. Each of these lines is
-put behind the journal, and `ol check` has to find one entry more. Then some bytes of the text are changed, twice; where
-`ol check` finds bad text, the second line of `explain` has to tell the byte at which the line breaks off, and each byte
-that is wanted there, by a grammar of this script's own, regular expressions that are tried with each byte. The last line
-is 'N passed, M failed', and above it how often each cause came, and how many pairs were told.
-
-The programs are those that the variables OL and OL_BENCH name, else those of tests/bench.
+The journal of each term is that of `ol-bench journal`, in either form and by either translation. Of one in three only the first lines are
+taken; in the others something is changed in one line. The first line of `explain` has to be that of `ol check`, and below it has to be the
+cause of a line that isn't one of a run, or the pairs that are left, each of which continues the journal by `ol check`. Then some bytes of
+the text are changed, twice; where `ol check` finds bad text, the second line of `explain` has to say at which byte the line breaks off, and
+which bytes are wanted there, by a grammar of this script's own. The last line is 'N passed, M failed'; above it: how often each cause came.
 """
 import collections
 import re
@@ -22,24 +15,24 @@ import netfiles
 import plain
 import random_terms
 from plain import key
-from random_terms import answer
 
 
 def left(view, entries):
     """What `explain` has to say of the pairs that are left after these entries, and all lines that tell one."""
-    net, names, weights = plain.replayed(view, entries)
-    pairs = []
-    for x, y in netfiles.facing(net):
-        rule = plain.rule(net, x, y) or plain.rule(net, y, x)
+    runtime, pairs = plain.replayed(view, entries), []
+    names = plain.names(runtime)
+    for x, y in netfiles.facing(runtime.net()):
+        rule = runtime.rule(x, y) or runtime.rule(y, x)
         if rule:
-            pairs.append((*sorted((names[x], names[y]), key=key), rule, 1 + weights[x, 0]))
+            pairs.append((*sorted((names[x], names[y]), key=key), rule, 1 + runtime.weights[x, 0]))
     lines = [f"{rule} {wave} {first} {second}\n" for first, second, rule, wave in sorted(pairs, key=lambda pair: key(pair[0]))]
     return "".join(lines[:20]) + (f"and {len(lines) - 20} more\n" if lines[20:] else ""), lines
 
 
 def cause(view, entries, line, told):
     """What is wrong with a line after these entries, of which the rule and the wave are told or not."""
-    net, names, weights = plain.replayed(view, entries)
+    runtime = plain.replayed(view, entries)
+    net, names = runtime.net(), plain.names(runtime)
     first, second = line.split()[-2:]
     for name in (first, second):
         if name in names and names.index(name) in net.nodes:
@@ -62,21 +55,21 @@ def cause(view, entries, line, told):
         return f"{first} faces free port {place[1]}"
     if place != (y, 0):
         return f"{first} faces slot {place[1]} of {names[place[0]]}"
-    f, g = (x, y) if plain.rule(net, x, y) else (y, x)
-    rule = plain.rule(net, f, g)
+    rule = runtime.rule(x, y) or runtime.rule(y, x)
     if not rule:
         return f"{first} and {second} have no rule"
     if told and told[0] != rule:
         return f"the rule is {rule}"
-    wave = 1 + weights[x, 0]
+    wave = 1 + runtime.weights[x, 0]
     return f"the wave is {wave}: {joined(view, entries, first, second)}, of weight {wave - 1}" if told and int(told[1]) != wave else None
 
 
 def joined(view, entries, first, second):
     """By which line the link of these two came: the first net after which they are joined."""
     for count in range(len(entries) + 1):
-        net, names, _ = plain.replayed(view, entries[:count])
-        if first in names and second in names and net.linked.get((names.index(first), 0)) == (names.index(second), 0):
+        runtime = plain.replayed(view, entries[:count])
+        linked, names = runtime.net().linked, plain.names(runtime)
+        if first in names and second in names and linked.get((names.index(first), 0)) == (names.index(second), 0):
             return f"line {count + 1} made the link" if count else "the first net has the link"
 
 
@@ -151,15 +144,14 @@ def spoilt(chance, text):
     return text[:chance.randint(0, len(text))] if chance.randint(0, 9) == 0 else text
 
 
-def text_fault(text, file, programs, chance, causes):
-    ol, ol_bench = programs
+def text_fault(text, term, chance, causes):
     text = spoilt(chance, text)
-    found = told = answer(ol, ["check", file, "-"], text)[1]
+    found = told = term.checked(text)
     if not found.startswith("bad text at line "):
         return None
     told += wanted(text, int(found.split()[-1]))
     causes[" ".join(told.split()[7:]) if "greater" not in told else "a greater name"] += 1
-    got = answer(ol_bench, ["explain", file, "-"], text)[1]
+    got = term.explained(text)
     return None if got == told else f"{text!r}: {got!r}, not {told!r}"
 
 
@@ -168,17 +160,16 @@ def journal_of(form, entries):
     return f"ol trace {form}\n" + "".join(" ".join(entry if form == 2 else entry[2:]) + "\n" for entry in entries)
 
 
-def journal_fault(view, form, entries, file, programs, causes):
+def journal_fault(view, form, entries, term, causes):
     """What is wrong with what is said of this journal, of whose lines one may have been changed, or None."""
-    ol, ol_bench = programs
     text = journal_of(form, entries)
     told = text.splitlines()[1:]
-    found = wanted_answer = answer(ol, ["check", file, "-"], text)[1]
+    found = wanted_answer = term.checked(text)
     if found.startswith("not a run at line "):
         bad = int(found.split()[-1]) - 2
         why = cause(view, told[:bad], told[bad], told[bad].split()[:2] if form == 2 else None)
         wanted_answer += f"{why}\n"
-        if answer(ol, ["check", "--translation", "1", file, "-"], text)[1].startswith(("complete", "run ")):
+        if term.ol("check", "--translation", 1, term.file, "-", given=text)[1].startswith(("complete", "run ")):
             wanted_answer += "it is a run of translation 1\n"
             causes["a run of translation 1"] += 1
         causes[" ".join(word for word in str(why).split() if not word[0].isdigit())] += 1
@@ -188,60 +179,43 @@ def journal_fault(view, form, entries, file, programs, causes):
         causes["pairs told, " + ("all" if len(more) <= 20 else "20 of more")] += min(len(more), 20)
         for line in more[:20]:
             longer = text + " ".join(line.split()[4 - 2 * form:]) + "\n"
-            verdict = answer(ol, ["check", file, "-"], longer)[1]
+            verdict = term.checked(longer)
             if verdict not in ("complete\n", f"run {len(told) + 1}\n"):
                 return f"{longer!r}: {verdict!r}"
-    got = answer(ol_bench, ["explain", file, "-"], text)[1]
+    got = term.explained(text)
     return None if got == wanted_answer else f"{text!r}: {got!r}, not {wanted_answer!r}"
 
 
-def faults_in(file, programs, chance, causes, whole):
-    """What is wrong with what is said of a journal of the term: a changed one, or, where it isn't to be whole, its first lines."""
-    ol, ol_bench = programs
-    view = answer(ol, ["view", file])[1]
-    order, translation = chance.choice(["least", "demand"]), chance.choice("12222")
-    asked = ["--order", order, "--translation", translation, "--fuel", "200", file]
-    lines = answer(ol_bench, ["journal", *asked])[1].splitlines()
-    if len(lines) < 2:
-        return
-    at = chance.randint(1, len(lines) - 1)
-    words = changed(chance, lines, at)
-    form = chance.choice([1, 2])
-    if key(words[2]) == key(words[3]):
-        return
-    entries = [line.split() for line in lines[1:]]
-    tried = [*entries[:at - 1], words, *entries[at:]] if whole else entries[:chance.choice([1, at]) - 1]
-    told = journal_fault(view, form, tried, file, programs, causes)
-    if told:
-        yield told
-    for _ in range(2):
-        told = text_fault(journal_of(form, entries), file, programs, chance, causes)
-        if told:
-            yield told
-
-
 def drawn(chance):
-    """The text of a term, and whether its journal is to be taken whole. Where it isn't, some terms have many redexes."""
-    whole = chance.randint(1, 3) > 1
+    """The text of a term. Some terms have many redexes."""
     kind = random_terms.kind_of(chance)
-    term = random_terms.written(chance, *kind)
-    if not whole and chance.choice([True, False]):
-        parts = [random_terms.written(chance, *kind) for _ in range(chance.randint(10, 40))]
-        term = "f" + "".join(f" ({part})" for part in parts)
-    return term, whole
+    if chance.randint(1, 6) > 1:
+        return random_terms.written(chance, *kind)
+    return "f" + "".join(f" ({random_terms.written(chance, *kind)})" for _ in range(chance.randint(10, 40)))
 
 
 def main(words):
     causes = collections.Counter()
 
-    def faults(programs, chance):
-        term, whole = drawn(chance)
-        with random_terms.in_file(term) as file:
-            for line in faults_in(file, programs, chance, causes, whole):
-                yield f"{term}: {line}"
+    def faults(term, chance):
+        view, whole = term.view(), not term.text.startswith("f") and chance.randint(1, 4) > 1
+        order, translation = chance.choice(["least", "demand"]), chance.choice("12222")
+        lines = term.bench("journal", "--order", order, "--translation", translation, "--fuel", 200, term.file)[1].splitlines()
+        if len(lines) < 2:
+            return
+        at = chance.randint(1, len(lines) - 1)
+        changed_words = changed(chance, lines, at)
+        form = chance.choice([1, 2])
+        if key(changed_words[2]) == key(changed_words[3]):
+            return
+        entries = [line.split() for line in lines[1:]]
+        tried = [*entries[:at - 1], changed_words, *entries[at:]] if whole else entries[:chance.choice([1, at]) - 1]
+        told = [journal_fault(view, form, tried, term, causes)]
+        told += [text_fault(journal_of(form, entries), term, chance, causes) for _ in range(2)]
+        yield from filter(None, told)
 
     def told_last():
         for what, count in sorted(causes.items()):
             print(f"{count} {what}")
 
-    return random_terms.try_terms(__doc__, words, faults, told_last)
+    return random_terms.try_terms(__doc__, words, faults, drawn, told_last)

@@ -1,26 +1,16 @@
-"""Counts the families of redexes that leftmost reduction contracts, and compares with the `beta` of `ol demand`, and with
-the columns `leftmost` and `families` of `ol-bench counts`.
+"""Compares the `beta` of `ol demand`, and the columns `leftmost` and `families` of `ol-bench counts`, with an own count of families.
 
-    tests/families [--terms N] [--program PATH]
-    tests/families NAME ..
+    tests/run families [--terms N] [--program PATH]
 
-Redexes of one family are those that an optimal evaluator contracts at once (J.-J. Lévy, Réductions correctes et
-optimales dans le lambda-calcul, 1978; A. Asperti and S. Guerrini, The Optimal Implementation of Functional Programming
-Languages, 1998). They are told by labels. Each subterm has one. In the first term the labels are atoms that differ.
-From labels others are made: two in a row, one overlined, one underlined. A beta step on
+Redexes of one family are those that an optimal evaluator contracts at once (J.-J. Lévy, Réductions correctes et optimales dans le
+lambda-calcul, 1978; A. Asperti and S. Guerrini, The Optimal Implementation of Functional Programming Languages, 1998). They are told by
+labels: each subterm has one, in the first term atoms that differ, later two in a row, one overlined, one underlined. A beta step on an
+application labelled w, of an abstraction \\x. M labelled d, to N leaves M[x := N], where M gets w and d overlined before its own label, and
+for each x labelled v, N gets v and d underlined before its own label. The label d is the degree of the step. Two steps are of one family
+exactly where their degrees are equal. Nothing here knows of nets.
 
-    an application labelled w, of an abstraction \\x. M labelled d, to N
-
-leaves M[x := N], where M gets w and d overlined before its own label, and for each x labelled v, N gets v and d
-underlined before its own label. The label d of the abstraction is the degree of the step. Two steps are of one family
-exactly where their degrees are equal, so there are as many families as different degrees. Nothing here knows of nets.
-
-Without names N terms are drawn at random, 4,000 where nothing is said, always the same: such whose leftmost reduction
-ends after 2 to 150 steps. Each is given to `ol demand` by both translations, and to `ol-bench counts`. With names, term
-files, a line is written for each. The last line without names is 'N passed, M failed'.
-
-The program `ol` is what PATH or the variable OL names, and `ol-bench` what OL_BENCH names; else the proved ones, where they
-are there; else, of `ol`, the one on PATH; else the scripts at the top (tests/lib/which_ol.py).
+N terms are drawn at random, 4,000 by default, always the same: such whose leftmost reduction ends after 2 to 150 steps. Each is given to
+`ol demand` by both translations, and to `ol-bench counts`. The last line is 'N passed, M failed'.
 """
 import concurrent.futures
 import os
@@ -188,13 +178,5 @@ def main(words):
     asked = asking.parser(__doc__)
     asked.add_argument("--terms", type=asking.positive, default=4_000, metavar="N", help="how many terms (4,000)")
     asked.add_argument("--program", metavar="PATH", help="a built program")
-    asked.add_argument("names", nargs="*", metavar="NAME")
     asked = asked.parse_args(words)
-    program = which_ol.found(named=asked.program)
-    if not asked.names:
-        return compare(program, which_ol.found("ol-bench"), asked.terms)
-    for name in asked.names:
-        text = terms.text_of(name)
-        numbers = counted(terms.read(text)) or ("past what is followed", "-")
-        print(f"{name}: leftmost {numbers[0]}, families {numbers[1]}, `ol demand` {betas(program, text, '2')}")
-    return 0
+    return compare(which_ol.found(named=asked.program), which_ol.found("ol-bench"), asked.terms)

@@ -1,7 +1,7 @@
 """The runtime beside this script, with one of eight faults (docs/runtimes/DIAGNOSE.md).
 
-    tests/faults/broken FAULT [--seed S] [--net | --after L] < NET
-    tests/faults/broken --show FAULT
+    tests/run faults/broken FAULT [--seed S] [--net | --after L] < NET
+    tests/run faults/broken --show FAULT
 
 A fault is another line in the place of one line of the runtime; --show writes the two.
 """
@@ -42,11 +42,16 @@ def planted(path, edits):
     return "\n".join(lines)
 
 
-def names_of(fault, main="runtime"):
-    """The functions and classes of the runtime, with this fault, or with none where it is None."""
-    names = {"__name__": main, "__file__": RUNTIME}
-    exec(compile(planted(RUNTIME, [FAULTS[fault]] if fault else []), RUNTIME, "exec"), names)
+def names_in(path, edits=(), main="planted"):
+    """The functions and classes of a script with these lines in it."""
+    names = {"__name__": main, "__file__": path}
+    exec(compile(planted(path, edits), path, "exec"), names)
     return names
+
+
+def names_of(fault, main="planted"):
+    """Those of the runtime, with this fault, or with none where it is None."""
+    return names_in(RUNTIME, [FAULTS[fault]] if fault else [], main)
 
 
 def main(words):

@@ -1,6 +1,6 @@
 """Tries the scripts `ol`, `ol-bench` and `prove` in a scratch folder, with programs and a command `rt` that only say what they are.
 
-    tests/first-answer
+    tests/run first-answer
 
 An unproved program must never pass for a proved one: whenever the program that runs isn't proved, or was made from other
 sources than those that stand there, standard error says so; and when it is proved, nothing is said. What counts is what
@@ -22,11 +22,12 @@ import which_ol
 
 ROOT = pathlib.Path(which_ol.TOP)
 NOT_PROVED = "isn't proved on this machine yet. ./prove proves it."
-COMMANDS = ('bash', 'sh', 'env', 'find', 'dirname', 'readlink', 'mkdir', 'chmod', 'printf', 'cat', 'sha256sum')
+COMMANDS = ('bash', 'sh', 'env', 'find', 'dirname', 'readlink', 'mkdir', 'chmod', 'printf', 'cat', 'sha256sum', 'grep')
 KIT = 'kit logic dac8208d650f15bf\n'
-# A command `rt` that proves all there is, and builds a program that says that it is proved.
+# A command `rt` that proves all but what is broken, and builds a program that says that it is proved.
 RT = r"""
 [ "$1" = version ] && cat "${0%/*}/../KIT-ID" && exit 0
+[ "$1" = lib ] && grep -q broken src/main.rt && echo 'no proof' && exit 1
 [ "$1" = lib ] && mkdir -p out/rlib && exit 0
 mkdir -p out && it=out/${PWD##*/} && printf '#!/bin/sh\necho proved\n' >$it && chmod +x $it && echo 'usage: ol' && echo 'usage: ol run'; exit 1
 """
@@ -174,6 +175,10 @@ def try_what_fails():
         bare = it.run('prove')
         expect('so does prove, with status 1', bare.returncode == 1 and 'PATH' in bare.stdout)
     with house() as it:
+        it.write('crates/ol_cli/src/main.rt', 'broken\n')
+        failed = it.run('prove')
+        expect('prove says which crate is not proved, and why', failed.returncode == 1 and 'no proof\nprove: ol_cli' in failed.stdout)
+        expect('and leaves no folder behind', not (it.top / 'out/prove').exists() and not (it.top / 'crates/ol/out').exists())
         for words in (['olx'], ['0'], ['ol', '2', '3']):
             bad = it.run('prove', *words)
             expect(f"prove {' '.join(words)} is told how it is used", bad.returncode == 1 and 'usage' in bad.stdout)

@@ -1,17 +1,13 @@
-"""Runs the built program on limits, each at its edge and one past it, and on bad input, and prints one table.
+"""Runs the built programs on limits, each at its edge and one past it, and on bad input, and prints one table.
 
-    tests/hostile [--program PATH] [--only WORD]
+    tests/run hostile [--program PATH] [--only WORD]
 
-Each row is one run: what was asked for, the status, the seconds by the clock and the greatest memory in MB (a run's own figure
-is at least what this runner itself needs). A row fails where the text or the status isn't the one that the definition of the answer gives, where the
-run takes more than 10 seconds, or more than 3,072 MB. The texts that are expected are made here, and never by the program.
-
-The program is what --program or the variable OL names; else the proved crates/ol/out/ol, where it is there; else `ol` on PATH; else the
-script `ol` at the top.
+Each row is one run: the status, the seconds by the clock, the greatest memory in MB (at least what this runner itself needs), and what was
+asked for. A row fails where the text or the status isn't the one that the definition of the answer gives, where the run takes more than 10
+seconds (60 of `ol-bench`), or more than 3,072 MB. The texts that are expected are made here, and never by the program.
 """
 import os
 import pathlib
-import re
 import resource
 import subprocess
 import tempfile
@@ -19,10 +15,13 @@ import threading
 import time
 
 import asking
+import faults_broken
+import netfiles
 import summing
 import which_ol
 
-MOST_SECONDS, MOST_MB = 10, 3072
+MOST_SECONDS, MOST_BENCH_SECONDS, MOST_MB = 10, 60, 3072
+READER = faults_broken.names_in(os.path.join(which_ol.TOP, "tests", "faults", "reader"))
 NAMES = "beta fan croissant bracket cross-fan cross-croissant cross-bracket erase stuck".split()
 USAGE = "usage: ol run|walk|view|trace|check|gen|demand|certify|net|equal [options] NAME\n"
 ROW_2, ROW_3 = r"(\x. x) (\y. y)", r"(\x. x x) (\y. y)"
@@ -118,59 +117,27 @@ def doubling_net(croissants):
     return net_text(3, ["fan 0"] + ["croissant 1"] * croissants, chain + ends)
 
 
-def tree_of(term):
-    """Returns a term of x and y alone as a tree of pairs, of a name or of two trees."""
-    whole = [None]
-    levels = [whole]
-    for token in re.findall(r"[()xy]", term):
-        if token == "(":
-            levels.append([None])
-            continue
-        part = levels.pop()[0] if token == ")" else token
-        before = levels[-1][0]
-        levels[-1][0] = part if before is None else (before, part)
-    return whole[0]
-
-
 def translated(term):
-    """Returns the text of the net, by translation 2, of a term of x alone that is applied to x or y last, as docs/runtimes/FORMATS.md orders its nodes."""
-    nodes, links = [], []
-
-    def added(kind, level):
-        nodes.append(f"{kind} {level}")
-        return len(nodes) - 1
-
-    def put(tree, level):
-        """Adds the nodes of a tree. Returns the ports of its root and of the wire of x."""
-        if tree == "x":
-            node = added("croissant", level)
-            return (node, 1), (node, 0)
-        first, second = tree
-        app = added("app", level)
-        root, wire = put(first, level)
-        links.append(((app, 0), root))
-        if second == "x":
-            fan = added("fan", level)
-            links.extend([((fan, 1), wire), ((fan, 2), (app, 2))])
-        elif second == "y":
-            links.append(((app, 2), (-1, 2)))
-            return (app, 1), wire
-        else:
-            below, inside = put(second, level + 1)
-            bracket, fan = added("bracket", level), added("fan", level)
-            links.extend([((app, 2), below), ((bracket, 1), inside), ((fan, 1), wire), ((fan, 2), (bracket, 0))])
-        return (app, 1), (fan, 0)
-
-    root, wire = put(tree_of(term), 0)
-    return net_text(2 + ("y" in term), nodes, links + [((-1, 0), root), ((-1, 1), wire)])
+    """Returns the text of the net of a term, by translation 2."""
+    return netfiles.write(READER["Translation"](READER["Reader"](term).whole()).file())
 
 
 class Row:
     """One run: its words, its input, what it is to write and how it is to end."""
 
-    def __init__(self, name, words, text, status, given=None, out=None, stack=None, closes=None):
+    def __init__(self, name, words, text, status, given=None, out=None, stack=None, closes=None, of_bench=False):
         self.name, self.words, self.text, self.status = name, words, text, status
-        self.given, self.out, self.stack, self.closes = given, out, stack, closes
+        self.given, self.out, self.stack, self.closes, self.of_bench = given, out, stack, closes, of_bench
+
+    def faults(self, text, status, seconds, mb):
+        """What is wrong with a run. Of `ol-bench` the first line is looked at."""
+        fits = text.startswith(self.text.encode()) if self.of_bench else text == self.text.encode()
+        if status != self.status:
+            yield f"status {status} and not {self.status}"
+        if not fits:
+            yield f"wrote {text[:60]!r} and not {self.text[:60]!r}"
+        if seconds > (MOST_BENCH_SECONDS if self.of_bench else MOST_SECONDS) or mb > MOST_MB:
+            yield f"past {MOST_SECONDS} seconds or {MOST_MB:,} MB"
 
 
 def limits():
@@ -488,6 +455,24 @@ def bad_words():
     yield row("gen --run 2^31", ["gen", "--run", str(2**31)])
 
 
+def of_bench():
+    """`ol-bench` on nets and journals with as many bytes as they may have, and with one more."""
+    bad, whole, longer, net = "bad text at line 1\n", "line feeds", "line feeds and one", "net and one"
+    for name, words, status, line in (
+            ("a journal of 402,653,184 line feeds", ["explain", "row 2", whole], 12, bad),
+            ("one more", ["explain", "row 2", longer], 3, TOO_LONG_JOURNAL),
+            ("one more, for check", ["check", "row 2", longer], 12, bad),
+            ("bytes without end, for check", ["check", "row 2", "/dev/zero"], 12, bad),
+            ("one more, for after", ["after", "1", "row 2", longer], 3, TOO_LONG_JOURNAL),
+            ("a text of 402,653,184 bytes", ["where", whole, "402653184"], 0, "line 402653185, column 1"),
+            ("one more", ["where", longer, "0"], 3, TOO_LONG_JOURNAL),
+            ("a net of 33,554,432 line feeds", ["counts", "--net", "net of line feeds"], 3, "bad net at line 1\n"),
+            ("one more", ["counts", "--net", net], 3, TOO_LONG_NET),
+            ("one more, the second of two", ["same", "wire", net], 3, TOO_LONG_NET),
+            ("both one more", ["same", net, net], 3, TOO_LONG_NET)):
+        yield Row(f"ol-bench: {name}", words, line, status, of_bench=True)
+
+
 def make_files(folder):
     """Writes the files that the rows name. The large ones are written piece by piece, since this runner's own memory counts."""
     def fill(name, piece, size, first=b"", last=b""):
@@ -501,6 +486,7 @@ def make_files(folder):
             file.write(last)
     (folder / "row 2").write_text(ROW_2)
     (folder / "omega").write_text(OMEGA)
+    (folder / "wire").write_text(net_text(2, [], [((-1, 0), (-1, 1))]))
     (folder / "a\nname\n").write_text(ROW_2)
     (folder / "large").write_text(many_nodes("y"))
     six = r"((\x. x x) (\y. y))"
@@ -617,7 +603,7 @@ def main(words):
     asked.add_argument("--program", metavar="PATH", help="a built program")
     asked.add_argument("--only", default="", metavar="WORD", help="only the rows that have this word")
     asked = asked.parse_args(words)
-    program = which_ol.found(named=asked.program)
+    program, bench = which_ol.found(named=asked.program), which_ol.found("ol-bench")
     failed = passed = 0
     has_entries = False
     with tempfile.TemporaryDirectory() as name:
@@ -625,21 +611,15 @@ def main(words):
         make_files(folder)
         print(f"{'seconds':>8} {'MB':>6} {'status':>6}  row")
         for rows in (limits(), deep_terms(), deep_terms(stack=1 << 20), bad_nets(), nets(), comparisons(), certificates(),
-                     demands_and_traces(), bad_journals(), bad_files(), bad_words()):
+                     demands_and_traces(), bad_journals(), bad_files(), bad_words(), of_bench()):
             for row in rows:
                 if asked.only not in row.name:
                     continue
                 if not has_entries and "omega" in row.words:
                     has_entries = True
                     make_entries(program, folder)
-                text, status, seconds, mb = run(program, folder, row)
-                faults = []
-                if status != row.status:
-                    faults.append(f"status {status} and not {row.status}")
-                if text != row.text.encode():
-                    faults.append(f"wrote {text[:60]!r} and not {row.text[:60]!r}")
-                if seconds > MOST_SECONDS or mb > MOST_MB:
-                    faults.append("past 10 seconds or 3,072 MB")
+                text, status, seconds, mb = run(bench if row.of_bench else program, folder, row)
+                faults = list(row.faults(which_ol.without_said(text), status, seconds, mb))
                 print(f"{seconds:8.2f} {mb:6.0f} {status:6}  {row.name}" + "".join(f"\n  FAILED: {it}" for it in faults), flush=True)
                 failed += bool(faults)
                 passed += not faults

@@ -1,19 +1,15 @@
 """Reads the objects that `ol-bench check`, `explain` and `counts` write with `--json`, and compares with the plain answers.
 
-    tests/objects [--terms N] [--seed S]
+    tests/run objects [--terms N] [--seed S]
 
-N terms are drawn at random, 1,000 where nothing is said. Of each the columns of `counts` are asked, some of them, with
-bounds that some ways pass. Then a journal of the term is taken whole, cut, or with a byte changed. Each call is made
-twice, with `--json` and without. The statuses have to be the same. The object has to be one line that Python's json
-reads, with just the members that the plain answer has (docs/runtimes/FORMATS.md). The last line is 'N passed, M failed'.
-
-The programs are those that the variables OL and OL_BENCH name, else those of tests/bench.
+Of each term some columns of `counts` are asked, with bounds that some ways pass. Then a journal of the term is taken whole, cut, or with a
+byte changed. Each call is made twice, with `--json` and without. The statuses have to be the same. The object has to be one line that
+Python's json reads, with just the members that the plain answer has (docs/runtimes/FORMATS.md). The last line is 'N passed, M failed'.
 """
 import json
 import re
 
 import random_terms
-from random_terms import answer
 
 FIRST_LINE = re.compile(r"(complete|run|not a run at line|bad text at line) ?(\d*)")
 SHOWN = ["--no-run", "--no-demand", "--no-leftmost", "--applicative", "--need"]
@@ -40,10 +36,10 @@ def of_table(text):
     return {"columns": {title: numbers or None for title, numbers in columns.items()}}
 
 
-def fault(program, words, given, read):
+def fault(term, words, given, read):
     """What is wrong with the object of a call, which is that of its plain answer, or None."""
-    status, plain = answer(program, words, given)
-    object_status, text = answer(program, [words[0], "--json", *words[1:]], given)
+    status, plain = term.bench(*words, given=given)
+    object_status, text = term.bench(words[0], "--json", *words[1:], given=given)
     if status != object_status:
         return f"{words}: status {object_status} with --json, and {status} without"
     if text.count("\n") != 1 or not text.isascii() or list(json.loads(text).items()) != list(read(plain).items()):
@@ -57,18 +53,14 @@ def spoilt(chance, text):
     return chance.choice([text, text[:text.rfind("\n", 0, at) + 1], text[:at] + chance.choice("0123 .x\n") + text[at + 1:]])
 
 
-def faults(programs, chance):
-    bench = programs[1]
-    term = random_terms.written(chance, *random_terms.kind_of(chance))
-    with random_terms.in_file(term) as file:
-        shown = [word for word in SHOWN if chance.randint(0, 1)]
-        bounds = ["--fuel", chance.choice(["0", "10", "1000"]), "--most", chance.choice(["1", "100"]), "--moves", chance.choice(["3", "1000"])]
-        journal = answer(bench, ["journal", "--order", "least", "--fuel", "100", file])[1]
-        told = [fault(bench, ["counts", *shown, *bounds, file], "", of_table)]
-        text = spoilt(chance, journal)
-        for command in ("check", "explain"):
-            told.append(fault(bench, [command, file, "-"], text, lambda plain: of_lines(plain, command == "explain")))
-    return [f"{term}: {line}" for line in told if line]
+def faults(term, chance):
+    shown = [word for word in SHOWN if chance.randint(0, 1)]
+    bounds = ["--fuel", chance.choice([0, 10, 1000]), "--most", chance.choice([1, 100]), "--moves", chance.choice([3, 1000])]
+    text = spoilt(chance, term.bench("journal", "--order", "least", "--fuel", 100, term.file)[1])
+    told = [fault(term, ["counts", *shown, *bounds, term.file], "", of_table)]
+    for command in ("check", "explain"):
+        told.append(fault(term, [command, term.file, "-"], text, lambda plain: of_lines(plain, command == "explain")))
+    return filter(None, told)
 
 
 def main(words):

@@ -1,6 +1,6 @@
 """Runs the commands that the pages show, and compares what they print with what the pages say.
 
-    tests/pages [--write] [PAGE ..]
+    tests/run pages [--write] [PAGE ..]
 
 Without names the pages are README.md, CONTRIBUTING.md, and those below docs/, examples/, library/ and tests/vectors/. In
 a page a command is a line of a fenced block that begins with `$ `, or an indented line that does; lines right below it

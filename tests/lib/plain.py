@@ -1,31 +1,33 @@
-"""The plain runtime tests/vectors/runtime, as a module: that file has no suffix, since it is also run, read, and broken on purpose."""
-import importlib.machinery
-import importlib.util
-import os
-
+"""Nets that are rewritten by the plain runtime tests/faults/runtime, pair by pair."""
+import faults_broken
 import netfiles
-from made_from import TOP
 
-LOADER = importlib.machinery.SourceFileLoader("plain_runtime", os.path.join(TOP, "tests", "vectors", "runtime"))
-runtime = importlib.util.module_from_spec(importlib.util.spec_from_loader(LOADER.name, LOADER))
-LOADER.exec_module(runtime)
-rule, rewrite = runtime.rule, runtime.rewrite
+NAMES = faults_broken.names_of(None)
+Runtime = NAMES["Runtime"]
+
+
+def begun(view):
+    """The runtime on the net of a text, before its first pair."""
+    return Runtime(netfiles.read(view), 0, 1)
+
+
+def play(runtime, f, g):
+    """Rewrites the pair of these nodes, in either order, and gives the line of the journal."""
+    runtime.tickets += 1
+    return runtime.rewrite(*((f, g) if runtime.rule(f, g) else (g, f)), runtime.tickets - 1)
 
 
 def replayed(view, entries):
-    """The net after these entries, the names of its numbers, and the weights of its ports."""
-    net = netfiles.read(view)
-    born = len(net.nodes)
-    names = list(map(str, range(born)))
-    weights = dict.fromkeys(net.linked, 0)
-    for ticket, entry in enumerate(entries):
-        f, g = (names.index(name) for name in entry.split()[-2:])
-        if not rule(net, f, g):
-            f, g = g, f
-        count = rewrite(net, weights, f, g, born)[0]
-        names += [f"{ticket}.{place}" for place in range(count)]
-        born += count
-    return net, names, weights
+    """The runtime after these entries of a journal."""
+    runtime = begun(view)
+    for entry in entries:
+        play(runtime, *(runtime.names.index(key(name)) for name in entry.split()[-2:]))
+    return runtime
+
+
+def names(runtime):
+    """The names of all nodes that there were, by their numbers."""
+    return list(map(NAMES["written"], runtime.names))
 
 
 def key(name):

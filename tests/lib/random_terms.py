@@ -1,4 +1,4 @@
-"""Terms that are drawn at random, and what is wrong with the answers to them."""
+"""The frame of the scripts that compare the programs with code of their own on random terms: the words, the terms, the calls, the sums."""
 import contextlib
 import os
 import random
@@ -42,16 +42,56 @@ def answer(program, words, given=""):
     return done.returncode, done.stdout.decode()
 
 
-def try_terms(text, words, faults, told_last=lambda: None, count=1000):
-    """The script whose head has this text. `faults` gets the two programs and the random numbers, draws a term, and gives a line for
-    each thing that is wrong. `told_last` prints what is told above the last line."""
-    asked = asking.for_random_terms(text, words, count)
-    chance = random.Random(asked.seed)
-    programs = which_ol.found(), which_ol.found("ol-bench")
-    passed = failed = 0
-    for _ in progress.shown(range(asked.terms), asked.terms):
-        told = list(faults(programs, chance))
-        passed, failed = passed + (not told), failed + bool(told)
-        print("".join(line + "\n" for line in told), end="", flush=True)
+class Term:
+    """A term in a file. `ol` and `bench` call the programs: they take the words, and the text of standard input, and give the status and
+    what was written. Numbers among the words become text."""
+
+    def __init__(self, text, file, programs):
+        self.text, self.file, self.programs = text, file, programs
+
+    def ol(self, *words, given=""):
+        return answer(self.programs[0], list(map(str, words)), given)
+
+    def bench(self, *words, given=""):
+        return answer(self.programs[1], list(map(str, words)), given)
+
+    def view(self):
+        return self.ol("view", self.file)[1]
+
+    def checked(self, journal):
+        """What `ol check` says of a journal."""
+        return self.ol("check", self.file, "-", given=journal)[1]
+
+    def explained(self, journal):
+        return self.bench("explain", self.file, "-", given=journal)[1]
+
+
+def draw_small(chance):
+    return written(chance, *kind_of(chance))
+
+
+def try_terms(text, words, faults, draw=draw_small, told_last=lambda: None, count=1000):
+    """The script whose head has this text, and these words. `draw` gets the random numbers and gives the text of a term; `faults` gets the
+    Term and the random numbers, and gives a line for each thing that is wrong, or None if the term is none to try. `told_last` prints
+    what is told above the last line."""
+    asked = asking.parser(text)
+    asked.add_argument("--terms", type=asking.positive, default=count, metavar="N", help=f"how many terms ({count})")
+    asked.add_argument("--seed", type=int, default=1, metavar="S", help="where the drawing begins (1)")
+    asked = asked.parse_args(words)
+    chance, programs = random.Random(asked.seed), (which_ol.found(), which_ol.found("ol-bench"))
+
+    def told():
+        count = 0
+        while count < asked.terms:
+            term = draw(chance)
+            with in_file(term) as file:
+                found = faults(Term(term, file, programs), chance)
+                lines = None if found is None else [f"{term}: {line}" for line in found]
+            if lines is not None:
+                count += 1
+                print("".join(line + "\n" for line in lines), end="", flush=True)
+                yield bool(lines)
+
+    failed = sum(progress.shown(told(), asked.terms))
     told_last()
-    return summing.told(summing.Sum(passed, failed))
+    return summing.told(summing.Sum(asked.terms - failed, failed))

@@ -1,20 +1,15 @@
 """Refuses each allocation of the program in turn, one a run, and looks at what it writes and how it ends.
 
-    tests/refused-memory [--program PATH] [--jobs N]
+    tests/run refused-memory [--program PATH] [--jobs N]
 
-Each command below is run once for its first allocation, once for its second, and so on until a run has none left to refuse.
-Every run has to write its whole text and end with its status, or write nothing and end with status 6. Of the runs in which
-nothing was refused, the first is right. At the end stands a table: for each command how many allocations were refused, and
-how many of these runs still wrote the whole text. In the last command each of four hands puts 256 cells into its deque, which has
-room for 128: where it isn't let grow, the cell is found by the rounds of the workers, so at least four of these runs write the
-whole text.
+Each command below is run once for its first allocation, once for its second, and so on until a run has none left to refuse. Every run has
+to write its whole text and end with its status, or to write nothing and end with status 6. A table says for each command how many
+allocations were refused, and how many of these runs still wrote the whole text. In the last command each of four hands puts 256 cells into
+its deque, which has room for 128: where it isn't let grow, the cell is found by the rounds of the workers, so at least four of these runs
+write the whole text.
 
-The program is what --program or the variable OL names; else the proved crates/ol/out/ol, where it is there; else `ol` on PATH; else the
-script `ol` at the top. Allocations
-are refused by a few lines of C, below, which stand in front of the C library's allocator (LD_PRELOAD), so it is the built
-program that is tried, with its threads, its reading of the words and its writing; `rt try --fail-alloc` runs it unproved
-under a checker of memory, far slower, and counts only what the program itself asks for. Here also an allocation that the C library
-makes for a thread is refused. It wants a C compiler, `cc`.
+refused_memory.c refuses an allocation also if the C library makes it for a thread. It wants a C compiler, `cc`. `rt try --fail-alloc` runs
+the program unproved, far slower, and counts only what the program itself asks for.
 """
 import concurrent.futures
 import os
@@ -28,103 +23,6 @@ import tempfile
 import asking
 import summing
 import which_ol
-
-WRAPPER = r"""
-#define _GNU_SOURCE
-#include <dlfcn.h>
-#include <errno.h>
-#include <fcntl.h>
-#include <stdatomic.h>
-#include <stddef.h>
-#include <stdlib.h>
-#include <string.h>
-#include <sys/mman.h>
-#include <unistd.h>
-
-/* In a file that the runner maps too: how many allocations there were, and the number of the one to refuse, from 1. */
-struct shared { _Atomic unsigned long count; unsigned long refused; };
-static struct shared *shared;
-
-static void *(*real_malloc)(size_t);
-static void *(*real_calloc)(size_t, size_t);
-static void *(*real_realloc)(void *, size_t);
-static void *(*real_aligned_alloc)(size_t, size_t);
-static int (*real_posix_memalign)(void **, size_t, size_t);
-
-/* What is asked for while the real functions are being looked up. */
-static _Alignas(16) char early[65536];
-static size_t early_used;
-
-static void *take_early(size_t size) {
-  size_t at = early_used;
-  early_used += (size + 15) & ~(size_t)15;
-  return early_used <= sizeof early ? early + at : NULL;
-}
-
-static int is_early(const void *p) { return (const char *)p >= early && (const char *)p < early + sizeof early; }
-
-__attribute__((constructor)) static void begin(void) {
-  real_calloc = dlsym(RTLD_NEXT, "calloc");
-  real_malloc = dlsym(RTLD_NEXT, "malloc");
-  real_realloc = dlsym(RTLD_NEXT, "realloc");
-  real_aligned_alloc = dlsym(RTLD_NEXT, "aligned_alloc");
-  real_posix_memalign = dlsym(RTLD_NEXT, "posix_memalign");
-  const char *path = getenv("REFUSED_MEMORY");
-  int file = path ? open(path, O_RDWR | O_CLOEXEC) : -1;
-  if (file >= 0) {
-    void *at = mmap(NULL, sizeof *shared, PROT_READ | PROT_WRITE, MAP_SHARED, file, 0);
-    close(file);
-    if (at != MAP_FAILED) shared = at;
-  }
-}
-
-static int refuses(void) {
-  if (!shared) return 0;
-  unsigned long number = atomic_fetch_add(&shared->count, 1) + 1;
-  if (number != shared->refused) return 0;
-  errno = ENOMEM;
-  return 1;
-}
-
-void *malloc(size_t size) {
-  if (!real_malloc) return take_early(size);
-  return refuses() ? NULL : real_malloc(size);
-}
-
-void *calloc(size_t count, size_t size) {
-  if (!real_calloc) return take_early(count * size);
-  return refuses() ? NULL : real_calloc(count, size);
-}
-
-void *realloc(void *old, size_t size) {
-  if (is_early(old)) {
-    void *fresh = malloc(size);
-    size_t most = (size_t)(early + sizeof early - (char *)old);
-    if (fresh) memcpy(fresh, old, size < most ? size : most);
-    return fresh;
-  }
-  if (!real_realloc) return NULL;
-  return refuses() ? NULL : real_realloc(old, size);
-}
-
-void *aligned_alloc(size_t alignment, size_t size) {
-  if (!real_aligned_alloc) return NULL;
-  return refuses() ? NULL : real_aligned_alloc(alignment, size);
-}
-
-int posix_memalign(void **to, size_t alignment, size_t size) {
-  if (!real_posix_memalign) return ENOMEM;
-  return refuses() ? ENOMEM : real_posix_memalign(to, alignment, size);
-}
-
-void free(void *p) {
-  static void (*real_free)(void *);
-  if (!p || is_early(p)) return;
-  if (!real_free) real_free = dlsym(RTLD_NEXT, "free");
-  real_free(p);
-}
-"""
-
 
 NAMES = "beta fan croissant bracket cross-fan cross-croissant cross-bracket erase stuck".split()
 TRACE = "ol trace 2\nbeta 1 0 1\ncross-croissant 2 2 3\ncross-croissant 3 4 1.1\ncroissant 4 1.0 2.0\n"
@@ -216,11 +114,10 @@ def main(words):
     asked = asked.parse_args(words)
     program = which_ol.found(named=asked.program)
     if not shutil.which("cc"):
-        sys.exit("tests/refused-memory wants a C compiler, `cc`, and finds none")
+        sys.exit("tests/run refused-memory wants a C compiler, `cc`, and finds none")
     failed = refused_all = 0
     with tempfile.TemporaryDirectory() as folder:
-        code, wrapper = f"{folder}/wrapper.c", f"{folder}/wrapper.so"
-        pathlib.Path(code).write_text(WRAPPER)
+        code, wrapper = os.path.join(which_ol.TOP, "tests", "lib", "refused_memory.c"), f"{folder}/wrapper.so"
         subprocess.run(["cc", "-O1", "-shared", "-fPIC", "-o", wrapper, code, "-ldl"], check=True)
         pathlib.Path(f"{folder}/term").write_text(r"(\x. x) (\y. y)")
         pathlib.Path(f"{folder}/journal").write_text(TRACE)

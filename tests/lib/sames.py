@@ -1,17 +1,13 @@
-"""Compares `ol-bench same` with the comparison of tests/vectors/same-net on many nets.
+"""Compares `ol-bench same` with the comparison of tests/vectors/netfiles.py.
 
-    tests/sames [--terms N] [--seed S]
+    tests/run sames [--terms N] [--seed S]
 
-N terms are drawn at random, 1,000 where nothing is said. The net of each, after some interactions, is given other numbers
-of nodes: the two are `same`. Then two of its links are exchanged, or a node gets another index: `ol-bench same` has to
-say what tests/vectors/netfiles.py says, and, where the two differ, `different`, with the port and what it is joined to
-by a walk of this script's own. What `ol net` writes, counts and all, is `same` as itself. The last line is 'N passed, M failed'.
-
-The programs are those that the variables OL and OL_BENCH name, else those of tests/bench.
+The net of each term, after some interactions, is given other numbers of nodes: the two are `same`. Then two of its links are exchanged, or a
+node gets another index: `ol-bench same` has to agree with netfiles.py, and, where the two differ, to print the port and what it is joined
+to by a walk of this script's own. What `ol net` writes, counts and all, is `same` as itself. The last line is 'N passed, M failed'.
 """
 import netfiles
 import random_terms
-from random_terms import answer
 
 
 def turned(net, chance):
@@ -30,7 +26,7 @@ def raised(net, chance):
 
 
 def words(net, port):
-    """A port, and behind a slot the kind and the index of its node."""
+    """A port, and after a slot the kind and the index of its node."""
     if port is None:
         return "nothing"
     return f"f{port[1]}" if port[0] == "f" else f"{port[0]}.{port[1]} of {' '.join(net.nodes[port[0]])}"
@@ -57,36 +53,28 @@ def first_unlike(here, there):
     return None
 
 
-def faults_of(term, programs, chance):
-    """What is wrong with the answers to the net of a term, after some interactions."""
-    ol, ol_bench = programs
-    view = answer(ol, ["view", "--after", str(chance.randint(0, 12)), "-"], term)[1]
-    net = netfiles.read(netfiles.write(netfiles.read(view)))
-    with random_terms.in_file(netfiles.write(net)) as file:
-        got = answer(ol_bench, ["same", file, "-"], netfiles.write(turned(net, chance)))
-        if got != (0, "same\n"):
-            yield f"other numbers: {got}"
-        for change in (netfiles.changed, raised):
-            other = turned(change(net, chance), chance)
-            is_one = netfiles.difference(net, other) is None
-            status, text = answer(ol_bench, ["same", file, "-"], netfiles.write(other))
-            if (status, text == "same\n", text.startswith("different ")) != (int(not is_one), is_one, not is_one):
-                yield f"{change.__name__}: {status} {text}"
-            told = first_unlike(net, other)
-            if told and text != told:
-                yield f"{change.__name__}: {text!r}, not {told!r}"
-    status, written = answer(ol, ["net", "--fuel", "20000", "-"], netfiles.write(net))
-    if status == 0:  # else the fuel was used up, and there is no net
-        with random_terms.in_file(written) as file:
-            got = answer(ol_bench, ["same", file, file])
-            if got != (0, "same\n"):
-                yield f"counts before the net: {got}"
+def faults(term, chance):
+    net = netfiles.read(netfiles.write(netfiles.read(term.ol("view", "--after", chance.randint(0, 12), term.file)[1])))
 
+    def compared(one, other):
+        with random_terms.in_file(one) as file:
+            return term.bench("same", file, "-", given=other)
 
-def faults(programs, chance):
-    term = random_terms.written(chance, *random_terms.kind_of(chance))
-    for line in faults_of(term, programs, chance):
-        yield f"{term}: {line}"
+    got = compared(netfiles.write(net), netfiles.write(turned(net, chance)))
+    if got != (0, "same\n"):
+        yield f"other numbers: {got}"
+    for change in (netfiles.changed, raised):
+        other = turned(change(net, chance), chance)
+        is_one = netfiles.difference(net, other) is None
+        status, text = compared(netfiles.write(net), netfiles.write(other))
+        if (status, text == "same\n", text.startswith("different ")) != (int(not is_one), is_one, not is_one):
+            yield f"{change.__name__}: {status} {text}"
+        told = first_unlike(net, other)
+        if told and text != told:
+            yield f"{change.__name__}: {text!r}, not {told!r}"
+    status, written = term.ol("net", "--fuel", 20000, "-", given=netfiles.write(net))
+    if status == 0 and (got := compared(written, written)) != (0, "same\n"):  # with another status the fuel was used up, and there is no net
+        yield f"counts before the net: {got}"
 
 
 def main(words):

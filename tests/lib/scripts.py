@@ -1,12 +1,11 @@
 """Looks at the scripts themselves: those of this repository that are Python or shell.
 
-    tests/scripts
+    tests/run scripts
 
-Each Python file has to compile, to use each name that it imports, and to have each name that it uses. `shellcheck`, where
-it is on this machine, has to find nothing in a shell script. Each script that can be run is called with a word that it
-doesn't know, `--no-such-word`: its status has to be another than 0, and its answer no error of Python's. And scripts that
-try another runtime are called with a few, right and wrong ones: status and last lines have to be as they stand here. The
-last line is 'N passed, M failed'.
+Each Python file has to compile, to use each name that it imports, and to have each name that it uses. `shellcheck`, where it is on this
+machine, has to find nothing in a shell script. Each script is called with a word that it doesn't know, `--no-such-word`: its status has to
+be another than 0, and its answer no error of Python's. And `vectors/check` is called with right and wrong runtimes: status and last lines
+have to be as they are here. The last line is 'N passed, M failed'.
 """
 import ast
 import builtins
@@ -24,11 +23,12 @@ FOLDERS = ("", ".ci", "scripts", "tests", "tests/lib", "tests/vectors", "tests/f
 # These hand their words on, or take any.
 TAKE_ALL = ("ol", "ol-bench", ".ci/run", "scripts/start", "scripts/build-unproved")
 BAD_WORD = "--no-such-word"
+RUN = os.path.join(TOP, "tests", "run")
 
 # The term of the first record of the vectors is `x`. These commands take it, or its net, for a runtime.
 NO_COUNTS = "fan 0\\ncroissant 0\\nbracket 0\\ncross-fan 0\\ncross-croissant 0\\ncross-bracket 0\\nerase 0\\nstuck 0\\n"
 NET_OF_X = "ol net 1\\nfree 2\\nnode croissant 0\\nlink f0 0.1\\nlink f1 0.0\\n"
-CHECK, JOURNALS = "tests/vectors/check", "tests/vectors/journals"
+CHECK = "vectors/check"
 
 # Calls: the words, the status, and the last lines of what is written.
 CALLS = [
@@ -47,8 +47,8 @@ CALLS = [
      "x, translation 1: 0.0 is no port\n0 passed, 1 failed\n"),
     ([CHECK, "--every", "5000", "--runtime", "tail -n 1"], 1,
      "x, translation 1: no line is `ol net 1`, and the first one isn't `step S`\n0 passed, 1 failed\n"),
-    ([JOURNALS, "echo ol trace 1", "700"], 0, "1 of 1 complete\n"),
-    ([JOURNALS, "echo", "700"], 1, "x, translation 1: bad text at line 1\n0 of 1 complete\n"),
+    ([CHECK, "--every", "700", "--journals", "echo ol trace 1"], 0, "1 passed, 0 failed\n"),
+    ([CHECK, "--every", "700", "--journals", "echo"], 1, "x, translation 1: bad text at line 1\n0 passed, 1 failed\n"),
 ]
 
 
@@ -101,20 +101,19 @@ def shell_faults(path):
     return subprocess.run(["shellcheck", path], cwd=TOP, stdout=subprocess.PIPE, text=True).stdout.splitlines()
 
 
-def call_faults(path):
+def call_faults(words):
     """What is wrong with the answer to a bad call."""
-    ran = subprocess.run([os.path.join(TOP, path), BAD_WORD], stdin=subprocess.DEVNULL, stdout=subprocess.PIPE,
-                         stderr=subprocess.STDOUT, text=True, errors="replace", timeout=60)
+    ran = subprocess.run([os.path.join(TOP, words[0]), *words[1:], BAD_WORD], stdin=subprocess.DEVNULL, stdout=subprocess.PIPE,
+                         stderr=subprocess.STDOUT, text=True, errors="replace", timeout=600)
     if ran.returncode == 0 or "Traceback" in ran.stdout:
-        return [f"{path} {BAD_WORD}: status {ran.returncode}", *ran.stdout.splitlines()]
+        return [f"{' '.join(words)} {BAD_WORD}: status {ran.returncode}", *ran.stdout.splitlines()]
     return []
 
 
 def told_faults(call):
     """What is wrong with the answer to one of the calls above."""
     words, status, last = call
-    ran = subprocess.run([os.path.join(TOP, words[0]), *words[1:]], stdin=subprocess.DEVNULL, stdout=subprocess.PIPE,
-                         text=True, errors="replace", timeout=60)
+    ran = subprocess.run([RUN, *words], stdin=subprocess.DEVNULL, stdout=subprocess.PIPE, text=True, errors="replace", timeout=600)
     if ran.returncode == status and ran.stdout.endswith(last):
         return []
     return [f"{' '.join(words)}: status {ran.returncode}, wanted {status}, with the last lines", *last.splitlines(), "got", *ran.stdout.splitlines()]
@@ -125,7 +124,9 @@ def cases():
     for path, first in scripts():
         yield (python_faults if "python" in first or path.endswith(".py") else shell_faults), path
         if os.access(os.path.join(TOP, path), os.X_OK) and path not in TAKE_ALL:
-            yield call_faults, path
+            yield call_faults, [path]
+    for name in subprocess.run([RUN], stderr=subprocess.PIPE, text=True).stderr.splitlines()[1].split():
+        yield call_faults, ["tests/run", name]
     for call in CALLS:
         yield told_faults, call
 

@@ -1,6 +1,6 @@
 """How long the program takes, and how much memory: the tables of docs/runtimes/PERFORMANCE.md.
 
-    tests/speed [--program PATH] [--beside PATH] [--times N] [--of run|demand] [--processor]
+    tests/run speed [--program PATH] [--beside PATH] [--times N] [--of run|demand] [--processor]
 
 Each row is one whole command. The program is run N times (7), and the least of its seconds by the clock is printed with its peak
 of memory. With --beside, or where the variable BESIDE names one, another program that takes the same words is run in turn with it,

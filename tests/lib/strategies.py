@@ -1,38 +1,18 @@
-"""Counts beta steps of terms: by `ol demand`, by `ol run`, by need, and leftmost; and compares `ol-bench counts` with these.
+"""Compares the columns `leftmost`, `applicative` and `need` of `ol-bench counts` with own counts.
 
-    tests/strategies [--most N] [--fuel F] NAME ..
-    tests/strategies [--terms N]
+    tests/run strategies [--terms N]
 
-With names, term files, a line is written for each. Without names N terms are drawn at random, 1,000 where nothing is said,
-always the same. Of each the columns `leftmost`, `applicative` and `need` of `ol-bench counts` are compared with what is
-counted here, and its status with the hyphens in them; the last line is 'N passed, M failed'.
+By need and leftmost are counted by one small machine, in this file. It has closures: a term with an environment, in which each variable
+has the closure that was bound to it. It reduces a closure to weak head normal form: of an application the function first, while the argument
+is put by as a closure; an abstraction takes the next argument, one beta step; a variable goes on with its closure. Then it goes on to the
+normal form: into the body of the abstraction, with a new name, or into the arguments from the left. By need, what comes out of a closure is
+written over it, so that each argument is reduced to weak head normal form at most once, as in lazy languages. Leftmost, nothing is written
+over. Leftmost reduction is done by substitution too, step by step, and so is applicative order: the function first, then the argument, then
+the redex of both, then what it gives.
 
-By need and leftmost are counted by one small machine, in this file. It has closures: a term with an environment, in
-which each variable has the closure that was bound to it.
-
-- It reduces a closure to weak head normal form. Of an application it takes the function first, and puts the argument by
-  as a closure. An abstraction that has an argument takes it: one beta step. A variable goes on with its closure. What
-  comes out is an abstraction with its environment, or a name with arguments.
-- Then it goes on to the normal form: into the body of the abstraction, with a new name for its variable, or into the
-  arguments from the left, each by the same two rules.
-
-By need: what comes out of a closure is written over it. So each argument is reduced to weak head normal form at most
-once, however often it is used, as in lazy languages. What stands below an abstraction is reduced anew at each use.
-Leftmost: nothing is written over, so each use reduces its argument anew. These are the steps of leftmost reduction.
-
-For the comparison leftmost reduction is done by substitution too, step by step, and so is applicative order: the function
-first, then the argument, then the redex of both, then what it gives.
-
-The machine stops after N steps, 300,000 where nothing is said, or as many places of the normal form: some seconds. F is
-the fuel of `ol`. Where `ol` doesn't end with status 0, its refusal stands in the column, or its status; where it takes
-more than a minute, it is ended, and `over 60 s` stands there.
-
-The programs are those that the variables OL and OL_BENCH name; else the proved ones, where they are there; else, of `ol`,
-the one on PATH; else the scripts at the top (tests/lib/which_ol.py).
+N terms are drawn at random, 1,000 by default, always the same. The last line is 'N passed, M failed'.
 """
-import os
 import random
-import subprocess
 
 import asking
 import counting
@@ -41,7 +21,6 @@ import summing
 import terms
 import which_ol
 
-MOST_SECONDS = 60
 # Of random terms: how many steps are counted by substitution, how large a term may become, and how far the machine goes.
 MOST_STEPS, MOST_SIZE, MOST_PLACES = 150, 600, 1_000
 MOST_MOVES = 100_000  # of the program's machine of call-by-need
@@ -102,7 +81,7 @@ class Machine:
                 else:
                     self.steps += 1
                     if self.steps > self.most:
-                        raise TooMany("")
+                        raise TooMany
                     term, environment = term[1], (closure, environment)
                     break
             else:
@@ -114,30 +93,13 @@ class Machine:
         while left:
             places += 1
             if places > self.most:
-                raise TooMany(" places")
+                raise TooMany
             term, environment, arguments = self.weak(left.pop())
             if term[0] == "abstraction":
                 fresh = Closure(None, None, (("name", "new"), None, ()))
                 left.append(Closure(term[1], (fresh, environment)))
             left += arguments[::-1]
         return self.steps
-
-
-def counted(term, by_need, most):
-    try:
-        return f"{Machine(by_need, most).normal(term):,}"
-    except TooMany as what:
-        return f"over {most:,}{what}"
-
-
-def betas(program, verb, fuel, text):
-    """The `beta` that `ol run` or `ol demand` prints; or its refusal; or its status, where it says nothing."""
-    try:
-        ran = which_ol.ran(program, [verb, "--fuel", fuel, "-"], text.encode(), timeout=MOST_SECONDS)
-    except subprocess.TimeoutExpired:
-        return f"over {MOST_SECONDS} s"
-    lines = ran.stdout.decode().split("\n")
-    return f"{int(lines[1].split()[1]):,}" if ran.returncode == 0 else lines[0] or f"status {ran.returncode}"
 
 
 class TooLarge(Exception):
@@ -272,20 +234,5 @@ def compare(program, count):
 
 def main(words):
     asked = asking.parser(__doc__)
-    asked.add_argument("--most", type=asking.positive, default=300_000, metavar="N", help="how many steps of the machine (300,000)")
-    asked.add_argument("--fuel", default="200000", metavar="F", help="the fuel of `ol` (200000)")
     asked.add_argument("--terms", type=asking.positive, default=1_000, metavar="N", help="how many random terms (1,000)")
-    asked.add_argument("names", nargs="*", metavar="NAME")
-    asked = asked.parse_args(words)
-    if not asked.names:
-        return compare(which_ol.found("ol-bench"), asked.terms)
-    program = which_ol.found()
-    texts = [terms.text_of(name) for name in asked.names]
-    print(f"{'term':24} {'demand':>12} {'run':>12} {'need':>12} {'leftmost':>14}")
-    for name, text in zip(asked.names, texts):
-        term = terms.read(text)
-        row = [betas(program, verb, asked.fuel, text) for verb in ("demand", "run")]
-        row += [counted(term, by_need, asked.most) for by_need in (True, False)]
-        short = os.path.basename(name)
-        print(f"{short:24} {row[0]:>12} {row[1]:>12} {row[2]:>12} {row[3]:>14}")
-    return 0
+    return compare(which_ol.found("ol-bench"), asked.parse_args(words).terms)

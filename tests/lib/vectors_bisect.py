@@ -1,6 +1,6 @@
 """Finds a line of a runtime's journal after which its net is wrong, and before which it is right, with `ol-bench after`.
 
-    tests/vectors/bisect [--translation T | --net] [--each] COMMAND NAME
+    tests/run vectors/bisect [--translation T | --net] [--each] COMMAND NAME
 
 NAME is a file with a term, or with --net a net file. The shell runs COMMAND, for at most a minute each time, with the
 net on standard input: as `ol view` shows it, or with --net the file itself. `COMMAND` writes a journal, in either form.

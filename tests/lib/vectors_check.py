@@ -1,89 +1,70 @@
-"""Runs `ol` on the terms of vectors-1.txt, vectors-2.txt and the lists beside them, and on nets.txt, and compares.
+"""Compares `ol`, or another runtime, with the recorded terms and nets of tests/vectors.
 
-    tests/vectors/check [--write]
-    tests/vectors/check [--runtime COMMAND] [--terms COMMAND] [--start COMMAND] [--translation T] [--every N]
+    tests/run vectors/check [--write]
+    tests/run vectors/check [--runtime COMMAND] [--terms COMMAND] [--start COMMAND] [--journals COMMAND] [--translation T] [--every N]
+    tests/run vectors/check --show NAME
 
-Each recorded start, run, end and walk has to be what `ol` prints today, by translation 1 of vectors-1.txt and by
-translation 2 of vectors-2.txt. Each recorded trace has to be complete by `ol check`, and so has the one of today. The
-lines of random-1.txt, random-2.txt and broken-3.txt have to be answered as answers-1.txt and answers-2.txt say; where
-both translations print a term, it is the same. `check --write` makes the answers. The last line is 'N passed, M
-failed'.
+Without a COMMAND each recorded answer has to be what `ol` prints today, each recorded trace and each of today complete by `ol check`, and
+each last net the recorded one up to the numbers of nodes. If both translations print a term, it has to be the same. A term that is refused
+by its syntax is tried once, since the parser comes before the translation. --write puts the answers of today into the files. --show writes
+the net of nets.txt with that name.
 
-The program is what the variable OL names; else the proved crates/ol/out/ol, where it is there; else `ol` on PATH; else
-the script `ol` at the top, whose line that its program isn't proved is left out (tests/lib/which_ol.py).
-
-Each net of nets.txt and each recorded start is given to `ol net -` as a net file; counts and net have to be those that
-are recorded, up to the numbers of nodes (same-net says how that is compared).
-
-With a COMMAND another runtime is tried, and no `ol` is called. The shell runs it for each case, with the case on
-standard input, for at most a minute; with --every N it is run for each Nth case. What COMMAND wrote stands first in what
-is told.
-
---runtime: COMMAND reads a net file, and writes what `ol net -` writes, or the last net alone, as a net file or as `ol
-view` shows one, with any numbers of nodes. Its status is 0. It may write before that, or alone, what `ol trace` writes:
-`ol trace 2`, and a line for each pair. Then there have to be as many lines of each rule as are recorded, and of a term's
-net as many of each rule and wave. All nets that are named above are tried.
-
---terms: COMMAND reads a term, and has the text and the status of `ol run -`. --start: COMMAND reads a term, and writes
-its net, as a net file or as `ol view` shows one, with any numbers of nodes; its status is 0. T is 2, or the translation
-that is named. Of vectors-T.txt all terms are tried; with --terms the lines of the three lists too, but for those that
-need more than 2,000 interactions.
+A COMMAND is run by the shell for each case, with the case on standard input, for at most a minute; with --every N for each Nth case.
+tests/vectors/README.md says what it reads and writes: --runtime a net and its last net, --terms a term and what `ol run -` prints, --start a
+term and its net, --journals a net and a journal, which `ol check` looks at. The last line is 'N passed, M failed'.
 """
 import collections
 import hashlib
 import itertools
 import os
-import tempfile
+import sys
 
 import asking
 import netfiles
 import progress
+import random_terms
 import runtimes
 import summing
 import which_ol
 
+SYNTAX = 2
+LISTS = ("random-1.txt", "random-2.txt", "broken-3.txt")
+# The sections of a term that have to be what `ol` prints today, and the words of its command.
+TODAY = {"start": ["view"], "run": ["run", "--fuel", "200"], "end": ["view", "--after", "2000000"], "walk": ["walk"]}
+
 
 def records(translation):
-    """Each record of the vectors by that translation, with the words that name it."""
-    for record in netfiles.sections(f"vectors-{translation}.txt", "term"):
-        yield record, ["--translation", translation]
+    return netfiles.sections(f"vectors-{translation}.txt", "term")
 
 
-def faults(program, case):
-    """What isn't as it is recorded."""
-    record, by = case
-    term = record["term"][1].rstrip("\n")
+def term_of(record):
+    return record["term"][1].rstrip("\n")
 
-    def answer(words, given):
-        return which_ol.answer(program, [words[0], *by, *words[1:]], given)
 
-    for name, words in (("start", ["view"]), ("run", ["run", "--fuel", "200"]), ("end", ["view", "--after", "2000000"]), ("walk", ["walk"])):
-        if answer([*words, "-"], term) != record[name]:
-            yield f"{term}: {name} {by[1]}"
-    with tempfile.NamedTemporaryFile("w", suffix=".lam") as file:
-        file.write(term)
-        file.flush()
-        for text in (record["trace"][1], answer(["trace", file.name], "")[1]):
-            if answer(["check", file.name, "-"], text) != (0, "complete\n"):
-                yield f"{term}: trace {by[1]}"
+def lines_of(name):
+    with open(os.path.join(netfiles.HERE, name), encoding="utf-8") as file:
+        return file.read().splitlines()
+
+
+def write(name, text):
+    with open(os.path.join(netfiles.HERE, name), "w", encoding="utf-8") as file:
+        file.write(text)
 
 
 def nets():
-    """Each recorded net, as its name, its text, its last net with the counts, and how often each rule stands in each
-    wave, or None."""
+    """Each recorded net, as its name, its text, its last net with the counts, and how often each rule occurs in each wave, or None."""
     for translation in ("1", "2"):
-        for record, _ in records(translation):
+        for record in records(translation):
             lines = record["run"][1].splitlines(True)[1:]
             last = netfiles.read(record["end"][1])._replace(counts="".join(lines).splitlines())
-            named = f"{record['term'][1].rstrip()}, translation {translation}"
             waves = counted(record["trace"][1].splitlines()[1:], 2)
-            yield named, netfiles.write(netfiles.read(record["start"][1])), last, waves
+            yield f"{term_of(record)}, translation {translation}", netfiles.write(netfiles.read(record["start"][1])), last, waves
     for record in netfiles.sections("nets.txt", "shows"):
         yield record["shows"][1].rstrip(), record["net"][1], netfiles.read(record["last"][1]), None
 
 
 def counted(lines, words):
-    """How often each beginning of so many words stands in the lines."""
+    """How often each beginning of so many words occurs in the lines."""
     return collections.Counter(" ".join(line.split()[:words]) for line in lines)
 
 
@@ -105,45 +86,66 @@ def difference(text, last, waves):
 
 
 def net_fault(command, case):
-    """What is wrong with the net that the command makes of a net, or None."""
+    """What is wrong with the last net that the command makes of a net, or None."""
     named, given, last, waves = case
+    return fault_of(named, lambda: difference(runtimes.ended(command, given), last, waves))
+
+
+def start_fault(command, record):
+    """What is wrong with the net that the command makes of a term, or None."""
+    start = netfiles.read(record["start"][1])
+    return fault_of(term_of(record), lambda: netfiles.difference(netfiles.read(runtimes.ended(command, term_of(record))), start))
+
+
+def fault_of(named, difference_of):
     try:
-        apart = difference(runtimes.ended(command, given), last, waves)
+        apart = difference_of()
     except ValueError as fault:
         return f"{named}: {fault}"
     return f"{named}: different at {apart}" if apart else None
 
 
-def try_nets(command, every=1):
-    """What is wrong with each net, or None."""
-    return progress.in_pool(lambda case: net_fault(command, case), list(nets())[::every])
+def journal_fault(program, command, case):
+    """What is wrong with the journal that the command writes of a term's net, by `ol check`, or None. Where the command doesn't end within
+    a minute, what it wrote until then is given to `ol check`."""
+    translation, record = case
+    status, journal = runtimes.ran(command, record["start"][1])
+    with random_terms.in_file(term_of(record)) as file:
+        said = which_ol.answer(program, ["check", "--translation", translation, file, "-"], journal)[1].rstrip("\n")
+    said = f"{runtimes.NO_END}: {said}" if status is None else said
+    return None if said == "complete" else f"{term_of(record)}, translation {translation}: {said}"
 
 
-def start_fault(command, record):
-    """What is wrong with the net that the command makes of a term, or None."""
-    term = record["term"][1].rstrip("\n")
-    try:
-        apart = netfiles.difference(netfiles.read(runtimes.ended(command, term)), netfiles.read(record["start"][1]))
-    except ValueError as fault:
-        return f"{term}: {fault}"
-    return f"{term}: different at {apart}" if apart else None
+def inputs():
+    """Each term of the lists, with its place."""
+    for name in LISTS:
+        for k, term in enumerate(lines_of(name)):
+            yield f"{name}:{k + 1}", term
 
 
-def try_starts(command, translation, every):
-    """What is wrong with the net of each term, or None."""
-    return progress.in_pool(lambda case: start_fault(command, case[0]), list(records(translation))[::every])
+def in_short(status, text):
+    """The status, a digest of the whole text, and its first line where that is short."""
+    first = text.split("\n")[0]
+    return f"{status} {hashlib.sha256(text.encode()).hexdigest()[:16]} {first if len(first) <= 40 else '-'}"
+
+
+def recorded(translation):
+    """The recorded answers in short, by the places of the terms. The second file has only those that differ from the first."""
+    found = {}
+    for name in ("answers-1.txt", "answers-2.txt")[:int(translation)]:
+        found.update(line.split(" ", 1) for line in lines_of(name))
+    return found
 
 
 def recorded_runs(translation):
-    """Each term whose run is recorded, but for those that the fuel ends: its name, its text, the answer in short, and its whole text,
-    where that is recorded, or an empty one."""
-    for record, _ in records(translation):
-        term, (status, text) = record["term"][1].rstrip("\n"), record["run"]
-        yield term, term, in_short(status, text), text
-    for (place, term), line in zip(inputs(), lines_of(f"answers-{translation}.txt")):
-        answer = line.split(" ", 1)[1]
-        if not answer.startswith("3 "):
-            yield f"{place}: {term}", term, answer, ""
+    """Each term whose run is recorded, except those that the fuel ends: its name, its text, the answer in short, and its whole text, where
+    that is recorded, or an empty one."""
+    for record in records(translation):
+        yield term_of(record), term_of(record), in_short(*record["run"]), record["run"][1]
+    answers = recorded(translation)
+    for place, term in inputs():
+        if not answers[place].startswith("3 "):
+            yield f"{place}: {term}", term, answers[place], ""
 
 
 def run_fault(command, case):
@@ -158,85 +160,111 @@ def run_fault(command, case):
     return "{}: different at `{}` and `{}`".format(named, *(apart or [(told, wanted)])[0])
 
 
-def try_terms(command, translation, every):
-    """What is wrong with the run of each term, or None."""
-    return progress.in_pool(lambda case: run_fault(command, case), list(recorded_runs(translation))[::every])
+def today(program, translation, words, term):
+    return which_ol.answer(program, [words[0], "--translation", translation, *words[1:], "-"], term)
 
 
-def lines_of(name):
-    with open(os.path.join(netfiles.HERE, name), encoding="utf-8") as file:
-        return file.read().splitlines()
+def record_faults(program, case):
+    """What isn't as it is recorded of a term."""
+    translation, record = case
+    term = term_of(record)
+    for name, words in TODAY.items():
+        if today(program, translation, words, term) != record[name]:
+            yield f"{term}: {name} {translation}"
+    with random_terms.in_file(term) as file:
+        for text in (record["trace"][1], today(program, translation, ["trace"], term)[1]):
+            if which_ol.answer(program, ["check", "--translation", translation, file, "-"], text) != (0, "complete\n"):
+                yield f"{term}: trace {translation}"
 
 
-def inputs():
-    """Each term of the lists, with its place."""
-    for name in ("random-1.txt", "random-2.txt", "broken-3.txt"):
-        for k, term in enumerate(lines_of(name)):
-            yield f"{name}:{k + 1}", term
+def answers_of(program, term):
+    """The answers to a term by both translations: the second is None where the first refuses the syntax."""
+    first = today(program, "1", ["run", "--fuel", "2000"], term)
+    return first, None if first[0] == SYNTAX else today(program, "2", ["run", "--fuel", "2000"], term)
 
 
-def in_short(status, text):
-    """The status, a digest of the whole text, and its first line where that is short."""
-    first = text.split("\n")[0]
-    return f"{status} {hashlib.sha256(text.encode()).hexdigest()[:16]} {first if len(first) <= 40 else '-'}"
+def try_lists(program, has_to_write):
+    """What is wrong with each answer to the terms of the lists, or None."""
+    cases = list(inputs())
+    found = progress.in_pool(lambda case: answers_of(program, case[1]), cases)
+    if has_to_write:
+        rows = [(f"{place} {in_short(*one)}\n", f"{place} {in_short(*(other or one))}\n") for (place, _), (one, other) in zip(cases, found)]
+        write("answers-1.txt", "".join(one for one, _ in rows))
+        write("answers-2.txt", "".join(other for one, other in rows if one != other))
+    wanted = {translation: recorded(translation) for translation in ("1", "2")}
+    for (place, _), (one, other) in zip(cases, found):
+        for translation, answer in (("1", one), ("2", other)):
+            if answer:
+                right = wanted[translation].get(place, "no line")
+                yield None if in_short(*answer) == right else f"{place}, translation {translation}: {in_short(*answer)}\n  wanted {right}"
+        terms = [text.split("\n")[0] for status, text in filter(None, (one, other)) if status == 0]
+        if len(set(terms)) > 1:
+            yield f"{place}: {terms[0]}\n  by translation 2 {terms[1]}"
 
 
-def short(program, case):
-    """Two lines that tell the answers by both translations in short. And the statuses and first lines."""
-    place, term = case
-    told, first_lines = [], []
+def write_records(program):
+    """Puts the answers of today into the records in which an answer is another."""
     for translation in ("1", "2"):
-        status, text = which_ol.answer(program, ["run", "--translation", translation, "--fuel", "2000", "-"], term)
-        told.append(f"{place} {in_short(status, text)}")
-        first_lines.append((status, text.split("\n")[0]))
-    return told, first_lines
+        found = list(records(translation))
+        for record in found:
+            if any(record_faults(program, (translation, record))):
+                made = {**TODAY, "trace": ["trace", "--workers", "1"]}
+                record.update((name, today(program, translation, words, term_of(record))) for name, words in made.items())
+        write(f"vectors-{translation}.txt", netfiles.written(found))
+    found = list(netfiles.sections("nets.txt", "shows"))
+    for record in found:
+        if net_fault([program, "net", "-"], ("", record["net"][1], netfiles.read(record["last"][1]), None)):
+            record["last"] = which_ol.answer(program, ["net", "--fuel", "200", "-"], record["net"][1])
+    write("nets.txt", netfiles.written(found))
 
 
-def compared(name, answers, write):
-    """What is wrong with each of the answers of today, by a file of answers, or None."""
-    if write:
-        with open(os.path.join(netfiles.HERE, name), "w", encoding="utf-8") as file:
-            file.write("\n".join(answers) + "\n")
-    wanted = lines_of(name)
-    if len(wanted) != len(answers):
-        return [f"{name} has {len(wanted)} lines, and there are {len(answers)} answers"]
-    return [None if one == other else f"{name}: {one}\n  wanted {other}" for one, other in zip(answers, wanted)]
-
-
-def try_program(write):
+def try_program(has_to_write):
     """What is wrong with each answer of `ol`, or None."""
     program = which_ol.found()
-    told = try_nets([program, "net", "-"])
-    answers = progress.in_pool(lambda case: short(program, case), list(inputs()))
-    for k in (0, 1):
-        told += compared(f"answers-{k + 1}.txt", [lines[k] for lines, _ in answers], write)
-    for lines, (one, other) in answers:
-        if one[0] == other[0] == 0 and one[1] != other[1]:
-            told.append(f"{lines[0]}\n  by translation 2 {lines[1]}")
-    cases = [*records("1"), *records("2")]
-    return told + ["\n".join(lines) for lines in progress.in_pool(lambda case: list(faults(program, case)), cases)]
+    if has_to_write:
+        write_records(program)
+    told = progress.in_pool(lambda case: net_fault([program, "net", "-"], case), list(nets()))
+    told += try_lists(program, has_to_write)
+    cases = [(translation, record) for translation in ("1", "2") for record in records(translation)]
+    return told + ["\n".join(lines) for lines in progress.in_pool(lambda case: list(record_faults(program, case)), cases)]
 
 
 def try_runtime(asked):
     """What is wrong with each answer of another runtime, or None."""
-    told = try_starts(asked.start, asked.translation, asked.every) if asked.start else []
-    told += try_terms(asked.terms, asked.translation, asked.every) if asked.terms else []
-    return told + (try_nets(asked.runtime, asked.every) if asked.runtime else [])
+    both = [(translation, record) for translation in ("1", "2") for record in records(translation)] if asked.journals else []
+    program = which_ol.found() if asked.journals else None
+    tries = [(asked.start, start_fault, records(asked.translation)), (asked.terms, run_fault, recorded_runs(asked.translation)),
+             (asked.runtime, net_fault, nets()), (asked.journals, lambda command, case: journal_fault(program, command, case), both)]
+    told = []
+    for command, fault, cases in tries:
+        if command:
+            told += progress.in_pool(lambda case: fault(command, case), list(cases)[::asked.every])
+    return told
+
+
+def show(name):
+    for found in netfiles.sections("nets.txt", "shows"):
+        if found["shows"][1] == name + "\n":
+            sys.stdout.write(found["net"][1])
+            return 0
+    print(f"no net of nets.txt shows: {name}", file=sys.stderr)
+    return 1
 
 
 def main(words):
     asked = asking.parser(__doc__)
-    asked.add_argument("--write", action="store_true", help="make the answers")
-    asked.add_argument("--runtime", metavar="COMMAND", help="try a runtime on the nets")
-    asked.add_argument("--terms", metavar="COMMAND", help="try a runtime on the terms: what it writes of each")
-    asked.add_argument("--start", metavar="COMMAND", help="try a runtime on the terms: its net of each")
+    asked.add_argument("--write", action="store_true", help="put the answers of today into the files")
+    asked.add_argument("--show", metavar="NAME", help="write a net of nets.txt")
+    for name, what in (("runtime", "its last net of each net"), ("terms", "what it prints of each term"), ("start", "its net of each term"),
+                       ("journals", "its journal of each term's net")):
+        asked.add_argument("--" + name, metavar="COMMAND", help=f"try a runtime: {what}")
     asked.add_argument("--translation", metavar="T", choices=["1", "2"], default="2", help="of --terms and --start (2)")
     asked.add_argument("--every", metavar="N", type=asking.positive, default=1, help="try a runtime on each Nth case (1)")
     asked = asked.parse_args(words)
+    if asked.show is not None:
+        return show(asked.show)
     try:
-        told = try_runtime(asked) if asked.runtime or asked.terms or asked.start else try_program(asked.write)
+        told = try_runtime(asked) if asked.runtime or asked.terms or asked.start or asked.journals else try_program(asked.write)
     except ValueError as fault:
         told = [f"a recorded file is in no format that is known: {fault}"]
-    bad = [lines for lines in told if lines]
-    print("".join(lines + "\n" for lines in bad), end="")
-    return summing.told(summing.Sum(len(told) - len(bad), len(bad)))
+    return summing.told_each(told)

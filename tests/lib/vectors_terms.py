@@ -1,7 +1,7 @@
 """Writes random terms, one a line.
 
-    tests/vectors/terms SEED COUNT SIZE          terms of 1 to SIZE nodes
-    tests/vectors/terms --broken SEED COUNT SIZE the same, each with one byte taken out, put in or changed
+    tests/run vectors/terms SEED COUNT SIZE          terms of 1 to SIZE nodes
+    tests/run vectors/terms --broken SEED COUNT SIZE the same, each with one byte taken out, put in or changed
 
 The numbers come from x := (6364136223846793005 x + 1442695040888963407) mod 2^64, beginning with x = SEED; a number below n
 is the integer part of x / 2^33, mod n, after one such step. So any language can make the same terms.

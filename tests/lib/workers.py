@@ -1,6 +1,6 @@
 """Runs ten small terms again and again with 2 to 64 workers: each run has to write what one worker writes.
 
-    tests/workers [--program PATH] [--runs N] [--jobs N]
+    tests/run workers [--program PATH] [--runs N] [--jobs N]
 
 The program is what --program or the variable OL names; else the proved crates/ol/out/ol, where it is there; else `ol` on PATH; else the
 script `ol` at the top. By default

@@ -122,14 +122,6 @@ def write(net):
     return "".join(text + [f"link {word[one]} {word[other]}\n" for one, other in links])
 
 
-def write_view(net, steps):
-    """What `ol view` shows of the net after so many steps, with the numbers that the nodes have."""
-    lines = [f"step {steps}", f"nodes {len(net.nodes)}"] + [f"f{k} {name(net.linked['f', k])}" for k in range(net.free)]
-    for n, (kind, index) in sorted(net.nodes.items()):
-        lines.append(" ".join([str(n), kind, index, *(name(net.linked[n, s]) for s in range(SLOTS[kind]))]))
-    return "".join(line + "\n" for line in lines)
-
-
 def facing(net):
     """The pairs of nodes whose slots 0 are joined, the smaller number first."""
     ahead = [(n, net.linked[n, 0]) for n in sorted(net.nodes)]
@@ -169,9 +161,9 @@ def changed(net, numbers):
     return net._replace(linked={**net.linked, p: r, r: p, q: s, s: q})
 
 
-def section(name, status, text):
-    """A section of a record, as `sections` reads it."""
-    return f"{name} {status} {text.count(chr(10))}\n{text}"
+def written(records):
+    """The text of a file of records, as `sections` reads it."""
+    return "".join(f"{name} {status} {text.count(chr(10))}\n{text}" for record in records for name, (status, text) in record.items())
 
 
 def told(net, number):
