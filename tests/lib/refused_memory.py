@@ -23,15 +23,10 @@ import tempfile
 import asking
 import summing
 import which_ol
+from hostile import USAGE, counted, lines_of
 
-NAMES = "beta fan croissant bracket cross-fan cross-croissant cross-bracket erase stuck".split()
 TRACE = "ol trace 2\nbeta 1 0 1\ncross-croissant 2 2 3\ncross-croissant 3 4 1.1\ncroissant 4 1.0 2.0\n"
 NET = "ol net 1\nfree 2\nnode lam 0\nnode app 0\nnode croissant 0\nlink f0 0.0\nlink f1 2.0\nlink 0.1 1.1\nlink 0.2 1.2\nlink 1.0 2.1\n"
-
-
-def counted(term, counts):
-    """Returns what `run` writes of a term and nine counts."""
-    return f"{term}\n" + "".join(f"{name} {count}\n" for name, count in zip(NAMES, counts))
 
 
 # Each command: its words, what it reads from standard input, the text that it is to write, and its status.
@@ -51,12 +46,12 @@ COMMANDS = [
     (["demand", "-"], r"(\x y. x) (\z. z) ((\x. x x) (\x. x x))", counted(r"\a. a", [2, 0, 1, 0, 0, 2, 0, 0, 0]), 0),
     (["certify", "-"], r"(\x. x x) (\y. y)", "agreed\nsteps 2\n.\n.\n", 0),
     (["net", "--from-term", "-"], r"\x. f x", NET, 0),
-    (["net", "-"], NET, "".join(f"{name} 0\n" for name in NAMES) + NET, 0),
+    (["net", "-"], NET, lines_of() + NET, 0),
     (["equal", "term", "-"], r"\z. z", "equal\n", 0),
     (["run", "-"], "x $ y", "syntax at byte 2\n", 2),
     (["run", "-"], r"\x. " * 1000 + "x", "limit depth 1000\n", 7),
     (["run", "no such file"], "", "read fault\n", 4),
-    (["run", "a", "b"], "", "usage: ol run|walk|view|trace|check|gen|demand|certify|net|equal [options] NAME\n", 1),
+    (["run", "a", "b"], "", USAGE, 1),
     (["gen", "--run", "10"], "", counted(r"\a. a", [3071, 1024, 3071, 0, 2048, 6142, 0, 0, 0]), 0),
 ]
 

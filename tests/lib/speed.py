@@ -1,19 +1,11 @@
-"""How long the program takes, and how much memory: the tables of docs/runtimes/PERFORMANCE.md.
+"""How long the program takes, and how much memory: the tables of docs/runtimes/PERFORMANCE.md, of `run` and of `demand`.
 
-    tests/run speed [--program PATH] [--beside PATH] [--times N] [--of run|demand] [--processor]
+    tests/run speed [--program PATH] [--times N] [--of run|demand] [--processor]
 
-Each row is one whole command. The program is run N times (7), and the least of its seconds by the clock is printed with its peak
-of memory. With --beside, or where the variable BESIDE names one, another program that takes the same words is run in turn with it,
-so that other work of the machine falls on both; the last column is how many times as long the first one takes. The two have
-to write the same bytes and end with the same status, and so has each run of a row: else the script says so. The last line is
-'N passed, M failed', of the rows.
-
-There are two tables: of `run`, and of `demand`. Rows of `demand` have besides how many interactions the answer counts, so that
-one sees whether time grows as they do. With --of run or --of demand there is one table alone. With --processor the seconds are
-those of the processors, user and system: worth more where the machine does other work too.
-
-The program is found as tests/lib/which_ol.py says it, and run as the script `ol` runs it, with large pages. It says how busy the
-machine is: figures are worth something on one that does nothing else.
+Each row is one whole command. The program is run N times (7), with large pages as the script `ol` runs it, and the least of its seconds by
+the clock is printed with its peak of memory. Rows of `demand` also have how many interactions the answer counts. Each run of a row has to
+write the same bytes and end with the same status. With --processor the seconds are those of the processors, user and system: worth more where
+the machine does other work too. The last line is 'N passed, M failed', of the rows.
 """
 import datetime
 import os
@@ -118,37 +110,20 @@ def megabytes(peak):
     return f"{peak:.0f}" if peak > least + 1 else f"at most {least + 1:.0f}"
 
 
-def best(runs):
-    """The least of the seconds, and the greatest of the peaks."""
-    return min(run[0] for run in runs), max(run[1] for run in runs)
-
-
-def print_table(verb, rows, chosen, program, beside, folder):
+def print_table(verb, rows, chosen, program, folder):
     """Prints the table of these rows. The names of those in which answers differ are handed back."""
-    tuned = dict(os.environ)
-    tuned.setdefault("GLIBC_TUNABLES", "glibc.malloc.hugetlb=1")
+    tuned = {"GLIBC_TUNABLES": "glibc.malloc.hugetlb=1", **os.environ}
     counts = verb == "demand"
-    print(f"| `{verb}` |" + (" interactions |" if counts else "") + " seconds | memory, MB |"
-          + (" beside: seconds | memory, MB | times |" if beside else ""))
-    print("|---|" + ("---|" if counts else "") + "---|---|" + ("---|---|---|" if beside else ""))
+    print(f"| `{verb}` |{' interactions |' * counts} seconds | memory, MB |\n|---|{'---|' * counts}---|---|")
     differ = []
     for what, name, options in rows:
         path = os.path.join(folder, name.replace(" ", "_") + ".lam")
         with open(path, "w", encoding="ascii") as file:
             file.write(term(name))
-        words = [verb, *options.split(), path]
-        own, other = [], []
-        for _ in range(chosen.times):
-            own.append(measured(program, words, tuned, chosen.processor))
-            if beside:
-                other.append(measured(beside, words, os.environ, chosen.processor))
-        seconds, peak = best(own)
-        row = f"| {what} |" + (f" {interactions(own[0][2][1]):,} |" if counts else "") + f" {seconds:.3f} | {megabytes(peak)} |"
-        if beside:
-            theirs, their_peak = best(other)
-            row += f" {theirs:.3f} | {megabytes(their_peak)} | {seconds / theirs:.2f} |"
-        print(row, flush=True)
-        if len({run[2] for run in own + other}) > 1:
+        runs = [measured(program, [verb, *options.split(), path], tuned, chosen.processor) for _ in range(chosen.times)]
+        row = f"| {what} |" + (f" {interactions(runs[0][2][1]):,} |" if counts else "")
+        print(f"{row} {min(run[0] for run in runs):.3f} | {megabytes(max(run[1] for run in runs))} |", flush=True)
+        if len({run[2] for run in runs}) > 1:
             differ.append(what)
     print()
     return differ
@@ -157,7 +132,6 @@ def print_table(verb, rows, chosen, program, beside, folder):
 def words_of(words):
     asked = asking.parser(__doc__)
     asked.add_argument("--program", metavar="PATH", help="the program, where it isn't the one that is found")
-    asked.add_argument("--beside", metavar="PATH", default=os.environ.get("BESIDE"), help="another program that takes the same words")
     asked.add_argument("--times", type=asking.positive, default=7, metavar="N", help="how often each command is run (7)")
     asked.add_argument("--of", choices=("run", "demand"), help="the table of this command alone")
     asked.add_argument("--processor", action="store_true", help="seconds of the processors, not by the clock")
@@ -167,8 +141,6 @@ def words_of(words):
 def main(words):
     chosen = words_of(words)
     program = which_ol.found(named=chosen.program)
-    beside = chosen.beside and which_ol.found(named=chosen.beside)
-
     load = os.getloadavg()[0]
     kind = ", seconds of the processors" if chosen.processor else ""
     print(f"{datetime.date.today()}, {os.cpu_count()} processors, load {load:.1f} when it began, the least of {chosen.times}{kind}\n")
@@ -176,7 +148,7 @@ def main(words):
     with tempfile.TemporaryDirectory() as folder:
         for verb, rows in (("run", RUNS), ("demand", DEMANDS)):
             if chosen.of in (None, verb):
-                differ += print_table(verb, rows, chosen, program, beside, folder)
+                differ += print_table(verb, rows, chosen, program, folder)
                 count += len(rows)
     for what in differ:
         print(f"answers differ: {what}")
