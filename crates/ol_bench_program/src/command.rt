@@ -2,7 +2,6 @@
 
 use crate::help;
 use crate::rows::{Form, Row, VERBS, Value, Verb, verb_at};
-use clap::error::ErrorKind;
 use clap::{Arg, ArgAction, ArgMatches, Command, Error};
 use std::alloc::{AllocError, Global};
 
@@ -106,10 +105,4 @@ pub(crate) fn matches_of<'a>(
     words: &'a Vec<String>,
 ) -> Result<ArgMatches<'a>, Error> {
     command(alloc)?.try_get_matches_from(words.as_slice())
-}
-
-/// The error of words without a command. clap finds it before anything else, because each command
-/// line has to have a command.
-pub(crate) fn no_command(alloc: Global) -> Result<Error, AllocError> {
-    program(alloc)?.error(ErrorKind::MissingSubcommand, "there is no command")
 }

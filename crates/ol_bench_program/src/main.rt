@@ -6,10 +6,7 @@
 //! - `help`: what the help has below the arguments
 #![tactic(auto)]
 
-ghost use Rattle.std.specs.Prelude.{ℕ, List, [], Option};
-ghost use Rattle.ol_io.specs.Readings.{AreOfSince};
-ghost use Rattle.ol_bench.specs.Commands.{IsCause, IsWithinBounds};
-ghost use Rattle.ol_bench.specs.Writing.{WritesAnswer, first_change};
+ghost use Rattle.ol_bench.specs.Commands.{IsWithinBounds};
 
 mod command;
 mod help;
@@ -18,11 +15,9 @@ mod words;
 
 use clap::Error;
 use ol_bench::{Asked, Status, bench};
-use ol_io::{Sink, Source, StdSink, StdSource, WriterSink};
-use std::alloc::Global;
-use std::io::{ErrorKind, Write};
+use ol_io::{StdSink, StdSource, WriterSink};
+use std::io::ErrorKind;
 use std::process::ExitCode;
-use std::rt::Files;
 use words::asked_by;
 
 /// The exit status of words that ask for nothing.
@@ -31,52 +26,14 @@ const WRONG_WORDS: u8 = 2;
 /// The exit status where memory ran out.
 const NO_MEMORY: u8 = 6;
 
-/// How the call ended, and the adapters, which tell what passed through them.
-#[derive(Drop)]
-struct Passed<'a, R: Files + Input + Print, E: Write + Drop> {
-    status: Status,
-    src: StdSource<'a, R>,
-    out: StdSink<'a, R>,
-    errors: WriterSink<E>,
-}
-
-// What is asked, done over the files of the system, standard output and a writer of errors.
-fn run<'a, R: Files + Input + Print, E: Write + Drop>(
-    rt: &'a R,
-    alloc: Global,
-    asked: &Asked,
-    errors: E,
-) -> Passed<'a, R, E>
+// What is asked, done over the files of the system.
+fn run(rt: &HostRuntime, asked: &Asked) -> Status
     requires bounds { IsWithinBounds asked.now }
-
-    // The text is the answer to the files, or the line that refuses them. Standard output or the
-    // writer of errors, to which it goes, accepted the whole of it, and the status says how the
-    // command ended; or a prefix of it, and failed. The other accepted nothing. This holds of any
-    // files that the readings of this call are of.
-    ensures answered { (files : ℕ → List ℕ → Option (List ℕ))
-        → AreOfSince files [] (⟦<StdSource<'a, R> as Source>⟧.readings result.src)
-        → WritesAnswer
-        (IsCause asked.now files 0 (⟦<StdSource<'a, R> as Source>⟧.faults result.src))
-        (first_change (⟦<StdSink<'a, R> as Sink>⟧.faults result.out)
-        (⟦<StdSink<'a, R> as Sink>⟧.taken result.out))
-        (first_change (⟦<WriterSink<E> as Sink>⟧.faults result.errors)
-        (⟦<WriterSink<E> as Sink>⟧.taken result.errors))
-        result.status }
-
-    // There are files that its readings are of.
-    ensures told { (files : ℕ → List ℕ → Option (List ℕ))
-        × AreOfSince files [] (⟦<StdSource<'a, R> as Source>⟧.readings result.src) }
 {
     let mut src = StdSource::new(rt);
     let mut out = StdSink::new(rt);
-    let mut errors = WriterSink::new(errors);
-    let status = bench(alloc, asked, &mut src, &mut out, &mut errors);
-    Passed {
-        status,
-        src,
-        out,
-        errors,
-    }
+    let mut errors = WriterSink::new(rt.stderr());
+    bench(rt.alloc(), asked, &mut src, &mut out, &mut errors)
 }
 
 // The exit status of words that clap refuses, or of which help is asked.
@@ -104,10 +61,7 @@ fn main(rt: HostRuntime) -> ExitCode {
         return ExitCode::from(NO_MEMORY);
     };
     match asked_by(rt.alloc(), &words) {
-        Ok(asked) => {
-            let passed = run(&rt, rt.alloc(), &asked, rt.stderr());
-            ExitCode::from(passed.status.number())
-        }
+        Ok(asked) => ExitCode::from(run(&rt, &asked).number()),
         Err(error) => ExitCode::from(refused(&rt, &error)),
     }
 }

@@ -509,44 +509,9 @@ static GRADE_ROWS: [Row; 6] = [
     },
 ];
 
-/// The commands on one file.
-#[derive(Clone, Copy)]
-pub(crate) enum ActionOnOne {
-    Journal,
-    Steps,
-    Counts,
-    Where,
-    Derivation,
-    Free,
-    Waves,
-    Story,
-    Show,
-    Tree,
-}
-
-/// The commands on two files.
-#[derive(Clone, Copy)]
-pub(crate) enum ActionOnTwo {
-    Check,
-    Explain,
-    After,
-    Same,
-}
-
-/// The commands.
-#[derive(Clone, Copy)]
-pub(crate) enum Action {
-    OnOne(ActionOnOne),
-    OnTwo(ActionOnTwo),
-    Walk,
-    Grade,
-}
-
-/// The name of a command, and what the help says of the command.
+/// A command.
 #[derive(Clone, Copy)]
 pub(crate) struct Verb {
-    /// The command.
-    pub(crate) action: Action,
     /// How it is written.
     pub(crate) word: &'static str,
     /// What the help says of it.
@@ -562,7 +527,6 @@ pub(crate) const VERBS: u32 = 16;
 
 fn journal() -> Verb {
     Verb {
-        action: Action::OnOne(ActionOnOne::Journal),
         word: "journal",
         about: "The trace of a reduction in one of three orders",
         below: help::JOURNAL,
@@ -572,7 +536,6 @@ fn journal() -> Verb {
 
 fn check() -> Verb {
     Verb {
-        action: Action::OnTwo(ActionOnTwo::Check),
         word: "check",
         about: "The verdict of `ol check` on a trace, with an exit status for each verdict",
         below: help::CHECK,
@@ -582,7 +545,6 @@ fn check() -> Verb {
 
 fn explain() -> Verb {
     Verb {
-        action: Action::OnTwo(ActionOnTwo::Explain),
         word: "explain",
         about: "The verdict of `ol check` on a trace, and the reason",
         below: help::EXPLAIN,
@@ -592,7 +554,6 @@ fn explain() -> Verb {
 
 fn after() -> Verb {
     Verb {
-        action: Action::OnTwo(ActionOnTwo::After),
         word: "after",
         about: "The net after the first lines of a trace, with the names of the trace",
         below: help::AFTER,
@@ -602,7 +563,6 @@ fn after() -> Verb {
 
 fn steps() -> Verb {
     Verb {
-        action: Action::OnOne(ActionOnOne::Steps),
         word: "steps",
         about: "A reduction term by term, with the address of each redex",
         below: help::STEPS,
@@ -612,7 +572,6 @@ fn steps() -> Verb {
 
 fn counts() -> Verb {
     Verb {
-        action: Action::OnOne(ActionOnOne::Counts),
         word: "counts",
         about: "What a term costs by several strategies, a column for each",
         below: help::COUNTS,
@@ -622,7 +581,6 @@ fn counts() -> Verb {
 
 fn same() -> Verb {
     Verb {
-        action: Action::OnTwo(ActionOnTwo::Same),
         word: "same",
         about: "Whether two nets are equal up to the numbers of nodes, or where they differ",
         below: help::SAME,
@@ -632,7 +590,6 @@ fn same() -> Verb {
 
 fn places() -> Verb {
     Verb {
-        action: Action::OnOne(ActionOnOne::Where),
         word: "where",
         about: "Line and column of a byte, or of the first syntax error, with a caret",
         below: help::WHERE,
@@ -642,7 +599,6 @@ fn places() -> Verb {
 
 fn derivation() -> Verb {
     Verb {
-        action: Action::OnOne(ActionOnOne::Derivation),
         word: "derivation",
         about: "Whether each term of a derivation follows from the term before by one beta step",
         below: help::DERIVATION,
@@ -652,7 +608,6 @@ fn derivation() -> Verb {
 
 fn free() -> Verb {
     Verb {
-        action: Action::OnOne(ActionOnOne::Free),
         word: "free",
         about: "The free names of a term, with line and column",
         below: help::FREE,
@@ -662,7 +617,6 @@ fn free() -> Verb {
 
 fn waves() -> Verb {
     Verb {
-        action: Action::OnOne(ActionOnOne::Waves),
         word: "waves",
         about: "How many interactions each wave of a reduction has, by rule",
         below: help::WAVES,
@@ -672,7 +626,6 @@ fn waves() -> Verb {
 
 fn story() -> Verb {
     Verb {
-        action: Action::OnOne(ActionOnOne::Story),
         word: "story",
         about: "A reduction step by step: its nodes, the nodes that are created, the pairs that are left",
         below: help::STORY,
@@ -682,7 +635,6 @@ fn story() -> Verb {
 
 fn show() -> Verb {
     Verb {
-        action: Action::OnOne(ActionOnOne::Show),
         word: "show",
         about: "The normal form of a term, and the numerals, booleans, pairs and lists that it encodes",
         below: help::SHOW,
@@ -692,7 +644,6 @@ fn show() -> Verb {
 
 fn tree() -> Verb {
     Verb {
-        action: Action::OnOne(ActionOnOne::Tree),
         word: "tree",
         about: "The Böhm tree of a term down to a depth",
         below: help::TREE,
@@ -702,7 +653,6 @@ fn tree() -> Verb {
 
 fn walk() -> Verb {
     Verb {
-        action: Action::Walk,
         word: "walk",
         about: "The paths by which `ol walk` reads a subterm, crossing by crossing",
         below: help::WALK,
@@ -712,7 +662,6 @@ fn walk() -> Verb {
 
 fn grade() -> Verb {
     Verb {
-        action: Action::Grade,
         word: "grade",
         about: "Whether students' functions agree with a solution on some inputs",
         below: help::GRADE,
@@ -740,15 +689,4 @@ pub(crate) fn verb_at(number: u32) -> Verb {
         14 => walk(),
         _ => grade(),
     }
-}
-
-/// The command that is written so, if there is one.
-pub(crate) fn action_of(word: &str) -> Option<Action> {
-    for number in 0..VERBS {
-        let verb = verb_at(number);
-        if verb.word == word {
-            return Some(verb.action);
-        }
-    }
-    None
 }

@@ -1,12 +1,10 @@
 //! The words of a command line, read by clap.
 
-ghost use Rattle.std.specs.Prelude.{◌≤◌, length, IfOk};
-ghost use Rattle.ol_bench.specs.Commands.{IsTwoWithin, IsWithinBounds, most_students};
+ghost use Rattle.std.specs.Prelude.{◌≤◌, length, IfOk, IfSome};
+ghost use Rattle.ol_bench.specs.Commands.{IsOneWithin, IsTwoWithin, IsWithinBounds, most_students};
 
-use crate::command::{matches_of, no_command};
-use crate::rows::{
-    Action, ActionOnOne, ActionOnTwo, MOST_LINES, MOST_MOVES, MOST_STUDENTS, action_of,
-};
+use crate::command::matches_of;
+use crate::rows::{MOST_LINES, MOST_MOVES, MOST_STUDENTS};
 use clap::{ArgMatches, Error};
 use ol_bench::{Asked, Given, OnOne, OnTwo};
 use ol_counts::{Bounds, Columns};
@@ -153,7 +151,9 @@ fn order_of(found: &ArgMatches) -> Order {
 }
 
 // The command `where`: with a byte or without.
-fn place_of(found: &ArgMatches) -> OnOne {
+fn place_of(found: &ArgMatches) -> OnOne
+    ensures { IsOneWithin result }
+{
     match found.get_one::<u32>("byte") {
         None => OnOne::Stop,
         Some(_) => OnOne::Where {
@@ -162,83 +162,95 @@ fn place_of(found: &ArgMatches) -> OnOne {
     }
 }
 
-// The command on one file, with its numbers.
-fn on_one(action: ActionOnOne, found: &ArgMatches) -> OnOne {
+// The command on one file of this name, with its numbers.
+fn on_one(name: &str, found: &ArgMatches) -> OnOne
+    ensures { IsOneWithin result }
+{
     let subject = subject_of(found);
     let fuel = fuel_of(found);
     let heads = heads_of(found);
-    match action {
-        ActionOnOne::Steps => OnOne::Steps {
+    match name {
+        "steps" => OnOne::Steps {
             how: shown_of(found),
             most: number_of(found, "most", 0, MOST_STEPS),
         },
-        ActionOnOne::Counts => OnOne::Counts {
+        "counts" => OnOne::Counts {
             subject,
             bounds: bounds_of(found, fuel, heads),
             columns: columns_of(found),
             layout: layout_of(found),
         },
-        ActionOnOne::Journal => OnOne::Journal {
+        "journal" => OnOne::Journal {
             subject,
             order: order_of(found),
             fuel,
             heads,
         },
-        ActionOnOne::Where => place_of(found),
-        ActionOnOne::Derivation => OnOne::Derivation,
-        ActionOnOne::Free => OnOne::Free,
-        ActionOnOne::Waves => OnOne::Waves { subject, fuel },
-        ActionOnOne::Story => OnOne::Story { subject, fuel },
-        ActionOnOne::Show => OnOne::Show {
+        "derivation" => OnOne::Derivation,
+        "free" => OnOne::Free,
+        "waves" => OnOne::Waves { subject, fuel },
+        "story" => OnOne::Story { subject, fuel },
+        "show" => OnOne::Show {
             translation: translation_of(found),
             fuel,
             heads,
         },
-        ActionOnOne::Tree => OnOne::Tree {
+        "tree" => OnOne::Tree {
             translation: translation_of(found),
             depth: number_of(found, "depth", 0, MOST_HEADS),
             fuel,
             heads,
         },
+        _ => place_of(found),
     }
 }
 
-// The command on two files, with its numbers.
-fn on_two(action: ActionOnTwo, found: &ArgMatches) -> OnTwo
-    ensures { IsTwoWithin result }
+// The command on two files of this name, with its numbers, if there is one.
+fn on_two(name: &str, found: &ArgMatches) -> Option<OnTwo>
+    ensures { IfSome result IsTwoWithin }
 {
     let subject = subject_of(found);
     let layout = layout_of(found);
-    match action {
-        ActionOnTwo::After => OnTwo::After {
+    match name {
+        "after" => Some(OnTwo::After {
             subject,
             lines: number_of(found, "lines", 1, MOST_FUEL + 1),
             weights: found.get_flag("weights"),
-        },
-        ActionOnTwo::Check => OnTwo::Check { subject, layout },
-        ActionOnTwo::Explain => OnTwo::Explain { subject, layout },
-        ActionOnTwo::Same => OnTwo::Same,
+        }),
+        "check" => Some(OnTwo::Check { subject, layout }),
+        "explain" => Some(OnTwo::Explain { subject, layout }),
+        "same" => Some(OnTwo::Same),
+        _ => None,
     }
 }
 
-// What a command on one file asks: of the file of the name, or of the term behind `-e`.
-fn asked_of_one(alloc: Global, command: OnOne, found: &ArgMatches) -> Result<Asked, Error>
+// A command on one file: that of the name, or the term behind `-e`.
+fn asked_of_one(
+    alloc: Global,
+    command: OnOne,
+    found: &ArgMatches,
+    term: Option<Given>,
+) -> Result<Asked, Error>
+    requires within { IsOneWithin command }
     ensures { IfOk result IsWithinBounds }
 {
-    let file = match term_of(alloc, found)? {
+    let file = match term {
         Some(term) => term,
         None => file_of(alloc, found, "name")?,
     };
     Ok(Asked::One { file, command })
 }
 
-// What a command on two files asks: of those of the names, or of the term behind `-e` and the file
-// of the one name.
-fn asked_of_two(alloc: Global, command: OnTwo, found: &ArgMatches) -> Result<Asked, Error>
+// A command on two files: those of the names, or the term behind `-e` and the file of the one name.
+fn asked_of_two(
+    alloc: Global,
+    command: OnTwo,
+    found: &ArgMatches,
+    term: Option<Given>,
+) -> Result<Asked, Error>
     requires within { IsTwoWithin command }
     ensures { IfOk result IsWithinBounds }
 {
-    let term = term_of(alloc, found)?;
     let name = file_of(alloc, found, "name")?;
     let (file, other) = match term {
         Some(term) => (term, name),
@@ -337,14 +349,19 @@ fn walk_of(alloc: Global, found: &ArgMatches) -> Result<Asked, Error>
 }
 
 // What is asked by what was given behind the name of a command.
-fn asked_of(alloc: Global, action: Action, found: &ArgMatches) -> Result<Asked, Error>
+fn asked_of(alloc: Global, name: &str, found: &ArgMatches) -> Result<Asked, Error>
     ensures { IfOk result IsWithinBounds }
 {
-    match action {
-        Action::OnOne(action) => asked_of_one(alloc, on_one(action, found), found),
-        Action::OnTwo(action) => asked_of_two(alloc, on_two(action, found), found),
-        Action::Walk => walk_of(alloc, found),
-        Action::Grade => grading_of(alloc, found),
+    if name == "grade" {
+        return grading_of(alloc, found);
+    }
+    if name == "walk" {
+        return walk_of(alloc, found);
+    }
+    let term = term_of(alloc, found)?;
+    match on_two(name, found) {
+        Some(command) => asked_of_two(alloc, command, found, term),
+        None => asked_of_one(alloc, on_one(name, found), found, term),
     }
 }
 
@@ -354,11 +371,13 @@ pub fn asked_by(alloc: Global, words: &Vec<String>) -> Result<Asked, Error>
     ensures { IfOk result IsWithinBounds }
 {
     let matches = matches_of(alloc, words)?;
-    let Some((name, found)) = matches.subcommand() else {
-        return Err(no_command(alloc)?);
-    };
-    let Some(action) = action_of(name) else {
-        return Err(no_command(alloc)?);
-    };
-    asked_of(alloc, action, found)
+    match matches.subcommand() {
+        Some((name, found)) => asked_of(alloc, name, found),
+        // clap takes no words without a command.
+        None => {
+            let file = Given::Name(String::new(alloc));
+            let command = OnOne::Where { byte: 0 };
+            Ok(Asked::One { file, command })
+        }
+    }
 }

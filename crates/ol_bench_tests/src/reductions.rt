@@ -1,4 +1,5 @@
 //! `steps` and `derivation`.
+ghost use Rattle.ol_bench.specs.Commands.{IsOneWithin};
 
 use crate::rows::{assert_one, one};
 use ol_bench::OnOne;
@@ -9,7 +10,9 @@ use std::process::Abort;
 use std::test::Fail;
 
 /// At most nine steps in an order, with own names or with letters, and folded or not.
-pub fn steps(order: Order, named: bool, folded: bool) -> OnOne {
+pub fn steps(order: Order, named: bool, folded: bool) -> OnOne
+    ensures { IsOneWithin result }
+{
     let how = Shown {
         order,
         marked: false,

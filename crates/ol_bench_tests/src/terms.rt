@@ -1,5 +1,6 @@
 //! Commands on a text with a term: where a byte stands, where a text stops being a term, which names
 //! are free, what a normal form encodes, and the tree of a term.
+ghost use Rattle.ol_bench.specs.Commands.{IsOneWithin};
 
 use crate::rows::assert_one;
 use ol_bench::OnOne;
@@ -60,7 +61,9 @@ fn a_normal_form_is_decoded(rt: HostRuntime) -> Result<(), Fail> {
     assert_one(&rt, rt.alloc(), command, rows)
 }
 
-fn tree(depth: u32) -> OnOne {
+fn tree(depth: u32) -> OnOne
+    ensures { IsOneWithin result }
+{
     OnOne::Tree {
         translation: Translation::Two,
         depth,

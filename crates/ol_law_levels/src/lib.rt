@@ -16,10 +16,8 @@
 //! and a criterion for the absence of vicious circles (`placed_has_no_ring`). Every function is a
 //! theorem, without code.
 //!
-//! That no reduction of a term's net leads to a vicious circle of principal ports (Lafont,
-//! Interaction Nets, POPL 1990) is proved for strongly normalising terms only
-//! (`ol_law_completeness`). Levels bound indexes from above only: they don't exclude an index that
-//! is too small.
+//! That no reduction of a term's net leads to a vicious circle of principal ports (Lafont, Interaction
+//! Nets, 1990) is a theorem of `ol_law_completeness`.
 #![tactic(auto)]
 
 ghost use Rattle.ol_law_levels.specs.Asked.{StandingIsLost, BudgetIsNoHead, SpentIsLost};

@@ -1,6 +1,5 @@
 mod SoFar
 mod Folds
-mod Taken
 mod Digits
 mod Rows
 pub mod Shapes

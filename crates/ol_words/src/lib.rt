@@ -2,8 +2,7 @@
 //!
 //! - `reading`: the job of a list of arguments
 //! - `command`: the definition of the command line for clap
-//! - `verbs`: the commands, with the settings and names of each, and what each asks for
-//! - `settings`: the settings, with the option and the limits of each
+//! - `verbs`: the commands, with the options, flags and names of each
 //! - `lines`: the meaning of the arguments after the command
 //! - `numbers`: the numbers of a command line
 //! - `jobs`: jobs, and why there is none
@@ -16,7 +15,6 @@ mod jobs;
 mod lines;
 mod numbers;
 mod reading;
-mod settings;
 mod verbs;
 
 pub use jobs::{Job, UsageFault, Word};
