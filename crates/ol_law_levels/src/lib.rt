@@ -17,7 +17,8 @@
 //! theorem, without code.
 //!
 //! That no reduction of a term's net leads to a vicious circle of principal ports (Lafont, Interaction
-//! Nets, 1990) is a theorem of `ol_law_completeness`.
+//! Nets, 1990) is a theorem of `ol_law_completeness`. Levels bound indexes from above only: they
+//! don't exclude an index that is too small.
 #![tactic(auto)]
 
 ghost use Rattle.ol_law_levels.specs.Asked.{StandingIsLost, BudgetIsNoHead, SpentIsLost};
