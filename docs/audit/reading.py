@@ -21,9 +21,38 @@ def is_comment(line):
 @functools.lru_cache(None)
 def bare(text):
     """A text without its comments and without what it quotes."""
-    text = re.sub(r'"[^"\n]*"', '""', text)
+    text = re.sub(r'"(?:[^"\\\n]|\\.)*"', '""', text)
     text = re.sub(r"\{-.*?-\}", ' ', text, flags=re.S)
     return re.sub(r"(^|\s)(?:--|//).*$", r"\1", text, flags=re.M)
+
+
+def words_of(text):
+    """The words of a bare text that may be names: `if`, and a `then` and an `else` that belong to an `if`, are none."""
+    before = collections.Counter()
+    for word in WORD.findall(text):
+        opened = {'then': 'if', 'else': 'then'}.get(word)
+        if word == 'if' or opened and before[opened]:
+            before[word] += 1
+            before[opened] -= 1
+        else:
+            yield word
+
+
+LANGUAGE = set(': → = × λ ⊥ ¬ | ← ↦ _ Rattle Type Unit tt abbrev data deriving do in let module mutual package pub record unfoldable unfolding where'.split())
+
+
+def bound_in(text):
+    """The words that a bare text of specs/ binds somewhere: by types, patterns, `λ`, `let` and `←`, and as names of fields."""
+    places = re.findall(r"λ ([^.:]*)[.:]|[({]\s*((?:[^\s(){}:;,]+\s+)+):(?=\s)|\|([^|↦]*)↦|\blet\s([^=:]*)[=:]|(\S+)\s+(?:=|:|←)(?=\s)", text)
+    places = [''.join(it) for it in places]
+    for line in text.split('\n'):
+        depth = 0
+        for at, letter in enumerate(line):
+            depth += {'(': 1, '{': 1, ')': -1, '}': -1}.get(letter, 0)
+            if letter == '=' and not depth and line[at - 1:at + 2].strip() == '=':
+                places.append(line[:at])
+                break
+    return {word.split('.')[0].strip('«»') for it in places for word in words_of(it)}
 
 
 def spellings(name):
@@ -124,10 +153,12 @@ class Spec:
         self.read_definitions()
         for name in self.bodies:
             for spelling in spellings(name):
-                self.owner[spelling] = name
+                self.owner[spelling] = [name]
         for name, body in self.bodies.items():
             for made in self.made_by(body):
-                self.owner.setdefault(made, name)
+                owners = self.owner.setdefault(made, [])
+                if name not in owners and made not in self.bodies:
+                    owners.append(name)
 
     def read_definitions(self):
         current = None
@@ -164,10 +195,19 @@ class Spec:
     def words(self, name):
         return '\n'.join(self.heads[name]) + '\n' + '\n'.join(self.bodies[name])
 
-    def targets(self, word):
-        """Where the things stand that a word of this file may mean."""
-        own = self.owner.get(word.split('.')[0].strip('«»'))
-        return ([(self.module, own)] if own else []) + named(self, word)
+    def unknown(self, name):
+        """The words of a definition that nothing makes: no definition or import of the file, no binder, and no word of the language."""
+        text = bare(self.words(name))
+        known = bound_in(text) | LANGUAGE
+        for word in dict.fromkeys(words_of(text)):
+            first = word.split('.')[0].strip('«»')
+            if not (first in known or first in self.names or first in self.modules or first in self.owner or first.isdecimal()):
+                yield word
+
+    def targets(self, word, inside=None):
+        """Where the things stand that a word of this file may mean. Within a `data` its own constructors come first."""
+        own = self.owner.get(word.split('.')[0].strip('«»'), [])
+        return [(self.module, it) for it in ([inside] if inside in own else own)] + named(self, word)
 
 
 def named(scope, word):
@@ -201,7 +241,7 @@ def meant(module, name):
     if '.declared.' in module + '.':
         return [(module, name)]
     if spec and name in spec.owner:
-        return [(module, spec.owner[name])]
+        return [(module, it) for it in ([name] if name in spec.bodies else spec.owner[name])]
     if not spec:
         return []
     places = list(spec.names.get(name, []))
@@ -307,7 +347,7 @@ class Source:
         around = self.around(at)
         return re.search(r"\w+", around[-1][2].split(' for ')[-1]).group(0) if around else None
 
-    def targets(self, word):
+    def targets(self, word, inside=None):
         return named(self, word)
 
     def has(self, name):
