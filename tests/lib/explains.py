@@ -38,23 +38,24 @@ def cause(view, entries, line, told):
         if name in names and names.index(name) in net.nodes:
             continue
         if "." in name and int(name.split(".")[0]) >= len(entries):
-            return f"{name} isn't born yet"
+            return f"{name} isn't created yet"
         by = [k + 2 for k, entry in enumerate(entries) if name in entry.split()[-2:]]
         if by:
             return f"{name} is gone, by line {by[0]}"
-        return f"line {int(name.split('.')[0]) + 2} made no {name}" if "." in name else f"the net has no node {name}"
+        return f"line {int(name.split('.')[0]) + 2} created no {name}" if "." in name else f"the net has no node {name}"
     x, y = names.index(first), names.index(second)
     for node, named in ((x, second), (y, first)):
         place = net.linked[node, 0]
         if place[0] != "f" and place[1] == 0 and "." in named:
             faced, ticket = names[place[0]], named.split(".")[0]
             if faced != named and faced.split(".")[0] == ticket and "." in faced:
-                return f"{names[node]} faces {faced}: the copies of line {int(ticket) + 2} may be numbered otherwise"
+                return (f"{names[node]} is linked to {faced}: line {int(ticket) + 2} numbers its nodes otherwise, links are crossed, "
+                        "or the first net differs; see bisect")
     place = net.linked[x, 0]
     if place[0] == "f":
-        return f"{first} faces free port {place[1]}"
+        return f"{first} is linked to free port {place[1]}"
     if place != (y, 0):
-        return f"{first} faces slot {place[1]} of {names[place[0]]}"
+        return f"{first} is linked to port {place[1]} of {names[place[0]]}"
     rule = runtime.rule(x, y) or runtime.rule(y, x)
     if not rule:
         return f"{first} and {second} have no rule"
@@ -70,7 +71,7 @@ def joined(view, entries, first, second):
         runtime = plain.replayed(view, entries[:count])
         linked, names = runtime.net().linked, plain.names(runtime)
         if first in names and second in names and linked.get((names.index(first), 0)) == (names.index(second), 0):
-            return f"line {count + 1} made the link" if count else "the first net has the link"
+            return f"line {count + 1} created the link" if count else "the first net has the link"
 
 
 def changed(chance, lines, at):

@@ -121,7 +121,7 @@ fn a_run_of_a_net_is_told(rt: HostRuntime) -> Result<(), Fail> {
         fuel: Fuel::of(9),
     };
     let rows = b"ol net 1\nfree 1\nnode eraser -\nnode croissant 2\nlink f0 1.1\nlink 0.0 1.0\n|\
-        Yes: ol trace 2\n  left: 0 and 1\nerase 1 0 1\n  0 (eraser -) and 1 (croissant 2)\n\
-        \x20 born: 2 is 0.0 (eraser -)\n  no pair is left\n!";
+        Yes: ol trace 2\n  active: 0 and 1\nerase 1 0 1\n  0 (eraser -) and 1 (croissant 2)\n\
+        \x20 created: 2 is 0.0 (eraser -)\n  no active pair\n!";
     assert_one(&rt, rt.alloc(), command, rows)
 }

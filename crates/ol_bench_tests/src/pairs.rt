@@ -14,9 +14,9 @@ const TERM: Subject = Subject::Term(Translation::Two);
 /// are refused, and what `ol net` writes before a net.
 #[test]
 fn nets_are_compared(rt: HostRuntime) -> Result<(), Fail> {
-    let rows = b"ol net 1\nfree 1\nnode eraser -\nlink f0 0.0\n|No: different at f1: here alone\n!%\
+    let rows = b"ol net 1\nfree 1\nnode eraser -\nlink f0 0.0\n|No: different at f1: only here\n!%\
         ol net 1\nfree 3\nnode eraser -\nlink f0 f1\nlink f2 0.0\n|\
-        No: different at f2: there alone\n!%\
+        No: different at f2: only there\n!%\
         x\nol net 1\n|Refused: !bad net at line 2\n%\
         beta 0\nstuck 0\nol net 1\nfree 2\nlink f0 f1\n|Yes: same\n!";
     assert_two(
@@ -39,7 +39,7 @@ fn same_gives_up(rt: HostRuntime) -> Result<(), Fail> {
     let rows = b"ol net 1\nfree 0\nnode eraser -\nnode eraser -\nnode eraser -\nnode eraser -\n\
         node eraser -\nnode eraser -\nnode eraser -\nnode eraser -\nnode lam 0\nnode eraser -\n\
         link 0.0 1.0\nlink 2.0 3.0\nlink 4.0 5.0\nlink 6.0 7.0\nlink 8.0 8.2\nlink 8.1 9.0\n|\
-        No: alike from the free ports, which don't reach 10 and 10 nodes\n!";
+        No: undecided: equal from the free ports, which don't reach 10 and 10 nodes\n!";
     assert_two(&rt, rt.alloc(), OnTwo::Same, first, rows)
 }
 
@@ -97,7 +97,7 @@ fn pairs_that_are_left_are_told(rt: HostRuntime) -> Result<(), Fail> {
 fn a_cause_is_one_of_the_translation(rt: HostRuntime) -> Result<(), Fail> {
     let subject = Subject::Term(Translation::One);
     let rows = b"ol trace 2\nbeta 1 0 1\ncross-croissant 2 3 4\n|\
-        NotARun: not a run at line 3\n3 faces slot 0 of 6\nit is a run of translation 2\n!";
+        NotARun: not a run at line 3\n3 is linked to port 0 of 6\nit is a run of translation 2\n!";
     let command = explain(subject, Layout::Lines);
     assert_two(&rt, rt.alloc(), command, b"(\\x. x z) (\\y. y)", rows)
 }

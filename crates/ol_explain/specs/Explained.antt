@@ -118,29 +118,29 @@ pub data IsCause (form : Form) (net : NamedNet NodeName) (journal : List Entry) 
 abbrev pub never_text : NodeName → List ℕ
 never_text (Init k) = codes "the net has no node " ++ decimal k
 never_text (Born ticket place) =
-    codes "line " ++ decimal (ticket + 2) ++ codes " made no " ++ name_text (Born ticket place)
+    codes "line " ++ decimal (ticket + 2) ++ codes " created no " ++ name_text (Born ticket place)
 
--- the name of a copy, and that the copies of its line may be numbered otherwise
+-- the name of a node, and why a node of the same line may be expected in its place
 abbrev pub copy_text : ℕ → ℕ → List ℕ
-copy_text ticket place = name_text (Born ticket place) ++ codes ": the copies of line "
-    ++ decimal (ticket + 2) ++ codes " may be numbered otherwise"
+copy_text ticket place = name_text (Born ticket place) ++ codes ": line " ++ decimal (ticket + 2)
+    ++ codes " numbers its nodes otherwise, links are crossed, or the first net differs; see bisect"
 
 -- by which line a link came, the first ones of the net or that of entry n, and what it weighs
 abbrev pub link_text : ℕ → ℕ → List ℕ
 link_text zero weight = codes "the first net has the link, of weight " ++ decimal weight
 link_text (suc n) weight =
-    codes "line " ++ decimal (n + 2) ++ codes " made the link, of weight " ++ decimal weight
+    codes "line " ++ decimal (n + 2) ++ codes " created the link, of weight " ++ decimal weight
 
 -- the words of a cause, by the two names of the line
 abbrev pub cause_words : NodeName → NodeName → Cause → List ℕ
-cause_words a b (cause.NotBorn x) = name_text x ++ codes " isn't born yet"
+cause_words a b (cause.NotBorn x) = name_text x ++ codes " isn't created yet"
 cause_words a b (cause.Gone x line) = name_text x ++ codes " is gone, by line " ++ decimal line
 cause_words a b (cause.Never x) = never_text x
 cause_words a b (cause.FacesCopy x ticket place) =
-    name_text x ++ codes " faces " ++ copy_text ticket place
-cause_words a b (cause.FacesFree k) = name_text a ++ codes " faces free port " ++ decimal k
+    name_text x ++ codes " is linked to " ++ copy_text ticket place
+cause_words a b (cause.FacesFree k) = name_text a ++ codes " is linked to free port " ++ decimal k
 cause_words a b (cause.FacesSlot y s) =
-    name_text a ++ codes " faces slot " ++ decimal s ++ codes " of " ++ name_text y
+    name_text a ++ codes " is linked to port " ++ decimal s ++ codes " of " ++ name_text y
 cause_words a b cause.NoRule = name_text a ++ codes " and " ++ name_text b ++ codes " have no rule"
 cause_words a b (cause.OtherRule r) = codes "the rule is " ++ rule_text r
 cause_words a b (cause.OtherWave w joined) =

@@ -314,21 +314,23 @@ fn put_never(text: &mut String, name: NodeName) -> Result<(), NoMemory>
         NodeName::Born { ticket, .. } => {
             put(text, "line ")?;
             put_long(text, ticket as u64 + 2)?;
-            put(text, " made no ")?;
+            put(text, " created no ")?;
             put_name(text, name)
         }
     }
 }
 
-// Appends the name of a copy, and that the copies of its line may be numbered otherwise.
+// Appends the name of a node, and why a node of the same line may be expected in its place.
 fn put_copy(text: &mut String, ticket: u32, place: u8) -> Result<(), NoMemory>
     ensures { OnOk result (string_bytes text.new
         ≡ string_bytes text.old ++ copy_text ticket place) }
 {
     put_name(text, NodeName::Born { ticket, place })?;
-    put(text, ": the copies of line ")?;
+    put(text, ": line ")?;
     put_long(text, ticket as u64 + 2)?;
-    put(text, " may be numbered otherwise")
+    let causes =
+        " numbers its nodes otherwise, links are crossed, or the first net differs; see bisect";
+    put(text, causes)
 }
 
 // Appends by which line a link came, and what it weighs.
@@ -342,7 +344,7 @@ fn put_link(text: &mut String, joined: u32, weight: u32) -> Result<(), NoMemory>
     }
     put(text, "line ")?;
     put_long(text, joined as u64 + 1)?;
-    put(text, " made the link, of weight ")?;
+    put(text, " created the link, of weight ")?;
     put_number(text, weight)
 }
 
@@ -359,7 +361,7 @@ pub fn put_cause(
     match cause {
         Cause::NotBorn { name } => {
             put_name(text, name)?;
-            put(text, " isn't born yet")
+            put(text, " isn't created yet")
         }
         Cause::Gone { name, line } => {
             put_name(text, name)?;
@@ -373,17 +375,17 @@ pub fn put_cause(
             place,
         } => {
             put_name(text, name)?;
-            put(text, " faces ")?;
+            put(text, " is linked to ")?;
             put_copy(text, ticket, place)
         }
         Cause::FacesFree { port } => {
             put_name(text, first)?;
-            put(text, " faces free port ")?;
+            put(text, " is linked to free port ")?;
             put_number(text, port)
         }
         Cause::FacesSlot { name, slot } => {
             put_name(text, first)?;
-            put(text, " faces slot ")?;
+            put(text, " is linked to port ")?;
             put_number(text, slot as u32)?;
             put(text, " of ")?;
             put_name(text, name)

@@ -90,8 +90,8 @@ both_words a b p q = partner_words a (partner_of a p) ++ codes " here, "
 -- The first port of a walk where the two nets differ, and how: a free port that only one of them
 -- has; or a port of the first net whose partner is unlike that of the other's port at the same place.
 pub data DiffersAt (a b : Graph) : Port → List ℕ → Type 0 where
-  only_first : b.free < a.free → DiffersAt a b (Free b.free) (codes "here alone")
-  only_second : a.free < b.free → DiffersAt a b (Free a.free) (codes "there alone")
+  only_first : b.free < a.free → DiffersAt a b (Free b.free) (codes "only here")
+  only_second : a.free < b.free → DiffersAt a b (Free a.free) (codes "only there")
   differs : {at : ℕ} {met : List (ℕ × ℕ)} → a.free ≡ b.free → Walks a b 0 [] at met →
       at < a.free + 3 * length met → ((met' : List (ℕ × ℕ)) → GoesOn a b met at met' → ⊥) →
       DiffersAt a b (port_on a.free (pair_at a.free met at).0 at)
@@ -105,7 +105,7 @@ pub record ReachAlike (a b : Graph) (met : List (ℕ × ℕ)) : Type 0 where
 
 -- the line that tells how many nodes of each net no free port reaches
 abbrev pub left_text : Graph → Graph → List (ℕ × ℕ) → List ℕ
-left_text a b met = codes "alike from the free ports, which don't reach "
+left_text a b met = codes "undecided: equal from the free ports, which don't reach "
     ++ decimal (length (net_of a).nodes - length met) ++ codes " and "
     ++ decimal (length (net_of b).nodes - length met) ++ codes " nodes\n"
 

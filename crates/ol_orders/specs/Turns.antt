@@ -38,11 +38,11 @@ both_text names g x y = codes "  " ++ node_text names g x ++ codes " and " ++ no
 abbrev pub born_lines : (ℕ → NodeName) → Graph → ℕ → ℕ → List ℕ
 born_lines names g from zero = []
 born_lines names g from (suc n) = born_lines names g from n
-    ++ (codes "  born: " ++ decimal (from + n) ++ codes " is " ++ node_text names g (from + n) ++ codes "\n")
+    ++ (codes "  created: " ++ decimal (from + n) ++ codes " is " ++ node_text names g (from + n) ++ codes "\n")
 
 -- the nodes from a number on
 abbrev pub born_text : (ℕ → NodeName) → Graph → ℕ → List ℕ
-born_text names g from = or_words (born_lines names g from (length g.nodes - from)) (codes "  nothing is born\n")
+born_text names g from = or_words (born_lines names g from (length g.nodes - from)) (codes "  no node is created\n")
 
 -- ---- pairs
 
@@ -57,7 +57,7 @@ greater_at g n = greater_in (facing_at g (record { 0 = n })) (partner_of g (Of (
 abbrev pub pair_line : (ℕ → NodeName) → ℕ → Option ℕ → List ℕ
 pair_line names n None = []
 pair_line names n (Some m) =
-    codes "  left: " ++ name_text (names n) ++ codes " and " ++ name_text (names m) ++ codes "\n"
+    codes "  active: " ++ name_text (names n) ++ codes " and " ++ name_text (names m) ++ codes "\n"
 
 -- the active pairs of nodes with numbers below n, each told where its smaller node stands
 abbrev pub left_lines : (ℕ → NodeName) → Graph → ℕ → List ℕ
@@ -66,7 +66,7 @@ left_lines names g (suc n) = left_lines names g n ++ pair_line names n (greater_
 
 -- all active pairs
 abbrev pub left_text : (ℕ → NodeName) → Graph → List ℕ
-left_text names g = or_words (left_lines names g (length g.nodes)) (codes "  no pair is left\n")
+left_text names g = or_words (left_lines names g (length g.nodes)) (codes "  no active pair\n")
 
 -- ---- a step
 

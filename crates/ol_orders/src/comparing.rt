@@ -479,7 +479,10 @@ fn left_answer(alloc: Global, a: &Net, b: &Net, met: u32) -> Result<Answer, NoMe
     ensures no { IfOk result (λ x. x.end ≡ End.No) }
 {
     let mut text = Vec::new(alloc);
-    put(&mut text, b"alike from the free ports, which don't reach ")?;
+    put(
+        &mut text,
+        b"undecided: equal from the free ports, which don't reach ",
+    )?;
     put_number(alloc, &mut text, a.nodes().saturating_sub(met) as u64)?;
     put(&mut text, b" and ")?;
     put_number(alloc, &mut text, b.nodes().saturating_sub(met) as u64)?;
@@ -543,11 +546,11 @@ fn compare(alloc: Global, a: &Net, b: &Net) -> Result<Answer, NoMemory>
 {
     let (first, second) = (a.free_ports(), b.free_ports());
     if first > second {
-        let answer = one_has(alloc, second, b"here alone")?;
+        let answer = one_has(alloc, second, b"only here")?;
         return Ok(answer);
     }
     if first < second {
-        let answer = one_has(alloc, first, b"there alone")?;
+        let answer = one_has(alloc, first, b"only there")?;
         return Ok(answer);
     }
     let answer = compare_walks(alloc, a, b)?;

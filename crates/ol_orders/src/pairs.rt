@@ -38,7 +38,7 @@ fn put_pair(
     let Some(other) = other else {
         return Ok(());
     };
-    put(text, b"  left: ")?;
+    put(text, b"  active: ")?;
     put_named(alloc, text, replay.run.names.name_of(at))?;
     put(text, b" and ")?;
     put_named(alloc, text, replay.run.names.name_of(NodeId(other)))?;
@@ -67,5 +67,5 @@ pub fn put_left(alloc: Global, text: &mut Vec<u8>, replay: &Replay) -> Result<()
         let other = greater_of(&replay.net, NodeId(n));
         put_pair(alloc, &mut lines, replay, NodeId(n), other)?;
     }
-    put_or(text, &lines, b"  no pair is left\n")
+    put_or(text, &lines, b"  no active pair\n")
 }

@@ -40,13 +40,13 @@ fn put_born(alloc: Global, text: &mut Vec<u8>, replay: &Replay, from: u32) -> Re
 {
     let mut lines = Vec::new(alloc);
     for k in 0..replay.net.born() - from {
-        put(&mut lines, b"  born: ")?;
+        put(&mut lines, b"  created: ")?;
         put_number(alloc, &mut lines, (from + k) as u64)?;
         put(&mut lines, b" is ")?;
         put_node(alloc, &mut lines, replay, NodeId(from + k))?;
         put(&mut lines, b"\n")?;
     }
-    put_or(text, &lines, b"  nothing is born\n")
+    put_or(text, &lines, b"  no node is created\n")
 }
 
 fn same_entry(a: Entry, b: Entry) -> bool

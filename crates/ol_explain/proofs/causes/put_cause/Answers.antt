@@ -26,7 +26,7 @@ returns-in_ok-put-in-FacesSlot-2 c =
     subst (λ words. OnOk end.result (string_bytes end.new.text ≡ words))
     (five b0 (string_bytes c.put_name-in-FacesSlot.new.text) (string_bytes c.put-in-FacesSlot.new.text)
     (string_bytes c.put_number-in-FacesSlot.new.text) (string_bytes c.put-in-FacesSlot-2.new.text)
-    (name_text c.args.first) (codes " faces slot ") (decimal c.in-FacesSlot.slot) (codes " of ")
+    (name_text c.args.first) (codes " is linked to port ") (decimal c.in-FacesSlot.slot) (codes " of ")
     (name_text c.in-FacesSlot.name) c.in_ok-put_name-in-FacesSlot.ensures c.in_ok-put-in-FacesSlot.ensures
     c.in_ok-put_number-in-FacesSlot.ensures c.in_ok-put-in-FacesSlot-2.ensures
     ∙ ap (λ x. b0 ++ cause_words c.args.first c.args.second x) (sym c.in-FacesSlot.is))

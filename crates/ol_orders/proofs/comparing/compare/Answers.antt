@@ -18,7 +18,7 @@ returns-then-first-second c =
     subst (λ (e : End). IsComparison a b answer.answer.text.items e) (sym answer.ensures.no)
     (differ (λ one. let e = one_free a b one in omega arith) (only_first less)
     (answer.ensures.text ∙ ap (λ k. codes "different at " ++ port_text (Free k)
-    ++ codes ": " ++ codes "here alone" ++ codes "\n") second))
+    ++ codes ": " ++ codes "only here" ++ codes "\n") second))
 
 pub returns-then-first-second-2 : goal.returns-then-first-second-2
 returns-then-first-second-2 c =
@@ -32,4 +32,4 @@ returns-then-first-second-2 c =
     subst (λ (e : End). IsComparison a b answer.answer.text.items e) (sym answer.ensures.no)
     (differ (λ one. let e = one_free a b one in omega arith) (only_second less)
     (answer.ensures.text ∙ ap (λ k. codes "different at " ++ port_text (Free k)
-    ++ codes ": " ++ codes "there alone" ++ codes "\n") first))
+    ++ codes ": " ++ codes "only there" ++ codes "\n") first))
