@@ -7,7 +7,7 @@ use ol_explain::Finding;
 use ol_rules::Counts;
 use ol_view::Check;
 
-/// What a journal is found to be, or why it isn't looked at. `word` tells which, and `number` the
+/// What a trace is found to be, or why it isn't looked at. `word` tells which, and `number` the
 /// number in the line of `ol check`, or 0.
 #[repr(C)]
 #[derive(Clone, Copy, Debug, PartialEq, Eq)]
@@ -16,7 +16,7 @@ pub struct Verdict {
     pub number: u32,
 }
 
-/// How often each rule stands in a journal.
+/// How often each rule stands in a trace.
 #[repr(C)]
 #[derive(Clone, Copy, Debug, PartialEq, Eq)]
 pub struct RuleCounts {

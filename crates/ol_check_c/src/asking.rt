@@ -77,7 +77,7 @@ fn find(alloc: Global, subject: Subject, bytes: &[u8], journal: &[u8]) -> Result
     }
 }
 
-/// What the journal is found to be.
+/// What the trace is found to be.
 pub fn found(alloc: Global, subject: Subject, bytes: &[u8], journal: &[u8]) -> Verdict
     ensures { IsVerdict subject bytes.now journal.now result }
 {
@@ -107,7 +107,7 @@ fn count(
     }
 }
 
-/// What the journal is found to be, and how often each rule stands in it.
+/// What the trace is found to be, and how often each rule stands in it.
 pub fn counted(
     alloc: Global,
     subject: Subject,
@@ -153,7 +153,7 @@ fn tell(
     }
 }
 
-/// The explanation of what the journal is found to be: its front, as far as there is room, and how
+/// The explanation of what the trace is found to be: its front, as far as there is room, and how
 /// many bytes it has.
 pub fn told(alloc: Global, subject: Subject, bytes: &[u8], journal: &[u8], room: &mut [u8]) -> usize
     ensures { IsWrittenOut subject bytes.now journal.now room.old result room.new }

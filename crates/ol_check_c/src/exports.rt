@@ -9,7 +9,7 @@ use crate::asking::{counted, found, no_translation, subject_of, told};
 use ol_subjects::Subject;
 use std::alloc::Global;
 
-/// What a journal is found to be against the net of a term, by the translation of this number.
+/// What a trace is found to be against the net of a term, by the translation of this number.
 #[unsafe(no_mangle)]
 pub extern "C" fn ol_proved_check(
     alloc: Global,
@@ -25,7 +25,7 @@ pub extern "C" fn ol_proved_check(
     }
 }
 
-/// What a journal is found to be against the net of a net file.
+/// What a trace is found to be against the net of a net file.
 #[unsafe(no_mangle)]
 pub extern "C" fn ol_proved_check_net(alloc: Global, net: &[u8], journal: &[u8]) -> Verdict
     ensures verdict { IsVerdict Net net.now journal.now result }
@@ -33,8 +33,8 @@ pub extern "C" fn ol_proved_check_net(alloc: Global, net: &[u8], journal: &[u8])
     found(alloc, Subject::Net, net, journal)
 }
 
-/// What `ol_proved_check` answers, and how often each rule stands in the journal. Zeros, where the
-/// journal has a bad line or isn't looked at.
+/// What `ol_proved_check` answers, and how often each rule stands in the trace. Zeros, where the
+/// trace has a bad line or isn't looked at.
 #[unsafe(no_mangle)]
 pub extern "C" fn ol_proved_count(
     alloc: Global,
@@ -58,7 +58,7 @@ pub extern "C" fn ol_proved_count(
     }
 }
 
-/// What `ol_proved_check_net` answers, and how often each rule stands in the journal.
+/// What `ol_proved_check_net` answers, and how often each rule stands in the trace.
 #[unsafe(no_mangle)]
 pub extern "C" fn ol_proved_count_net(
     alloc: Global,
@@ -91,7 +91,7 @@ pub extern "C" fn ol_proved_explain(
     }
 }
 
-/// The same of a journal against a net file.
+/// The same of a trace against a net file.
 #[unsafe(no_mangle)]
 pub extern "C" fn ol_proved_explain_net(
     alloc: Global,

@@ -1,4 +1,4 @@
-//! For C: what a journal is found to be against a term or a net, how often each rule stands in it,
+//! For C: what a trace is found to be against a term or a net, how often each rule stands in it,
 //! and the pairs that are left after it, or why a line of it is a bad one.
 //!
 //! - `answers`: what is handed to C

@@ -1,4 +1,4 @@
-//! Chains: walks from a part up to the first active pair.
+//! Chains: paths from a part up to the first active pair.
 
 ghost use Rattle.std.specs.Prelude.{◌≡◌, ◌<◌, ◌≤◌, ◌*◌, length, map, IfOk, take};
 ghost use Rattle.ol_net.specs.Numbered.{net_of};

@@ -123,7 +123,7 @@ pub struct Wanted {
     pub translation: Translation,
     /// How many places are asked.
     pub heads: Heads,
-    /// The most crossings of each walk.
+    /// The most crossings of each path.
     pub edges: u64,
     /// The numbers of arguments, from 1, that lead from the root to the place.
     pub path: Vec<u32>,
@@ -179,11 +179,11 @@ fn of_net(alloc: Global, net: &Net, names: &Names, wanted: &Wanted) -> Result<An
 }
 
 /// The questions that one place of a term is asked, crossing by crossing. The net of the term's
-/// translation is read by walks, as `ol walk` reads it. The file has at most 1,048,576 bytes.
+/// translation is read by paths, as `ol walk` reads it. The file has at most 1,048,576 bytes.
 ///
 /// - `Yes`: for each question that is told, a line with the number of abstractions, the port and
 ///   the context; then a line for each crossing, with the port that is entered, its node, the port
-///   by which that is left, and the context after it; and one with the free port at which the walk
+///   by which that is left, and the context after it; and one with the free port at which the path
 ///   leaves. Where no crossing is defined, the line says so. Where no more crossings are told, the
 ///   line is `...`. The last line is what stands at the place. A place that isn't asked has that
 ///   line alone.

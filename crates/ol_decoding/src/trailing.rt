@@ -1,4 +1,4 @@
-//! The lines of one walk.
+//! The lines of one path.
 
 ghost use Rattle.std.specs.Prelude.{◌≡◌, ◌<◌, ◌++◌, IfOk, OnOk};
 ghost use Rattle.ol_net.specs.Nets.{free};
@@ -16,7 +16,7 @@ use ol_net::{IndexOf, Kind, Net, NodeId, Port};
 use ol_subjects::{put, put_shown};
 use std::alloc::Global;
 
-/// How the lines of a walk end.
+/// How the lines of a path end.
 #[derive(Clone, Copy, Debug, PartialEq, Eq)]
 pub enum Ending {
     /// At a free port.
@@ -102,7 +102,7 @@ fn put_gone(alloc: Global, text: &mut Vec<u8>, port: u32) -> Result<(), NoMemory
     Ok(())
 }
 
-/// Appends the lines of the walk from the free port `from`, which the net has, with a context whose
+/// Appends the lines of the path from the free port `from`, which the net has, with a context whose
 /// levels are of this holder: one for each crossing that is tried, of which there are `lines` at
 /// most. How they end, and how many lines are left. `NoMemory`: no memory was found.
 #[tactic(auto, using(ol_context::proofs::Walked::node_port, crate::proofs::Trailed::begins, crate::proofs::Trailed::leaves, crate::proofs::Trailed::used_up, crate::proofs::Trailed::stops, crate::proofs::Trailed::goes_on))]

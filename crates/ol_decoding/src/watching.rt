@@ -13,7 +13,7 @@ use ol_net::Net;
 use ol_readback::{Asked, Asks, Head, ReadTree, head, read};
 use std::alloc::Global;
 
-/// Walks of at most so many crossings, up to the place with this number. There the reading ends, and
+/// Paths of at most so many crossings, up to the place with this number. There the reading ends, and
 /// `seen` has the lines of that place.
 #[derive(Drop)]
 pub struct Watch {

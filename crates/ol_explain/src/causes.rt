@@ -1,4 +1,4 @@
-//! Why a line of a journal isn't one of a run.
+//! Why a line of a trace isn't one of a run.
 
 ghost use Rattle.std.specs.Prelude.{◌≡◌, ◌≢◌, ℕ, ◌≤◌, ◌<◌, ◌++◌, true, false, length, Some};
 ghost use Rattle.std.specs.Prelude.{string_bytes, slice_get, OnOk, IfOk, IfSome, IfNone};
@@ -51,7 +51,7 @@ pub enum Cause {
     FacesFree {
         port: u32,
     },
-    /// The principal port of the first node is joined to this slot, which isn't the principal port
+    /// The principal port of the first node is joined to this port, which isn't the principal port
     /// of the second one.
     FacesSlot {
         name: NodeName,

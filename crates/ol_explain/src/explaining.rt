@@ -1,4 +1,4 @@
-//! The command `explain`: what a journal is found to be, which pairs are left after a run, what is
+//! The command `explain`: what a trace is found to be, which pairs are left after a run, what is
 //! wanted in bad text, and of a line that isn't one of a run why.
 
 ghost use Rattle.std.specs.Prelude.{◌≡◌, ◌≤◌, ◌<◌, length, IfOk, IfSome};
@@ -26,7 +26,7 @@ use ol_subjects::{Answer, End, NetRead, Subject, read_subject};
 use ol_view::{Check, Line, check};
 use std::alloc::Global;
 
-/// An answer whose first line tells what a journal is found to be.
+/// An answer whose first line tells what a trace is found to be.
 #[derive(Drop)]
 pub struct Explanation {
     pub answer: Answer,
@@ -90,7 +90,7 @@ fn ended(
     }
 }
 
-/// What a journal is found to be against a net, with an answer that says why: its first line is that
+/// What a trace is found to be against a net, with an answer that says why: its first line is that
 /// of what is found.
 pub fn of_net(alloc: Global, net: &Net, journal: &[u8]) -> Result<Explanation, NoMemory>
     requires few { length net.now.nodes ≤ most_nodes }
@@ -130,17 +130,17 @@ pub fn of_net(alloc: Global, net: &Net, journal: &[u8]) -> Result<Explanation, N
     }
 }
 
-/// What a journal is found to be against the net of a file: the line of `ol check`; and below it,
+/// What a trace is found to be against the net of a file: the line of `ol check`; and below it,
 /// of a run that isn't complete, the pairs that are left, of bad text, what is wanted at which
 /// byte, and of a line that isn't the next one of a run, why it isn't.
 ///
 /// - `Yes`: `complete`.
-/// - `Run`: `run` with the number of entries, and the lines with which the journal could go on: of
+/// - `Run`: `run` with the number of entries, and the lines with which the trace could go on: of
 ///   each active pair its rule, its wave and its two names. There are at most 20 of them, in the
 ///   order of their first names, and a last line tells how many more there are.
 /// - `BadText`: the number of the first bad line, which is none of the grammar; the byte from which
 ///   on no text is, and what is wanted there; where only its names aren't in order, that a greater
-///   one is; and where it comes behind as many lines as a journal may have, the byte at which it
+///   one is; and where it comes behind as many lines as a trace may have, the byte at which it
 ///   begins, and that `the end, after 8000000 entries` is wanted.
 /// - `NotARun`: the number of the first bad line, which is one of the grammar, and its cause: a name
 ///   of a node that isn't created yet, that is gone, with the line by which it went, or that never was
@@ -148,7 +148,7 @@ pub fn of_net(alloc: Global, net: &Net, journal: &[u8]) -> Result<Explanation, N
 ///   at another place, and that the copies of its line may be numbered otherwise; what the first
 ///   node faces, where it isn't the second one; that the two have no rule; which rule is the pair's,
 ///   where the line tells another; or which wave, with the line that created the link of the two, and
-///   what the link weighs. Where the journal of a term is one of a run of the other translation,
+///   what the link weighs. Where the trace of a term is one of a run of the other translation,
 ///   complete or not, a further line says so. If wires were crossed at an earlier line, it can look
 ///   as if copies were numbered otherwise.
 /// - `Refused`: `ol` refuses the file with the term or the net, by this line.

@@ -1,4 +1,4 @@
-//! A journal, followed line by line by a run from a net.
+//! A trace, followed line by line by a run from a net.
 
 ghost use Rattle.std.specs.Prelude.{◌≤◌, length, IfOk};
 ghost use Rattle.ol_orders.specs.Replays.{IsReplay};
@@ -12,10 +12,10 @@ use ol_orders::Replay;
 use ol_view::{Form, Line, form_of, is_so, line_at};
 use std::alloc::Global;
 
-/// Why a journal is followed no further.
+/// Why a trace is followed no further.
 #[derive(Clone, Copy)]
 pub enum Stop {
-    /// Its first line isn't one of a journal.
+    /// Its first line isn't one of a trace.
     NoHeader,
     /// It ends here, or as many entries as were asked for are made.
     Good,
@@ -26,7 +26,7 @@ pub enum Stop {
     Otherwise { line: Line, made: Option<Rewritten> },
 }
 
-/// A journal that was followed: the run of its first entries, and where in the text their lines
+/// A trace that was followed: the run of its first entries, and where in the text their lines
 /// end.
 #[derive(Drop)]
 pub struct Followed {
@@ -35,8 +35,8 @@ pub struct Followed {
     pub stop: Stop,
 }
 
-/// The run of the first entries of a journal, at most so many: up to the first line that isn't
-/// good. The journal may be of either form. `NoMemory`: no memory was found.
+/// The run of the first entries of a trace, at most so many: up to the first line that isn't
+/// good. The trace may be of either form. `NoMemory`: no memory was found.
 pub fn follow(alloc: Global, net: &Net, text: &[u8], most: u32) -> Result<Followed, NoMemory>
     requires small { length net.now.nodes ≤ most_nodes }
     requires most { most ≤ most_fuel }

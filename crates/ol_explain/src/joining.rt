@@ -1,4 +1,4 @@
-//! After which entry of a journal two nodes are joined.
+//! After which entry of a trace two nodes are joined.
 
 ghost use Rattle.std.specs.Prelude.{◌≡◌, ◌≤◌, true, false, length, IfOk};
 ghost use Rattle.ol_net.specs.Nets.{slot, Linked};

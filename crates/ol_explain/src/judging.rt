@@ -1,4 +1,4 @@
-//! The command `check`: what a journal is found to be against the net of a file.
+//! The command `check`: what a trace is found to be against the net of a file.
 
 ghost use Rattle.std.specs.Prelude.{◌≡◌, ◌≤◌, length, codes, IfOk};
 ghost use Rattle.ol_explain.specs.Afters.{line_with};
@@ -36,7 +36,7 @@ pub fn complete(alloc: Global) -> Result<Answer, NoMemory>
     Ok(Answer { text, end })
 }
 
-/// The line of what a journal is found to be, and how a command ends that answers with it.
+/// The line of what a trace is found to be, and how a command ends that answers with it.
 pub fn answer_of(alloc: Global, found: Check) -> Result<Answer, NoMemory>
     ensures text { IfOk result (λ a. a.text.items ≡ found_line found) }
     ensures end { IfOk result (λ a. a.end ≡ end_of found) }
@@ -49,7 +49,7 @@ pub fn answer_of(alloc: Global, found: Check) -> Result<Answer, NoMemory>
     }
 }
 
-/// What a journal is found to be against the net of a file, as the line of `ol check`.
+/// What a trace is found to be against the net of a file, as the line of `ol check`.
 ///
 /// - `Yes`: `complete`, a run after which no pair is active.
 /// - `Run`: `run` with the number of entries, after which some pair is active.

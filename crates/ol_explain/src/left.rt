@@ -1,4 +1,4 @@
-//! The pairs that are left after a run, each as the line with which its journal could go on.
+//! The pairs that are left after a run, each as the line with which its trace could go on.
 
 ghost use Rattle.std.specs.Prelude.{◌≡◌, ℕ, ◌<◌, ◌≤◌, ◌+◌, ◌++◌, List, length, drop, codes};
 ghost use Rattle.std.specs.Prelude.{string_bytes, OnOk, IfOk};
@@ -181,7 +181,7 @@ fn put_left(
 
 /// The answer of a run from the net: the number of its entries, and below it the pairs that are
 /// left, a line for each of the first 20, in the order of their first names: its rule, its wave and
-/// its two names, as a journal tells them. Where there are more, a last line tells how many. After
+/// its two names, as a trace tells them. Where there are more, a last line tells how many. After
 /// this the run is of no use. `NoMemory`: no memory was found.
 pub fn run_and_left(
     alloc: Global,

@@ -1,15 +1,15 @@
-//! What a journal says: how far it is that of a run, the net there, and why it goes no further.
+//! What a trace says: how far it is that of a run, the net there, and why it goes no further.
 //!
-//! - `following`: a journal, followed line by line
-//! - `pausing`: the command `after`: the net after the first lines of a journal
-//! - `explaining`: the command `explain`: what a journal is found to be, and why
-//! - `judging`: the command `check`: what a journal is found to be, as a line
+//! - `following`: a trace, followed line by line
+//! - `pausing`: the command `after`: the net after the first lines of a trace
+//! - `explaining`: the command `explain`: what a trace is found to be, and why
+//! - `judging`: the command `check`: what a trace is found to be, as a line
 //! - `objects`: the answers of `check` and `explain`, each as one JSON object
-//! - `tallying`: what a journal is found to be, by its value, and how often each rule stands in its run
-//! - `causes`: why a line of a journal isn't one of a run
-//! - `joining`: after which entry of a journal two nodes are joined
+//! - `tallying`: what a trace is found to be, by its value, and how often each rule stands in its run
+//! - `causes`: why a line of a trace isn't one of a run
+//! - `joining`: after which entry of a trace two nodes are joined
 //! - `left`: the pairs that are left after a run
-//! - `wanting`: where a line that isn't one of a journal breaks off, and what is wanted there
+//! - `wanting`: where a line that isn't one of a trace breaks off, and what is wanted there
 //! - `others`: whether it is one of a run of the other translation
 //! - `weighing`: what the links of a run's last net weigh
 //! - `naming`: a net as a text, under the names of a run

@@ -56,7 +56,7 @@ fn found_object(alloc: Global, found: Check) -> Result<Vec<u8>, NoMemory>
     Ok(text)
 }
 
-/// What a journal is found to be, as the line of `judged` or the object of `judged_object`, and how
+/// What a trace is found to be, as the line of `judged` or the object of `judged_object`, and how
 /// they end. `NoMemory`: no memory was found.
 pub fn answer_in(alloc: Global, found: Check, layout: Layout) -> Result<Answer, NoMemory>
     ensures text { IfOk result (λ a. a.text.items ≡ found_in layout found) }
@@ -89,9 +89,9 @@ fn lines_object(alloc: Global, found: Check, lines: &[u8]) -> Result<Vec<u8>, No
     Ok(text)
 }
 
-/// What a journal is found to be against the net of a file, as one JSON object on one line (RFC
+/// What a trace is found to be against the net of a file, as one JSON object on one line (RFC
 /// 8259), with a line feed behind it. Its member `verdict` is `complete`, `run`, `not a run` or `bad
-/// text`. Of `run` the number `entries` tells how many entries the journal has, of the last two the
+/// text`. Of `run` the number `entries` tells how many entries the trace has, of the last two the
 /// number `line` which line is the first bad one.
 ///
 /// How it ends, and the bounds of the files, are those of `judged`. A file that is refused is so by
@@ -118,7 +118,7 @@ pub fn judged_object(
     }
 }
 
-/// What a journal is found to be against the net of a file, and why, as one JSON object on one line.
+/// What a trace is found to be against the net of a file, and why, as one JSON object on one line.
 /// It has the members of `judged_object`. Its member `why` is an array of strings: the lines that
 /// `explained` answers below the first one.
 ///

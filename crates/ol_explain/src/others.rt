@@ -1,4 +1,4 @@
-//! What is said of the other translation, where a term's journal isn't one of a run under the one
+//! What is said of the other translation, where a term's trace isn't one of a run under the one
 //! that was asked.
 
 ghost use Rattle.std.specs.Prelude.{◌≡◌, ◌≢◌, ◌≤◌, ◌++◌, ℕ, List, true, false, length, OnOk};
@@ -77,7 +77,7 @@ fn put_run(
     put(text, b"\n")
 }
 
-/// Appends to an answer what is said of the other translation: where a term's journal has a line
+/// Appends to an answer what is said of the other translation: where a term's trace has a line
 /// that isn't the next one of a run, and is one of a run of the other translation, complete or not,
 /// a line that says so. `NoMemory`: no memory was found.
 pub fn put_other(

@@ -1,4 +1,4 @@
-//! The command `after`: the net after the first lines of a journal.
+//! The command `after`: the net after the first lines of a trace.
 
 ghost use Rattle.std.specs.Prelude.{◌≡◌, ◌+◌, ◌≤◌, length, IfOk};
 ghost use Rattle.ol_view.specs.Laws.{IsTable};
@@ -117,14 +117,14 @@ fn paused(
     }
 }
 
-/// The net after the first lines of a journal, as `ol view` shows a net, under the journal's names:
-/// a number for a start node, and `ticket.place` for one that was born. Lines are numbered as
+/// The net after the first lines of a trace, as `ol view` shows a net, under the trace's names:
+/// a number for a start node, and `ticket.place` for one that was created. Lines are numbered as
 /// `ol check` numbers them, from 1: so line 1 is followed by the first net. There are at most
 /// 8,000,001 lines, and the later ones aren't read.
 ///
 /// - `Yes`: the net.
-/// - `Nothing`: one of these lines is no line of a journal, or isn't one of a run, as `ol check`
-///   says; or the journal has fewer lines.
+/// - `Nothing`: one of these lines is no line of a trace, or isn't one of a run, as `ol check`
+///   says; or the trace has fewer lines.
 /// - `Refused`: `ol` refuses the file, by this line.
 ///
 /// The file has at most 1,048,576 bytes with a term, and 33,554,432 with a net. `NoMemory`: no

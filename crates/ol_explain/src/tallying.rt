@@ -1,4 +1,4 @@
-//! What a journal is found to be against the net of a file, by its value and not as a text, and how
+//! What a trace is found to be against the net of a file, by its value and not as a text, and how
 //! often each rule stands in its run.
 
 ghost use Rattle.std.specs.Prelude.{◌≤◌, length, IfOk};
@@ -14,17 +14,17 @@ use ol_subjects::{NetRead, Subject, read_subject};
 use ol_view::{Check, check};
 use std::alloc::Global;
 
-/// What comes of a file with a term or a net, and of a journal against it.
+/// What comes of a file with a term or a net, and of a trace against it.
 #[derive(Clone, Copy, Debug, PartialEq, Eq)]
 pub enum Finding {
     /// `ol` refuses the file with the term or the net.
     Refused,
-    /// What the journal is found to be.
+    /// What the trace is found to be.
     Found(Check),
 }
 
-/// What comes of the two files, and how often each rule stands in the journal. `None`: the file with
-/// the term or the net is refused, or a line of the journal is a bad one.
+/// What comes of the two files, and how often each rule stands in the trace. `None`: the file with
+/// the term or the net is refused, or a line of the trace is a bad one.
 #[derive(Drop)]
 pub struct Tally {
     pub finding: Finding,
@@ -51,7 +51,7 @@ fn count_rules(alloc: Global, net: &Net, journal: &[u8]) -> Result<Option<Counts
     }
 }
 
-/// What a journal is found to be against the net of a file, as `ol check` finds it of a term.
+/// What a trace is found to be against the net of a file, as `ol check` finds it of a term.
 ///
 /// The file has at most 1,048,576 bytes with a term, and 33,554,432 with a net. `NoMemory`: no
 /// memory was found.
@@ -73,7 +73,7 @@ pub fn checked(
     }
 }
 
-/// What a journal is found to be, as `checked` tells it, and how often each rule stands in it, where
+/// What a trace is found to be, as `checked` tells it, and how often each rule stands in it, where
 /// it has no bad line: whether or not a pair is left.
 ///
 /// The file has at most 1,048,576 bytes with a term, and 33,554,432 with a net. `NoMemory`: no

@@ -1,4 +1,4 @@
-//! Of a line that isn't one of a journal: the byte at which it breaks off, and what is wanted
+//! Of a line that isn't one of a trace: the byte at which it breaks off, and what is wanted
 //! there.
 
 ghost use Rattle.std.specs.Prelude.{◌≡◌, ◌≢◌, ℕ, ◌+◌, ◌<◌, ◌≤◌, ◌++◌, ◌∷◌, [], true, false, ◌↔◌, List, length, drop, take, count_by, codes, Some, None, IfOk, IfSome, IfNone, OnOk};
@@ -30,7 +30,7 @@ use std::alloc::Global;
 /// A part of a line, before the byte that ends it.
 #[derive(Clone, Copy)]
 pub enum Field {
-    /// The first line of a journal.
+    /// The first line of a trace.
     Header,
     /// The name of a rule.
     Rule,
@@ -451,7 +451,7 @@ fn unordered(alloc: Global, line: u32, start: usize, first: NodeName) -> Result<
     Ok(Answer { text, end })
 }
 
-/// The answer to a text whose first line is none of a journal. `NoMemory`: no memory was found.
+/// The answer to a text whose first line is none of a trace. `NoMemory`: no memory was found.
 pub fn bad_header(alloc: Global, text: &[u8]) -> Result<Answer, NoMemory>
     requires none { (form : Form) (rest : List ℕ) → text.now ≢ header_of form ++ rest }
     ensures text { IfOk result (λ a. IsBrokenBy None text.now 0 1 a.text.items) }
@@ -461,7 +461,7 @@ pub fn bad_header(alloc: Global, text: &[u8]) -> Result<Answer, NoMemory>
     Ok(answer)
 }
 
-/// The answer to a line of a journal, which begins here and is none of the grammar: the byte at
+/// The answer to a line of a trace, which begins here and is none of the grammar: the byte at
 /// which it breaks off, and what is wanted there, or that the names are not in order. `NoMemory`: no
 /// memory was found.
 pub fn bad_line(
@@ -488,7 +488,7 @@ pub fn bad_line(
     }
 }
 
-/// The answer to a line, which begins here, behind as many as a journal may have. `NoMemory`: no
+/// The answer to a line, which begins here, behind as many as a trace may have. `NoMemory`: no
 /// memory was found.
 pub fn past_the_end(alloc: Global, at: usize) -> Result<Answer, NoMemory>
     ensures text { IfOk result (λ a. a.text.items

@@ -1,4 +1,4 @@
-//! The command `journal`: the journal of a run in one of three orders.
+//! The command `journal`: the trace of a run in one of three orders.
 
 ghost use Rattle.std.specs.Prelude.{◌≡◌, ℕ, ◌+◌, ◌*◌, ◌≤◌, List, length, IfOk};
 ghost use Rattle.ol_net.specs.Nets.{NamedNet};
@@ -147,9 +147,9 @@ fn of_net(
     }
 }
 
-/// The journal of a run in this order, of at most `fuel` interactions, with its rules and waves.
+/// The trace of a run in this order, of at most `fuel` interactions, with its rules and waves.
 /// The run on demand asks for the first `heads` subterms; where the net has no free port, it asks
-/// for nothing, and its journal has no entry. In the other two orders nothing depends on `heads`.
+/// for nothing, and its trace has no entry. In the other two orders nothing depends on `heads`.
 ///
 /// - `Yes`: the order has come to its end.
 /// - `No`: it goes on beyond the fuel.

@@ -14,7 +14,7 @@ use std::alloc::Global;
 #[derive(Drop)]
 pub struct Replay {
     pub net: Net,
-    /// The names of the numbers, and the journal so far.
+    /// The names of the numbers, and the trace so far.
     pub run: UnderWay,
     /// The numbers of the names.
     pub numbers: Numbers,

@@ -1,4 +1,4 @@
-//! Names, nodes and lines of journals, as pieces of texts.
+//! Names, nodes and lines of traces, as pieces of texts.
 
 ghost use Rattle.std.specs.Prelude.{◌≡◌, ◌++◌, OnOk};
 ghost use Rattle.ol_net.specs.Graph.{kind_at};
@@ -36,7 +36,7 @@ fn put_names(alloc: Global, text: &mut Vec<u8>, entry: Entry) -> Result<(), NoMe
     put(text, b"\n")
 }
 
-/// Appends the line of an entry in its wave, as a journal has it.
+/// Appends the line of an entry in its wave, as a trace has it.
 pub fn put_entry(alloc: Global, text: &mut Vec<u8>, entry: Entry, wave: u32) -> Result<(), NoMemory>
     ensures { OnOk result (text.new.items ≡ text.old.items ++ line_of Two entry wave) }
 {

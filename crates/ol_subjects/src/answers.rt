@@ -11,11 +11,11 @@ pub enum End {
     Nothing,
     /// A file was refused: the text says why.
     Refused,
-    /// A journal is one of a run that isn't complete: some pair is active after it.
+    /// A trace is one of a run that isn't complete: some pair is active after it.
     Run,
-    /// A line of a journal isn't the next one of a run.
+    /// A line of a trace isn't the next one of a run.
     NotARun,
-    /// A line of a journal isn't in the grammar.
+    /// A line of a trace isn't in the grammar.
     BadText,
 }
 
