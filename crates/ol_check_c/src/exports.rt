@@ -1,5 +1,5 @@
-//! The calls that C makes, by their names. A slice is a pointer and a length, and the memory there is
-//! the caller's (olcheck.h says what it owes). Each answers whatever the bytes are.
+//! The calls that C makes, by their names. A slice is a pointer and a length, and the memory there
+//! is the caller's (olcheck.h says what it owes). Each answers whatever the bytes are.
 
 ghost use Rattle.ol_subjects.specs.declared.subjects.Subject.TheVariants.{Net};
 ghost use Rattle.ol_check_c.specs.Asked.{IsVerdict, IsVerdictBy, IsCounted, IsCountedBy, IsWrittenOut, IsWrittenOutBy};

@@ -142,8 +142,8 @@ fn ask_part(
     }
 }
 
-/// Those who ask parts that are less deep than `depth`, each with so much fuel, and all of them with
-/// what is left.
+/// Those who ask parts that are less deep than `depth`, each with so much fuel, and all of them
+/// with what is left.
 #[derive(Drop)]
 pub struct Parts {
     pub depth: u32,

@@ -16,10 +16,10 @@
 //! - `frame_walks`: the command `walk --frame`: the paths that read one place, crossing by crossing
 //! - `laws`: what holds of encodings and of Böhm trees
 //!
-//! Each part of a Böhm tree is asked for its head by demand order, within a fuel of its own, as far as
-//! the fuel of all parts reaches: so a part without an end doesn't hide those beside it. All parts are
-//! asked in one net, which stays the net of the term whatever was rewritten in it. So what one part has
-//! rewritten another one doesn't do again.
+//! Each part of a Böhm tree is asked for its head by demand order, within a fuel of its own, as far
+//! as the fuel of all parts reaches: so a part without an end doesn't hide those beside it. All
+//! parts are asked in one net, which stays the net of the term whatever was rewritten in it. So
+//! what one part has rewritten another one doesn't do again.
 #![tactic(auto)]
 
 mod asking;

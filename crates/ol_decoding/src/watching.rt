@@ -13,8 +13,8 @@ use ol_net::Net;
 use ol_readback::{Asked, Asks, Head, ReadTree, head, read};
 use std::alloc::Global;
 
-/// Paths of at most so many crossings, up to the place with this number. There the reading ends, and
-/// `seen` has the lines of that place.
+/// Paths of at most so many crossings, up to the place with this number. There the reading ends,
+/// and `seen` has the lines of that place.
 #[derive(Drop)]
 pub struct Watch {
     pub edges: u64,

@@ -142,15 +142,15 @@ pub fn of_net(alloc: Global, net: &Net, journal: &[u8]) -> Result<Explanation, N
 ///   on no text is, and what is wanted there; where only its names aren't in order, that a greater
 ///   one is; and where it comes behind as many lines as a trace may have, the byte at which it
 ///   begins, and that `the end, after 8000000 entries` is wanted.
-/// - `NotARun`: the number of the first bad line, which is one of the grammar, and its cause: a name
-///   of a node that isn't created yet, that is gone, with the line by which it went, or that never was
-///   one; what one of the two nodes faces, where it is a copy that the ticket of the other one made
-///   at another place, and that the copies of its line may be numbered otherwise; what the first
-///   node faces, where it isn't the second one; that the two have no rule; which rule is the pair's,
-///   where the line tells another; or which wave, with the line that created the link of the two, and
-///   what the link weighs. Where the trace of a term is one of a run of the other translation,
-///   complete or not, a further line says so. If wires were crossed at an earlier line, it can look
-///   as if copies were numbered otherwise.
+/// - `NotARun`: the number of the first bad line, which is one of the grammar, and its cause: a
+///   name of a node that isn't created yet, that is gone, with the line by which it went, or that
+///   never was one; what one of the two nodes faces, where it is a copy that the ticket of the
+///   other one made at another place, and that the copies of its line may be numbered otherwise;
+///   what the first node faces, where it isn't the second one; that the two have no rule; which
+///   rule is the pair's, where the line tells another; or which wave, with the line that created
+///   the link of the two, and what the link weighs. Where the trace of a term is one of a run of
+///   the other translation, complete or not, a further line says so. If wires were crossed at an
+///   earlier line, it can look as if copies were numbered otherwise.
 /// - `Refused`: `ol` refuses the file with the term or the net, by this line.
 ///
 /// The file has at most 1,048,576 bytes with a term, and 33,554,432 with a net. `NoMemory`: no

@@ -31,8 +31,8 @@ fn are_joined(replay: &Replay, first: NodeName, second: NodeName) -> bool
 }
 
 /// After how many entries of a run from the net the principal ports of two nodes, which are joined
-/// in its last net, are joined for the first time: 0 where they are in the first net. `NoMemory`: no
-/// memory was found.
+/// in its last net, are joined for the first time: 0 where they are in the first net. `NoMemory`:
+/// no memory was found.
 pub fn joined_after(
     alloc: Global,
     net: &Net,

@@ -5,7 +5,8 @@
 //! - `explaining`: the command `explain`: what a trace is found to be, and why
 //! - `judging`: the command `check`: what a trace is found to be, as a line
 //! - `objects`: the answers of `check` and `explain`, each as one JSON object
-//! - `tallying`: what a trace is found to be, by its value, and how often each rule stands in its run
+//! - `tallying`: what a trace is found to be, by its value, and how often each rule stands in its
+//!   run
 //! - `causes`: why a line of a trace isn't one of a run
 //! - `joining`: after which entry of a trace two nodes are joined
 //! - `left`: the pairs that are left after a run

@@ -191,8 +191,8 @@ fn put_nodes(text: &mut String, replay: &Replay, beside: &Beside) -> Result<(), 
 
 /// The text of the last net of a run: as `ol view` prints a net, with names in place of numbers. A
 /// name is the number of a start node, or `ticket.place` of one that was created, and a port is
-/// written behind it with a dot. Beside the partner of each port stands what is asked for. The nodes
-/// stand in the order of their names. `NoMemory`: no memory was found.
+/// written behind it with a dot. Beside the partner of each port stands what is asked for. The
+/// nodes stand in the order of their names. `NoMemory`: no memory was found.
 pub fn named_net(alloc: Global, replay: &Replay, beside: &Beside) -> Result<Vec<u8>, NoMemory>
     ensures { IfOk result (λ text. text.items ≡ named_text (names_of replay.now)
         (beside_words beside.now replay.now) replay.now.net) }

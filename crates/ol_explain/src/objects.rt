@@ -90,9 +90,9 @@ fn lines_object(alloc: Global, found: Check, lines: &[u8]) -> Result<Vec<u8>, No
 }
 
 /// What a trace is found to be against the net of a file, as one JSON object on one line (RFC
-/// 8259), with a line feed behind it. Its member `verdict` is `complete`, `run`, `not a run` or `bad
-/// text`. Of `run` the number `entries` tells how many entries the trace has, of the last two the
-/// number `line` which line is the first bad one.
+/// 8259), with a line feed behind it. Its member `verdict` is `complete`, `run`, `not a run` or
+/// `bad text`. Of `run` the number `entries` tells how many entries the trace has, of the last two
+/// the number `line` which line is the first bad one.
 ///
 /// How it ends, and the bounds of the files, are those of `judged`. A file that is refused is so by
 /// its line, which is no object. `NoMemory`: no memory was found.

@@ -461,8 +461,8 @@ pub fn bad_header(alloc: Global, text: &[u8]) -> Result<Answer, NoMemory>
     Ok(answer)
 }
 
-/// The answer to a line of a trace, which begins here and is none of the grammar: the byte at
-/// which it breaks off, and what is wanted there, or that the names are not in order. `NoMemory`: no
+/// The answer to a line of a trace, which begins here and is none of the grammar: the byte at which
+/// it breaks off, and what is wanted there, or that the names are not in order. `NoMemory`: no
 /// memory was found.
 pub fn bad_line(
     alloc: Global,

@@ -559,20 +559,20 @@ fn compare(alloc: Global, a: &Net, b: &Net) -> Result<Answer, NoMemory>
 
 /// Whether two nets are one up to the numbers of their nodes. Each file has a net, in at most
 /// 33,554,432 bytes. What stands before the first line `ol net 1` is passed over, as the counts and
-/// the pairs that `ol net` writes before a last net. A traversal goes over both nets at once, from the
-/// free ports, in their order: at each node that it comes to, its ports are next, behind those of the
-/// nodes before.
+/// the pairs that `ol net` writes before a last net. A traversal goes over both nets at once, from
+/// the free ports, in their order: at each node that it comes to, its ports are next, behind those
+/// of the nodes before.
 ///
 /// - `Yes`: some renaming of nodes takes the one net to the other.
 /// - `No`: none does, and the text names the first port, of the first net, whose partner is unlike
-///   that of the other net's port at the same place of the traversal, with both partners: a free port, or
-///   a port with the kind and the index of its node. Or it names the free port that one net lacks,
-///   and says which net has it. Or all that free ports reach is alike, and the text says that the
-///   other parts differ. Nodes of these parts are tried against one another, depth first. The search
-///   gives up only where 1,000 tries are in vain and one more is wanted: then the text has how many
-///   nodes of each net no free port reaches.
-/// - `Refused`: `ol` refuses the net of the first file or else that of the second, by this line, which
-///   counts lines from the line `ol net 1`.
+///   that of the other net's port at the same place of the traversal, with both partners: a free
+///   port, or a port with the kind and the index of its node. Or it names the free port that one
+///   net lacks, and says which net has it. Or all that free ports reach is alike, and the text says
+///   that the other parts differ. Nodes of these parts are tried against one another, depth first.
+///   The search gives up only where 1,000 tries are in vain and one more is wanted: then the text
+///   has how many nodes of each net no free port reaches.
+/// - `Refused`: `ol` refuses the net of the first file or else that of the second, by this line,
+///   which counts lines from the line `ol net 1`.
 ///
 /// `NoMemory`: no memory was found.
 pub fn same(alloc: Global, first: &[u8], second: &[u8]) -> Result<Answer, NoMemory>

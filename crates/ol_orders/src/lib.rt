@@ -6,11 +6,11 @@
 //! - `pairs`: the active pairs of a net
 //! - `words`: names, nodes and lines of traces, as pieces of texts
 //! - `turns`: one step, and what is told of it
-//! - `telling`: the command `story`: each step of a run, told so that it can be compared with what was
-//!   done by hand
+//! - `telling`: the command `story`: each step of a run, told so that it can be compared with what
+//!   was done by hand
 //! - `reading`: the net of a file
-//! - `comparing`: the command `same`: whether two nets are one up to the numbers of their nodes, by a
-//!   traversal over both at once
+//! - `comparing`: the command `same`: whether two nets are one up to the numbers of their nodes, by
+//!   a traversal over both at once
 //! - `laws`: the law of runs in rounds
 #![tactic(auto)]
 

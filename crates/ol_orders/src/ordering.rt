@@ -27,8 +27,8 @@ pub enum Order {
     Least,
     /// Only the pairs come that the reading of the net meets, in the order in which it meets them.
     Demand,
-    /// All pairs come that are active, each once, by the order of their smaller names; then all that
-    /// are active now; and so on.
+    /// All pairs come that are active, each once, by the order of their smaller names; then all
+    /// that are active now; and so on.
     Rounds,
 }
 

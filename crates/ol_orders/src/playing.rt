@@ -116,8 +116,8 @@ fn play_round(
 
 /// The run in rounds from a net, of at most `fuel` interactions: a round rewrites, once each, the
 /// pairs that are active when it begins, in the order of their smaller names. The net stays as it
-/// is. A round looks only at nodes that were created in the one before or beside its pairs; the first
-/// one looks at all. `NoMemory`: no memory was found.
+/// is. A round looks only at nodes that were created in the one before or beside its pairs; the
+/// first one looks at all. `NoMemory`: no memory was found.
 pub fn play(alloc: Global, net: &Net, fuel: Fuel) -> Result<Ran, NoMemory>
     requires few { length net.now.nodes ≤ most_nodes }
     ensures played { IfOk result (λ ran. IsPlayed net.now fuel.most ran.journal ran.ended) }

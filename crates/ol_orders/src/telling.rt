@@ -73,11 +73,11 @@ fn of_net(alloc: Global, net: &Net, fuel: Fuel) -> Result<Answer, NoMemory>
 }
 
 /// The run that always takes the active pair whose smaller name is least, step by step: at most
-/// `fuel` steps. The first line is that of a trace. Each step begins with its line in the
-/// trace, as `journal` writes it. Indented lines tell more: the two nodes with their kinds and
-/// indexes, then each node that is created, by its number, its name, its kind and its index, then the
-/// active pairs that are left, by their names, in the order of the smaller ones. The pairs of the
-/// net at the start stand below the first line. So the lines that aren't indented are the trace.
+/// `fuel` steps. The first line is that of a trace. Each step begins with its line in the trace, as
+/// `journal` writes it. Indented lines tell more: the two nodes with their kinds and indexes, then
+/// each node that is created, by its number, its name, its kind and its index, then the active
+/// pairs that are left, by their names, in the order of the smaller ones. The pairs of the net at
+/// the start stand below the first line. So the lines that aren't indented are the trace.
 ///
 /// - `Yes`: no pair is left.
 /// - `No`: the fuel was used up, and a pair is left.
