@@ -144,8 +144,8 @@ pub fn of_net(alloc: Global, net: &Net, journal: &[u8]) -> Result<Explanation, N
 ///   begins, and that `the end, after 8000000 entries` is wanted.
 /// - `NotARun`: the number of the first bad line, which is one of the grammar, and its cause: a
 ///   name of a node that isn't created yet, that is gone, with the line by which it went, or that
-///   never was one; what one of the two nodes faces, where it is a copy that the ticket of the
-///   other one made at another place, and that the copies of its line may be numbered otherwise;
+///   never was one; what one of the two nodes is linked to, where that is a node of the other
+///   one's ticket at another place, and the causes that this may have;
 ///   what the first node faces, where it isn't the second one; that the two have no rule; which
 ///   rule is the pair's, where the line tells another; or which wave, with the line that created
 ///   the link of the two, and what the link weighs. Where the trace of a term is one of a run of

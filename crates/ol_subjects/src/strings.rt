@@ -79,8 +79,8 @@ fn put_array(text: &mut Vec<u8>, lines: &[&[u8]]) -> Result<(), NoMemory>
 
 /// Appends the lines of a text, each of which ends with a line feed, as a JSON array of strings
 /// (RFC 8259, sections 5 and 7). Where the last byte is another it is left out all the same. A byte
-/// that isn't a seen one of ASCII is written by its number, so the array is ASCII whatever the text
-/// has. `NoMemory`: no memory was found.
+/// that isn't a printable one of ASCII is written by its number, so the array is ASCII whatever the
+/// text has. `NoMemory`: no memory was found.
 pub fn put_lines(alloc: Global, text: &mut Vec<u8>, lines: &[u8]) -> Result<(), NoMemory>
     ensures { OnOk result (text.new.items ≡ text.old.items ++ array_of (lines_of lines.now)) }
 {
