@@ -1,3 +1,4 @@
+-- A level that is above another one is at least 1, and 1 less of it still fits.
 use Rattle.std.proofs.Common.{◌≡◌, ℕ, ◌+◌, ◌-◌, ◌<◌, ◌≤◌, suc, arith}
 use Rattle.std.proofs.lemmas.Result.{err_from_is_err_and}
 use Rattle.ol_context.proofs.Leaves.{parts_more, risen_beyond}

@@ -1,3 +1,4 @@
+-- A number that is below a sum is below an equal one.
 use Rattle.std.proofs.Common.{◌≡◌, ℕ, suc, ◌+◌, ◌<◌, ◌≤◌, true, Some, inl, inr, refl, sym, ◌∙◌, subst, arith, rules}
 use Rattle.std.specs.Prelude.{IsSome}
 use Rattle.ol_term.specs.Trees.{Tree, tree_of, is_below, term_size, depth}

@@ -1,3 +1,4 @@
+-- A number that is below a sum is below an equal one.
 use Rattle.std.proofs.Common.{ℕ, ◌≡◌, ◌<◌, inl, inr, sym, subst, arith}
 use Rattle.ol_term.specs.Trees.{tree_of, term_size, depth}
 use Rattle.ol_counts.specs.declared.tallies.Tally.{Tally}

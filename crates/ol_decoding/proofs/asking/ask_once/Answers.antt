@@ -1,3 +1,4 @@
+-- The last index of a list is below its length.
 use Rattle.std.proofs.Common.{◌≡◌, ℕ, ◌+◌, ◌<◌, List, length, map, sym, subst, arith}
 use Rattle.std.proofs.lemmas.Result.{err_from_is_err_and}
 use Rattle.ol_context.specs.Asked.{asked}

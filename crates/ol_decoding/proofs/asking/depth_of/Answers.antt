@@ -1,3 +1,4 @@
+-- A depth is counted from the place up: sums with 0 and with a successor.
 use Rattle.std.proofs.Common.{◌≡◌, ℕ, suc, ◌+◌, ◌<◌, List, [], length, sym, ◌∙◌, subst, arith}
 use Rattle.ol_context.specs.Contexts.{Level}
 use Rattle.ol_readback.specs.Frames.{frame_at, frames_of}

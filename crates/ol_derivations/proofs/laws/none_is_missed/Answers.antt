@@ -1,3 +1,4 @@
+-- A verdict that no step leads on says that no number of steps within the bound does.
 use Rattle.std.proofs.Common.{ℕ, ◌≤◌, ◌⊎◌, inl, inr}
 use Rattle.ol_term.specs.Trees.{Tree}
 use Rattle.ol_derivations.specs.Reductions.{LeadsBy, IsSeen, most_told_steps}

@@ -1,3 +1,4 @@
+-- The text of the application is one of the grammar.
 use Rattle.std.proofs.Common.{◌≡◌, ◌<◌, ℕ, List, rules, refl, ◌∙◌, subst}
 use Rattle.ol_limits.specs.Limits.{most_depth}
 use Rattle.ol_term.specs.Trees.{tree_of}

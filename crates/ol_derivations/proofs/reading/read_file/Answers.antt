@@ -1,3 +1,4 @@
+-- A net that is not too large is within the limit.
 use Rattle.std.proofs.Common.{◌<◌, ◌≤◌, inl, inr, List, ℕ, refl, sym, subst, length}
 use Rattle.std.proofs.lemmas.Bool.{cases_lt}
 use Rattle.ol_net.specs.Graph.{Graph}

@@ -1,3 +1,4 @@
+-- Two nodes that no rule joins after the other pair was rewritten had none before.
 use Rattle.std.proofs.Common.{◌⊎◌, inl, inr, refl, sym, ◌∙◌}
 use Rattle.ol_diamond.specs.Squares.{IsInNoActive}
 use Rattle.ol_diamond.proofs.Turns.{idle_apart, not_idle, in_one_pair, as_made}

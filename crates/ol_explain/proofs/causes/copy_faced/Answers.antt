@@ -1,3 +1,4 @@
+-- What holds where there is no copy follows from what holds there.
 use Rattle.std.proofs.Common.{ℕ, Option, None, Some, IfNone}
 use Rattle.ol_rules.specs.declared.journal.NodeName.TheVariants.{Born}
 use Rattle.ol_explain.proofs.WhyNot.{no_copy_faced}

@@ -1,3 +1,4 @@
+-- A worker with a new seat is seated.
 use Rattle.std.proofs.Common.{◌≡◌, ap, sym, subst, arith}
 use Rattle.ol_pool.specs.Pools.{HandState, IsHandOf as IsOfPool}
 use Rattle.ol_wire.specs.declared.view.View.{View}

@@ -1,3 +1,4 @@
+-- A truth value is not both.
 use Rattle.std.proofs.Common.{◌≡◌, ℕ, true, false, Option, MatchOption, length, refl, sym, ◌∙◌, subst, arith}
 use Rattle.std.proofs.lemmas.Result.{err_from_is_err_and}
 use Rattle.ol_readback.specs.Groups.{NoneLeft, IsNext, IsNextFrame}

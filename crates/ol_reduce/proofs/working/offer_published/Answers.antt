@@ -1,3 +1,4 @@
+-- The cells of a mask are offered one by one.
 use Rattle.std.proofs.Common.{◌≡◌, ℕ, suc, ◌+◌, ◌/◌, ◌%◌, ◌^◌, ◌==◌, Bool, true, false, List, []}
 use Rattle.std.proofs.Common.{◌∷◌, if◌then◌else◌, refl, sym, subst, arith}
 use Rattle.ol_pool.specs.Pools.{HandState}

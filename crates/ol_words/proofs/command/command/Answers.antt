@@ -1,3 +1,4 @@
+-- Subcommands are added in order, the last one last.
 use Rattle.std.proofs.Common.{◌≡◌, ◌∙◌, ap, ap₂, fold, get_or, map, refl, sym, take, List, [], ◌∷◌, ◌++◌}
 use Rattle.std.proofs.lemmas.List.{map_more, take_all}
 use Rattle.clap.specs.Words.{App, with_subcommand}

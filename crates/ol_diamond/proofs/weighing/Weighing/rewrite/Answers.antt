@@ -1,3 +1,4 @@
+-- A node faces one rule, and two nodes without a rule have none under their names.
 use Rattle.std.proofs.Common.{◌≡◌, ℕ, List, Some, [], ◌∷◌, ◌++◌, length, sym, ap, ◌∙◌, subst}
 use Rattle.ol_net.specs.declared.parts.Rule.{Rule}
 use Rattle.ol_net.specs.declared.parts.NodeId.{NodeId}

@@ -1,3 +1,4 @@
+-- One of three parts with counts has counts.
 use Rattle.std.proofs.Common.{Bool, true, false, if◌then◌else◌, ◌==◌, [], arith}
 use Rattle.ol_pool.specs.Looks.{Part, HasCounts, new_part}
 use Rattle.ol_net_tests.proofs.pools.FakeLook.parts.Goals as goal

@@ -1,3 +1,4 @@
+-- Two named nodes without a rule have none, whichever has the smaller number.
 use Rattle.std.proofs.Common.{◌≡◌, ℕ, ◌<◌, List, Some, ◌∙◌, subst}
 use Rattle.ol_net.specs.Graph.{Graph}
 use Rattle.ol_net.specs.Numbered.{net_of}

@@ -1,3 +1,4 @@
+-- The numbers of a frame fit their words, and its last index is in range.
 use Rattle.std.proofs.Common.{◌≡◌, ℕ, ◌+◌, ◌^◌, ◌<◌, ◌++◌, [], ◌∷◌, List, length, set, Some, sym, ap, ◌∙◌}
 use Rattle.std.proofs.Common.{subst, arith, Fits, w32, w64}
 use Rattle.std.proofs.lemmas.List.{length_push}

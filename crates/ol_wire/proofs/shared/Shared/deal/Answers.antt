@@ -1,3 +1,4 @@
+-- No seat is dealt before the first.
 use Rattle.std.proofs.Common.{◌≡◌, ◌+◌, ◌-◌, [], ◌∷◌, ◌++◌, All, List, ap, sym, ◌∙◌, subst, arith}
 use Rattle.std.proofs.lemmas.List.Elements.{All-append, All-cons}
 use Rattle.ol_wire.specs.StepPlays.{fewer, one_seat}

@@ -1,3 +1,4 @@
+-- The bounds by which the counts, indexes and masks of a linking fit their words.
 use Rattle.std.proofs.Common.{◌≡◌, ◌+◌, ◌*◌, ◌^◌, ◌<◌, ◌≤◌, ℕ, zero, suc, refl, sym, ap, ◌∙◌, subst}
 use Rattle.std.proofs.Common.{arith, Fits, w8, w32}
 use Rattle.ol_wire.specs.declared.layout.Parts.{Parts}

@@ -1,3 +1,4 @@
+-- Two equal first numbers make equal pairs.
 use Rattle.std.proofs.Common.{◌≡◌, ◌+◌, ◌<◌, suc, ◌∷◌, sym, refl, ap, ◌∙◌, subst, inl, arith, ℕ}
 use Rattle.ol_law_edges.specs.Edges.{IsIn}
 use Rattle.ol_wire.specs.declared.layout.Parts.{Parts}

@@ -1,3 +1,4 @@
+-- The node of a pair in hand is a node of the table.
 use Rattle.std.proofs.Common.{◌≡◌, ℕ, sym, refl, ap, ◌∙◌, subst, inl, inr, arith, List}
 use Rattle.ol_law_edges.specs.Edges.{IsIn}
 use Rattle.ol_wire.specs.declared.layout.Parts.{Parts}
