@@ -6,8 +6,8 @@
 
    What the caller must guarantee. Each pointer points to as many bytes as its length says. `counts` and
    `room` don't overlap any other argument; during a call no other thread writes to the arguments, or reads
-   `counts` or `room`. The thread has a stack of at least 1 MB: terms may be 1,000 deep. malloc, realloc and
-   free are those of the C library. Calls aren't made from a signal handler, or from the forked child of a
+   `counts` or `room`. The thread has 16 KB of stack left: terms may be 1,000 deep, so each call runs on a stack
+   of 1 MB from malloc. malloc, realloc and free are those of the C library. Calls aren't made from a signal handler, or from the forked child of a
    process with threads. None of this can be checked; everything else has an answer: a null pointer, any
    length, any bytes, and lack of memory. */
 

@@ -106,7 +106,7 @@ def try_all(folder):
         for number, row in enumerate(ROWS, 1):
             try_row(number, row, programs, room)
         try_the_page(folder, room)
-        edges = built(os.path.join(TOP, "tests", "lib", "library_edges.c"), folder, room, "-Wl,--wrap=malloc,--wrap=realloc")
+        edges = built(os.path.join(TOP, "tests", "lib", "library_edges.c"), folder, room, "-D_GNU_SOURCE", "-pthread", "-Wl,--wrap=malloc,--wrap=realloc")
         done = subprocess.run([edges], stdout=subprocess.PIPE, text=True)
         print(done.stdout, end="")
         TRIED.extend(line.startswith("ok") for line in done.stdout.splitlines() if line[:3] in ("ok ", "BAD"))

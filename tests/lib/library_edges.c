@@ -1,6 +1,8 @@
 /* What has no place in a command line: null pointers, lengths that nothing has, room for a part, want of memory. */
 #include "olcheck.h"
+#include <pthread.h>
 #include <stdio.h>
+#include <stdlib.h>
 #include <string.h>
 #include <time.h>
 static int bad;
@@ -11,7 +13,28 @@ void *__real_realloc(void *, size_t);
 void *__wrap_malloc(size_t n) { return count++ == refused ? NULL : __real_malloc(n); }
 void *__wrap_realloc(void *p, size_t n) { return count++ == refused ? NULL : __real_realloc(p, n); }
 static void expect(const char *what, int holds) { printf("%s %s\n", holds ? "ok " : "BAD", what); bad += !holds; }
+/* The deepest terms: abstractions, arguments and `let`s. Each begins and ends with a text that stands so many times. */
+static void *deep(void *_) {
+    static const char *rows[][4] = {{"\\x. ", "x", "", "998"}, {"x (", "x", ")", "998"}, {"let x = x in ", "x", "", "499"}};
+    static char text[1 << 14], room[64];
+    for (int row = 0; row < 3; row++) {
+        char *at = text;
+        for (int n = atoi(rows[row][3]); n; n--) at = stpcpy(at, rows[row][0]);
+        at = stpcpy(at, rows[row][1]);
+        for (int n = atoi(rows[row][3]); n; n--) at = stpcpy(at, rows[row][2]);
+        struct ol_counts c;
+        struct ol_verdict v = ol_count(text, at - text, 2, "ol trace 1\n", 11, &c);
+        expect("a deep term on a stack of 64 KB", (v.word == OL_COMPLETE || v.word == OL_RUN) && v.number == 0);
+        expect("and its explanation", ol_explain(text, at - text, 2, "ol trace 1\n", 11, room, sizeof room) > 0);
+    }
+    return _;
+}
 int main(void) {
+    pthread_attr_t small;
+    pthread_t thread;
+    pthread_attr_init(&small);
+    pthread_attr_setstacksize(&small, 1 << 16);
+    expect("a thread with 64 KB", !pthread_create(&thread, &small, deep, NULL) && !pthread_join(thread, NULL));
     const char *t = "(\\x. x) (\\y. y)", *j = "ol trace 1\n0 1\n2 3\n4 1.1\n1.0 2.0\n";
     size_t tn = strlen(t), jn = strlen(j);
     struct ol_counts c = {9, 9, 9, 9, 9, 9, 9, 9};
