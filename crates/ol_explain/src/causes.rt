@@ -1,16 +1,50 @@
 //! Why a line of a trace isn't one of a run.
 
-ghost use Rattle.std.specs.Prelude.{◌≡◌, ◌≢◌, ℕ, ◌≤◌, ◌<◌, ◌++◌, true, false, length, Some};
-ghost use Rattle.std.specs.Prelude.{string_bytes, slice_get, OnOk, IfOk, IfSome, IfNone};
+ghost use Rattle.std.specs.Prelude.{
+  ◌≡◌,
+  ◌≢◌,
+  ℕ,
+  ◌≤◌,
+  ◌<◌,
+  ◌++◌,
+  true,
+  false,
+  length,
+  Some,
+  string_bytes,
+  slice_get,
+  OnOk,
+  IfOk,
+  IfSome,
+  IfNone,
+};
 ghost use Rattle.ol_net.specs.Nets.{slot, Linked};
 ghost use Rattle.ol_rules.specs.declared.journal.Entry.{Entry};
 ghost use Rattle.ol_view.specs.LineReading.{TellsOf};
 ghost use Rattle.ol_orders.specs.Replays.{names_of, net_here, IsReplay};
-ghost use Rattle.ol_explain.specs.Explained.{IsGone, Names, NoneNames, FacesCopy, FacesNoCopy};
-ghost use Rattle.ol_explain.specs.Explained.{never_text, copy_text, link_text, cause_words};
-ghost use Rattle.ol_explain.specs.Reasons.{IsReplayed, IsLive, IsNodeNamed};
-ghost use Rattle.ol_explain.specs.Reasons.{IsFaced, IsOtherCopy, NoCopies};
-ghost use Rattle.ol_explain.specs.Reasons.{IsCauseAway, IsCauseIdle, IsCauseOff, AreJoined};
+ghost use Rattle.ol_explain.specs.Explained.{
+  IsGone,
+  Names,
+  NoneNames,
+  FacesCopy,
+  FacesNoCopy,
+  never_text,
+  copy_text,
+  link_text,
+  cause_words,
+};
+ghost use Rattle.ol_explain.specs.Reasons.{
+  IsReplayed,
+  IsLive,
+  IsNodeNamed,
+  IsFaced,
+  IsOtherCopy,
+  NoCopies,
+  IsCauseAway,
+  IsCauseIdle,
+  IsCauseOff,
+  AreJoined,
+};
 ghost use Rattle.ol_limits.specs.Limits.{most_fuel, most_nodes};
 
 use crate::joining::joined_after;

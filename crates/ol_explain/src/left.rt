@@ -1,7 +1,20 @@
 //! The pairs that are left after a run, each as the line with which its trace could go on.
 
-ghost use Rattle.std.specs.Prelude.{◌≡◌, ℕ, ◌<◌, ◌≤◌, ◌+◌, ◌++◌, List, length, drop, codes};
-ghost use Rattle.std.specs.Prelude.{string_bytes, OnOk, IfOk};
+ghost use Rattle.std.specs.Prelude.{
+  ◌≡◌,
+  ℕ,
+  ◌<◌,
+  ◌≤◌,
+  ◌+◌,
+  ◌++◌,
+  List,
+  length,
+  drop,
+  codes,
+  string_bytes,
+  OnOk,
+  IfOk,
+};
 ghost use Rattle.ol_view.specs.EachForm.{wave_line_text, wave_lines_text};
 ghost use Rattle.ol_explain.specs.Afters.{line_with};
 ghost use Rattle.ol_orders.specs.Replays.{IsReplay};

@@ -1,7 +1,34 @@
 //! Of a line that isn't one of a trace: the byte at which it breaks off, and what is wanted
 //! there.
 
-ghost use Rattle.std.specs.Prelude.{◌≡◌, ◌≢◌, ℕ, ◌+◌, ◌<◌, ◌≤◌, ◌++◌, ◌∷◌, [], true, false, ◌↔◌, List, length, drop, take, count_by, codes, Some, None, IfOk, IfSome, IfNone, OnOk};
+ghost use Rattle.std.specs.Prelude.{
+  ◌≡◌,
+  ◌≢◌,
+  ℕ,
+  ◌+◌,
+  ◌<◌,
+  ◌≤◌,
+  ◌++◌,
+  ◌∷◌,
+  [],
+  true,
+  false,
+  ◌↔◌,
+  List,
+  length,
+  drop,
+  take,
+  count_by,
+  codes,
+  Some,
+  None,
+  IfOk,
+  IfSome,
+  IfNone,
+  OnOk,
+  ◌==◌,
+  Option,
+};
 ghost use Rattle.std.specs.List.{slice_range};
 ghost use Rattle.ol_rules.specs.Names.{comes_before};
 ghost use Rattle.ol_view.specs.declared.forms.Form.{Form};
@@ -12,7 +39,6 @@ ghost use Rattle.ol_view.specs.LineReading.{is_digit};
 ghost use Rattle.ol_view.specs.RuleNames.{rule_text};
 ghost use Rattle.ol_view.specs.TraceTexts.{name_text, MayBeWritten};
 ghost use Rattle.std.specs.Fmt.{decimal};
-ghost use Rattle.std.specs.Prelude.{◌==◌, Option};
 ghost use Rattle.ol_explain.specs.declared.wanting.Field.TheVariants as field;
 ghost use Rattle.ol_explain.specs.Afters.{line_with};
 ghost use Rattle.ol_explain.specs.Fields.{IsField, Begins, GoesOn, IsEnd, IsCut, AreAt, IsFault, IsBrokenBy, IsBadBy};

@@ -1,7 +1,6 @@
 -- A source and a sink in memory that never fail: their states, what each call answers, and the state that it leaves.
-use Rattle.std.specs.Prelude.{ℕ, ◌+◌, ◌-◌, ◌==◌, nat_le, ◌&&◌, min, Bool, true, false}
+use Rattle.std.specs.Prelude.{ℕ, ◌+◌, ◌-◌, ◌==◌, nat_le, ◌&&◌, min, Bool, true, false, Some, unwrap_or}
 use Rattle.std.specs.Prelude.{if◌then◌else◌, List, [], ◌∷◌, ◌++◌, length, take, drop, Option, None}
-use Rattle.std.specs.Prelude.{Some, unwrap_or}
 use Rattle.ol_io.specs.Files.{File, contents_of}
 use Rattle.ol_io.specs.Outside.{next_count, gave_bytes, at_end, byte_count}
 use Rattle.ol_io.specs.Readings.{Reading, begun, after_got}

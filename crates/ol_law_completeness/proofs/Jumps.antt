@@ -1,8 +1,7 @@
 -- Walks over a term from root to root: each jump goes into a part by its root or comes out of it, and
 -- goes along the wire of a variable, from its abstraction to an occurrence or back, at once.
 -- Used in Putting, Redexes, Rules, Hops and the walks over the net.
-use Rattle.std.proofs.Common.{◌≡◌, ℕ, suc, ◌+◌, ◌<◌, ◌≤◌, Bool, true, false, refl, sym, ap, ◌∙◌}
-use Rattle.std.proofs.Common.{subst, arith}
+use Rattle.std.proofs.Common.{◌≡◌, ℕ, suc, ◌+◌, ◌<◌, ◌≤◌, Bool, true, false, refl, sym, ap, ◌∙◌, subst, arith}
 use Rattle.std.proofs.lemmas.Bool.{or_left, or_right}
 use Rattle.ol_context.specs.Contexts.{Level, empty, o, star, Context, cons}
 use Rattle.ol_law_meaning.proofs.Addresses.{left_one, right_one, sides_apart}

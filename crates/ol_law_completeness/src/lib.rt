@@ -26,34 +26,69 @@
 //! far too large.
 #![tactic(auto)]
 
-ghost use Rattle.ol_law_completeness.specs.BoundedRuns.{StepLightens, RunsAreShort, BoundedIsLight};
-ghost use Rattle.ol_law_completeness.specs.BoundedRuns.{BoundedRunsAreShort, BoundedRunEnds};
-ghost use Rattle.ol_law_completeness.specs.BoundedRuns.{BoundedHasComplete, BoundedGraphRunsEnd};
-ghost use Rattle.ol_law_completeness.specs.BoundedRuns.{LightHasNoRing};
-ghost use Rattle.ol_law_completeness.specs.Complete.{InversionsAreOne, AllInversionsAreOne};
-ghost use Rattle.ol_law_completeness.specs.Complete.{HeadsAreRead, NormalFormHasHeads};
-ghost use Rattle.ol_law_completeness.specs.Complete.{DemandIsComplete, HeadIsRead};
-ghost use Rattle.ol_law_completeness.specs.EndsExactly.{OnlyStronglyNormalisingEnds};
-ghost use Rattle.ol_law_completeness.specs.EndsExactly.{OneThreadEndsExactly};
-ghost use Rattle.ol_law_completeness.specs.EndsExactly.{EveryRunEndsExactly};
+ghost use Rattle.ol_law_completeness.specs.BoundedRuns.{
+  StepLightens,
+  RunsAreShort,
+  BoundedIsLight,
+  BoundedRunsAreShort,
+  BoundedRunEnds,
+  BoundedHasComplete,
+  BoundedGraphRunsEnd,
+  LightHasNoRing,
+};
+ghost use Rattle.ol_law_completeness.specs.Complete.{
+  InversionsAreOne,
+  AllInversionsAreOne,
+  HeadsAreRead,
+  NormalFormHasHeads,
+  DemandIsComplete,
+  HeadIsRead,
+};
+ghost use Rattle.ol_law_completeness.specs.EndsExactly.{
+  OnlyStronglyNormalisingEnds,
+  OneThreadEndsExactly,
+  EveryRunEndsExactly,
+};
 ghost use Rattle.ol_law_completeness.specs.Laws.{StepShortensRow, ChainIsOnPath, ChainsMeetAlike};
-ghost use Rattle.ol_law_completeness.specs.Least.{DemandIsLeast, DemandedIsLeast, EnoughAsItIs};
-ghost use Rattle.ol_law_completeness.specs.Least.{EnoughWithoutHeads, CompleteIsEnough, ReadAsItIs};
+ghost use Rattle.ol_law_completeness.specs.Least.{
+  DemandIsLeast,
+  DemandedIsLeast,
+  EnoughAsItIs,
+  EnoughWithoutHeads,
+  CompleteIsEnough,
+  ReadAsItIs,
+};
 ghost use Rattle.ol_law_completeness.specs.NoRing.{TermHasNoRing};
-ghost use Rattle.ol_law_completeness.specs.StrongNormalisation.{StronglyNormalisingByRules};
-ghost use Rattle.ol_law_completeness.specs.StrongNormalisation.{StronglyNormalisingIsBounded};
-ghost use Rattle.ol_law_completeness.specs.StrongNormalisation.{StronglyNormalisingEnds};
-ghost use Rattle.ol_law_completeness.specs.Terms.{LevelledCrossesNoStuck, NormalFormIsRead};
-ghost use Rattle.ol_law_completeness.specs.Terms.{HeadNormalFormIsRead, PlacesAreOfTerm};
-ghost use Rattle.ol_law_completeness.specs.Terms.{ReadsExactlyNormalForms, TermIsReadLeast};
-ghost use Rattle.ol_law_completeness.specs.Terms.{TermIsDemandedLeast, TermIsReadByTheLeast};
-ghost use Rattle.ol_law_completeness.specs.Terms.{TermIsReadWhereOneServes, CompleteRunIsEnough};
-ghost use Rattle.ol_law_completeness.specs.Terms.{TermNetIsFit};
-ghost use Rattle.ol_law_completeness.specs.TheLeast.{EnoughIsKept, DemandedIsEnough};
-ghost use Rattle.ol_law_completeness.specs.TheLeast.{DemandIsTheLeast, LeastIsInCommon};
-ghost use Rattle.ol_law_completeness.specs.TheLeast.{TheLeastIsOne, EndsWhereOneServes};
-ghost use Rattle.ol_law_completeness.specs.TheLeast.{OneMoreIsNotLeast, LongerIsNotLeast};
-ghost use Rattle.ol_law_completeness.specs.TheLeast.{StoppedIsNotEnough, MissingIsNotEnough};
+ghost use Rattle.ol_law_completeness.specs.StrongNormalisation.{
+  StronglyNormalisingByRules,
+  StronglyNormalisingIsBounded,
+  StronglyNormalisingEnds,
+};
+ghost use Rattle.ol_law_completeness.specs.Terms.{
+  LevelledCrossesNoStuck,
+  NormalFormIsRead,
+  HeadNormalFormIsRead,
+  PlacesAreOfTerm,
+  ReadsExactlyNormalForms,
+  TermIsReadLeast,
+  TermIsDemandedLeast,
+  TermIsReadByTheLeast,
+  TermIsReadWhereOneServes,
+  CompleteRunIsEnough,
+  TermNetIsFit,
+};
+ghost use Rattle.ol_law_completeness.specs.TheLeast.{
+  EnoughIsKept,
+  DemandedIsEnough,
+  DemandIsTheLeast,
+  LeastIsInCommon,
+  TheLeastIsOne,
+  EndsWhereOneServes,
+  OneMoreIsNotLeast,
+  LongerIsNotLeast,
+  StoppedIsNotEnough,
+  MissingIsNotEnough,
+};
 
 /// An interaction doesn't increase the number of inversions of a path from free port to free port,
 /// and decreases it for a path that goes through its pair.

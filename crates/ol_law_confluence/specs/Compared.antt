@@ -1,6 +1,5 @@
 -- The laws of the comparison of two printed trees for their sources.
-use Rattle.std.specs.Prelude.{◌≡◌, ◌↔◌, length, ℕ, ◌+◌, ◌*◌, ◌^◌, Bool, true, List, [], ◌∷◌}
-use Rattle.std.specs.Prelude.{slice_index_or}
+use Rattle.std.specs.Prelude.{◌≡◌, ◌↔◌, length, ℕ, ◌+◌, ◌*◌, ◌^◌, Bool, true, List, [], ◌∷◌, slice_index_or}
 use Rattle.ol_term.specs.NameLists.{NoNameTwice}
 use Rattle.ol_translate.specs.Names.{HasNames}
 use Rattle.ol_beta.specs.Leftmost.{IsNormal}

@@ -3,8 +3,7 @@ use Rattle.std.specs.Prelude.{◌≡◌}
 use Rattle.ol_term.specs.Trees.{Tree, var, free, lam, app}
 use Rattle.ol_law_meaning.specs.Shows.{BetaReduces}
 use Rattle.ol_law_meaning.specs.Examples.{identity, self, loops, EndsIn}
-use Rattle.ol_law_confluence.specs.Reductions.{Convertible, HasNormalForm, HasHeadNormalForm, Parallel}
-use Rattle.ol_law_confluence.specs.Reductions.{developed}
+use Rattle.ol_law_confluence.specs.Reductions.{Convertible, HasNormalForm, HasHeadNormalForm, Parallel, developed}
 
 -- \x y. x
 abbrev pub first_of : Tree

@@ -17,24 +17,44 @@
 //! its binders, its spaces, brackets and comments don't matter.
 #![tactic(auto)]
 
-ghost use Rattle.ol_law_confluence.specs.Compared.{NumberIsOfOne, NamesAreKept};
-ghost use Rattle.ol_law_confluence.specs.Compared.{ComparisonTellsTerms};
-ghost use Rattle.ol_law_confluence.specs.Compared.{HeadBesideLostIsNotConvertible};
+ghost use Rattle.ol_law_confluence.specs.Compared.{
+  NumberIsOfOne,
+  NamesAreKept,
+  ComparisonTellsTerms,
+  HeadBesideLostIsNotConvertible,
+};
 ghost use Rattle.ol_law_confluence.specs.Examples.{SmallConversions};
-ghost use Rattle.ol_law_confluence.specs.Laws.{DevelopmentIsLast, ChurchRosser, NormalFormIsOne};
-ghost use Rattle.ol_law_confluence.specs.Laws.{EveryReductLeadsThere, ConvertibleIfMeet};
-ghost use Rattle.ol_law_confluence.specs.Laws.{ConvertibleShareNormalForm};
-ghost use Rattle.ol_law_confluence.specs.Laws.{ConvertibleNormalFormsAgree, Standardization};
-ghost use Rattle.ol_law_confluence.specs.Laws.{LeftmostFindsIt, HeadNormalFormsAgree};
-ghost use Rattle.ol_law_confluence.specs.Laws.{HeadNormalFormIfHeadReductionEnds};
-ghost use Rattle.ol_law_confluence.specs.Laws.{NoHeadNormalFormIfForever};
-ghost use Rattle.ol_law_confluence.specs.Printed.{PrintedTreeSaysAlways, WholeTreesDecide};
-ghost use Rattle.ol_law_confluence.specs.Printed.{VerdictNeverDiffers};
-ghost use Rattle.ol_law_confluence.specs.PrintedLine.{TextIsOneLine, HolesAreNoText};
-ghost use Rattle.ol_law_confluence.specs.PrintedLine.{QuestionIsLost};
+ghost use Rattle.ol_law_confluence.specs.Laws.{
+  DevelopmentIsLast,
+  ChurchRosser,
+  NormalFormIsOne,
+  EveryReductLeadsThere,
+  ConvertibleIfMeet,
+  ConvertibleShareNormalForm,
+  ConvertibleNormalFormsAgree,
+  Standardization,
+  LeftmostFindsIt,
+  HeadNormalFormsAgree,
+  HeadNormalFormIfHeadReductionEnds,
+  NoHeadNormalFormIfForever,
+};
+ghost use Rattle.ol_law_confluence.specs.Printed.{
+  PrintedTreeSaysAlways,
+  WholeTreesDecide,
+  VerdictNeverDiffers,
+};
+ghost use Rattle.ol_law_confluence.specs.PrintedLine.{
+  TextIsOneLine,
+  HolesAreNoText,
+  QuestionIsLost,
+};
 ghost use Rattle.ol_law_confluence.specs.WrongComparisons.{NumbersMislead, CutMisleads};
-ghost use Rattle.ol_law_confluence.specs.WrongLines.{NamesAreApart, NormalFormIsReduced};
-ghost use Rattle.ol_law_confluence.specs.WrongLines.{OtherTermMisleads, ReductMisleads};
+ghost use Rattle.ol_law_confluence.specs.WrongLines.{
+  NamesAreApart,
+  NormalFormIsReduced,
+  OtherTermMisleads,
+  ReductMisleads,
+};
 
 /// Theorem (Church and Rosser): two reducts of a term have a common reduct. A parallel β-step,
 /// which contracts some redexes of a term at once, leads on to the complete development, which

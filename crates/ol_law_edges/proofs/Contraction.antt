@@ -1,9 +1,8 @@
 -- Contraction keeps what is joined.
 use Rattle.std.proofs.Common.{◌≡◌, ◌≢◌, ℕ, ◌+◌, ◌≤◌, List, [], ◌∷◌, Bool, true, false, cond, Option}
 use Rattle.std.proofs.Common.{Some, None, ◌⊎◌, ◌↔◌, inl, inr, refl, sym, ap, ◌∙◌, subst, arith}
-use Rattle.ol_law_edges.specs.Edges.{IsIn, Joined, here, on, back, EdgeOf, IsTest, behind, taken}
+use Rattle.ol_law_edges.specs.Edges.{IsIn, Joined, here, on, back, EdgeOf, IsTest, behind, taken, Ready}
 use Rattle.ol_law_edges.specs.Edges.{spliced, once_taken, contract, contract_all, bit, ends, Near}
-use Rattle.ol_law_edges.specs.Edges.{Ready}
 use Rattle.ol_law_edges.proofs.Joining.{joined_trans, joined_sym, joined_map, Follows, follow}
 
 -- the list once_taken one edge between p and x

@@ -1,7 +1,7 @@
 -- The laws of levelled nets: what has levels, what keeps them, and what they say of stuck pairs.
 use Rattle.std.specs.Prelude.{◌≡◌, ◌≢◌, ℕ, suc, Bool, List}
 use Rattle.ol_law_edges.specs.Edges.{IsTest}
-use Rattle.ol_context.specs.Contexts.{IsCrosser}
+use Rattle.ol_context.specs.Contexts.{IsCrosser, Context}
 use Rattle.ol_net.specs.declared.parts.Rule.{Rule}
 use Rattle.ol_net.specs.Graph.{Graph}
 use Rattle.ol_net.specs.Nets.{free, slot, NamedNet, IsNet, SameNet, net_under}
@@ -17,7 +17,6 @@ use Rattle.ol_rules.specs.declared.journal.NodeName.TheVariants.{Init}
 use Rattle.ol_rules.specs.Laws.{IsFresh, AreNamedBefore}
 use Rattle.ol_rules.specs.Rewriting.{IsStep}
 use Rattle.ol_rules.specs.Runs.{IsRun, LeadsTo}
-use Rattle.ol_context.specs.Contexts.{Context}
 use Rattle.ol_context.specs.Paths.{Crosses, IsBarred, Path}
 use Rattle.ol_context.specs.Ways.{Way}
 use Rattle.ol_law_levels.specs.Levels.{IsLevelled}

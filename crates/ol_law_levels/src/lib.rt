@@ -21,31 +21,64 @@
 //! don't exclude an index that is too small.
 #![tactic(auto)]
 
-ghost use Rattle.ol_law_levels.specs.Asked.{StandingIsLost, BudgetIsNoHead, SpentIsLost};
-ghost use Rattle.ol_law_levels.specs.Asked.{AskedHeadsAreHeads, AskedHeadsAreKept, TreeTellsAsked};
-ghost use Rattle.ol_law_levels.specs.Asked.{LastTreeTellsAsked, DemandTellsAsked};
+ghost use Rattle.ol_law_levels.specs.Asked.{
+  StandingIsLost,
+  BudgetIsNoHead,
+  SpentIsLost,
+  AskedHeadsAreHeads,
+  AskedHeadsAreKept,
+  TreeTellsAsked,
+  LastTreeTellsAsked,
+  DemandTellsAsked,
+};
 ghost use Rattle.ol_law_levels.specs.BlockedExample.{StuckNetIsBlocked};
 ghost use Rattle.ol_law_levels.specs.BlockingIndex.{RightIndexIsUnblocked, LowerIndexIsBlocked};
 ghost use Rattle.ol_law_levels.specs.Demand.{LostIsLost, DemandPlacesAreTheSources};
 ghost use Rattle.ol_law_levels.specs.EndlessWalk.{RingIsCut};
 ghost use Rattle.ol_law_levels.specs.Examples.{LevelsAllowStuckPairs, UnlevelledPairsAreCrossed};
-ghost use Rattle.ol_law_levels.specs.Laws.{TermIsLevelled, StepKeepsLevels, RunKeepsLevels};
-ghost use Rattle.ol_law_levels.specs.Laws.{GraphRunKeepsLevels, SameNetIsLevelled, NamesKeepLevels};
-ghost use Rattle.ol_law_levels.specs.Laws.{StartIsLevelled, StuckPairsAreOfSharing};
-ghost use Rattle.ol_law_levels.specs.Laws.{NoWalkCrossesAStuckPair, StuckPairsStopWalks};
+ghost use Rattle.ol_law_levels.specs.Laws.{
+  TermIsLevelled,
+  StepKeepsLevels,
+  RunKeepsLevels,
+  GraphRunKeepsLevels,
+  SameNetIsLevelled,
+  NamesKeepLevels,
+  StartIsLevelled,
+  StuckPairsAreOfSharing,
+  NoWalkCrossesAStuckPair,
+  StuckPairsStopWalks,
+};
 ghost use Rattle.ol_law_levels.specs.Rings.{PlacedHasNoRing};
-ghost use Rattle.ol_law_levels.specs.Terms.{NoPairIsStuck, NoPairIsStuckInOrder};
-ghost use Rattle.ol_law_levels.specs.Terms.{NoPairOfAGraphIsStuck, SameNetIsUnblocked};
-ghost use Rattle.ol_law_levels.specs.Terms.{StartIsUnblocked, SameNetIsUnstuck, NamesKeepUnstuck};
-ghost use Rattle.ol_law_levels.specs.Terms.{NoneIsCounted};
-ghost use Rattle.ol_law_levels.specs.UnblockedLaws.{StepKeepsUnblocked, RunKeepsUnblocked};
-ghost use Rattle.ol_law_levels.specs.UnblockedLaws.{UnblockedIsUnstuck, RunIsUnstuck};
-ghost use Rattle.ol_law_levels.specs.UnblockedLaws.{TermIsUnblocked};
-ghost use Rattle.ol_law_levels.specs.Walks.{LevelledWalkTurnsOnce, LevelledWalkIsShort};
-ghost use Rattle.ol_law_levels.specs.Walks.{LevelledFewAreEnough, LevelledNoHead};
-ghost use Rattle.ol_law_levels.specs.Walks.{LevelledPrintedHeads, LastPlacesAreTheSources};
-ghost use Rattle.ol_law_levels.specs.WrongTables.{RightIndexesAreLevelled, GreaterIndexesAreNot};
-ghost use Rattle.ol_law_levels.specs.WrongTables.{LowerIndexesKeepLevels};
+ghost use Rattle.ol_law_levels.specs.Terms.{
+  NoPairIsStuck,
+  NoPairIsStuckInOrder,
+  NoPairOfAGraphIsStuck,
+  SameNetIsUnblocked,
+  StartIsUnblocked,
+  SameNetIsUnstuck,
+  NamesKeepUnstuck,
+  NoneIsCounted,
+};
+ghost use Rattle.ol_law_levels.specs.UnblockedLaws.{
+  StepKeepsUnblocked,
+  RunKeepsUnblocked,
+  UnblockedIsUnstuck,
+  RunIsUnstuck,
+  TermIsUnblocked,
+};
+ghost use Rattle.ol_law_levels.specs.Walks.{
+  LevelledWalkTurnsOnce,
+  LevelledWalkIsShort,
+  LevelledFewAreEnough,
+  LevelledNoHead,
+  LevelledPrintedHeads,
+  LastPlacesAreTheSources,
+};
+ghost use Rattle.ol_law_levels.specs.WrongTables.{
+  RightIndexesAreLevelled,
+  GreaterIndexesAreNot,
+  LowerIndexesKeepLevels,
+};
 
 /// The net of a term, by either translation, is levelled.
 pub fn term_is_levelled()

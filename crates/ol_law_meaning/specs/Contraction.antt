@@ -4,9 +4,8 @@ use Rattle.std.specs.Prelude.{◌≡◌, ℕ, zero, suc, ◌+◌, true, false, O
 pub use Rattle.ol_term.specs.declared.translations.Translation.{Translation}
 pub use Rattle.ol_term.specs.Trees.{Tree, var, free, lam, app}
 pub use Rattle.ol_context.specs.Contexts.{Level, empty, o, star, pair, Context, cons, tail}
-pub use Rattle.ol_law_meaning.specs.Spots.{Wire, bound, name, under, occurs, left, is_bare, IsLevelOf}
+pub use Rattle.ol_law_meaning.specs.Spots.{Wire, bound, name, under, occurs, left, is_bare, IsLevelOf, fun, arg}
 pub use Rattle.ol_law_meaning.specs.Spots.{boxed, right, IsRight, Place, root, wire, Spot, at, body}
-pub use Rattle.ol_law_meaning.specs.Spots.{fun, arg}
 pub use Rattle.ol_law_meaning.specs.Spots.{Edge, var_wire, free_wire, lam_root, lam_own, lam_wire}
 pub use Rattle.ol_law_meaning.specs.Spots.{app_root, app_arg, app_left, app_right}
 pub use Rattle.ol_beta.specs.Leftmost.{is_abstraction}

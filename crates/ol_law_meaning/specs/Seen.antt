@@ -4,10 +4,9 @@ use Rattle.ol_net.specs.Nets.{NamedNet, free}
 use Rattle.ol_context.specs.Paths.{Path}
 use Rattle.ol_readback.specs.Frames.{Frame, frame_at}
 use Rattle.ol_law_meaning.specs.Spots.{place, applications}
-use Rattle.ol_law_meaning.specs.Contraction.{Translation, Tree, Level, star, Context, cons, Wire, bound, name}
+use Rattle.ol_law_meaning.specs.Contraction.{Translation, Tree, Level, star, Context, cons, Wire, bound, name, empty}
 use Rattle.ol_law_meaning.specs.Contraction.{under, Place, root, wire, at, Leads}
 use Rattle.ol_law_meaning.specs.Heads.{os, Steps, SameAlong, Arg, StandsAt}
-use Rattle.ol_law_meaning.specs.Contraction.{empty}
 
 -- a context with these levels put before it
 abbrev pub ahead : List Level → Context → Context

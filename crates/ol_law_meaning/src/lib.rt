@@ -20,20 +20,53 @@
 #![tactic(auto)]
 
 ghost use Rattle.ol_law_meaning.specs.Examples.{SmallTerms};
-ghost use Rattle.ol_law_meaning.specs.Heads.{HeadPath, FewLeadNowhere, NormalOrStep, HeadFound};
-ghost use Rattle.ol_law_meaning.specs.Heads.{ExitIsHead, HeadIsFound, LeastIsHead, BinderStays};
-ghost use Rattle.ol_law_meaning.specs.Heads.{BelowHead, HatIsOne, RootStandsAtHead, ArgsAreThere};
-ghost use Rattle.ol_law_meaning.specs.Laws.{LiftKeeps, CutIsHeld, HeldIsCut, RedexOpens, CutCloses};
-ghost use Rattle.ol_law_meaning.specs.Laws.{HeadKeeps, HeadReflects, SameIsOne, RootIsSame};
-ghost use Rattle.ol_law_meaning.specs.Laws.{ShortIsStuck};
-ghost use Rattle.ol_law_meaning.specs.Leftmost.{HeadIsLeftmost, HeadIsContraction};
-ghost use Rattle.ol_law_meaning.specs.Leftmost.{StepsAreReduction, EndlessIsAnyNumber};
-ghost use Rattle.ol_law_meaning.specs.Leftmost.{OneSubstitution};
-ghost use Rattle.ol_law_meaning.specs.Meaning.{NormalIsHeadNormal, EndlessOrNormal};
-ghost use Rattle.ol_law_meaning.specs.Meaning.{WholeTermIsSeen, ArgIsSeen, HeadIsReached};
-ghost use Rattle.ol_law_meaning.specs.Meaning.{HeadIsReachedSoon, NoHeadIsEndless, TreeShowsTerm};
-ghost use Rattle.ol_law_meaning.specs.Meaning.{ShownIsReduct, ShownIsNormalForm, ShownHasNoEnd};
-ghost use Rattle.ol_law_meaning.specs.Meaning.{PlacesSay};
+ghost use Rattle.ol_law_meaning.specs.Heads.{
+  HeadPath,
+  FewLeadNowhere,
+  NormalOrStep,
+  HeadFound,
+  ExitIsHead,
+  HeadIsFound,
+  LeastIsHead,
+  BinderStays,
+  BelowHead,
+  HatIsOne,
+  RootStandsAtHead,
+  ArgsAreThere,
+};
+ghost use Rattle.ol_law_meaning.specs.Laws.{
+  LiftKeeps,
+  CutIsHeld,
+  HeldIsCut,
+  RedexOpens,
+  CutCloses,
+  HeadKeeps,
+  HeadReflects,
+  SameIsOne,
+  RootIsSame,
+  ShortIsStuck,
+};
+ghost use Rattle.ol_law_meaning.specs.Leftmost.{
+  HeadIsLeftmost,
+  HeadIsContraction,
+  StepsAreReduction,
+  EndlessIsAnyNumber,
+  OneSubstitution,
+};
+ghost use Rattle.ol_law_meaning.specs.Meaning.{
+  NormalIsHeadNormal,
+  EndlessOrNormal,
+  WholeTermIsSeen,
+  ArgIsSeen,
+  HeadIsReached,
+  HeadIsReachedSoon,
+  NoHeadIsEndless,
+  TreeShowsTerm,
+  ShownIsReduct,
+  ShownIsNormalForm,
+  ShownHasNoEnd,
+  PlacesSay,
+};
 ghost use Rattle.ol_law_meaning.specs.Nets.{PathFindsHead, HeadHasPath};
 ghost use Rattle.ol_law_meaning.specs.Tables.{BracketIsNeeded, FanIsNotTurned};
 ghost use Rattle.ol_law_meaning.specs.TermPaths.{NetAndSpots, PathHasWeight};

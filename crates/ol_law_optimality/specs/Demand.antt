@@ -23,8 +23,7 @@ use Rattle.ol_translate.specs.Names.{HasNames}
 use Rattle.ol_translate.specs.Translation.{translation_of}
 use Rattle.ol_law_optimality.specs.Families.{HaveOwnLetters}
 use Rattle.ol_law_optimality.specs.Readings.{AreDifferent}
-use Rattle.ol_law_optimality.specs.Reductions.{Contracts, FamilyReduces, LeftmostFamilies}
-use Rattle.ol_law_optimality.specs.Reductions.{HeadFamilies}
+use Rattle.ol_law_optimality.specs.Reductions.{Contracts, FamilyReduces, LeftmostFamilies, HeadFamilies}
 
 -- so many are some different ones of these degrees
 abbrev pub AreSoManyOf : ℕ → List Label → Type 0

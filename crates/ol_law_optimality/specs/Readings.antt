@@ -12,8 +12,7 @@ use Rattle.ol_law_optimality.specs.Labels.{Label, none, over, under, joined, Lab
 use Rattle.ol_law_optimality.specs.Labels.{erased, before, substituted, contracted, degree}
 use Rattle.ol_law_optimality.specs.Labels.{LeftmostContracts}
 use Rattle.ol_law_meaning.specs.Sites.{Site, self, in_lam, in_function, in_argument}
-use Rattle.ol_law_meaning.specs.Spots.{Place, root, wire, Spot, at, body, fun, arg, Edge}
-use Rattle.ol_law_meaning.specs.Spots.{Trail, here, on, back}
+use Rattle.ol_law_meaning.specs.Spots.{Place, root, wire, Spot, at, body, fun, arg, Edge, Trail, here, on, back}
 use Rattle.ol_term.specs.Trees.{Tree}
 use Rattle.ol_term.specs.declared.translations.Translation.{Translation}
 use Rattle.ol_law_optimality.specs.Signs.{Sign, begins_over, ends_over, begins_under, ends_under}

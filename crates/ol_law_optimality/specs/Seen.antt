@@ -2,21 +2,19 @@
 use Rattle.std.specs.Prelude.{◌≡◌, ℕ, suc, ◌<◌, ◌≤◌, Bool, List, ◌∷◌, ◌⊎◌, length}
 use Rattle.ol_context.specs.Contexts.{Context, up}
 use Rattle.ol_demand.specs.Answers.{start_of}
-use Rattle.ol_demand.specs.Demands.{IsDemandRun}
+use Rattle.ol_demand.specs.Demands.{IsDemandRun, Asking, asks, Turn, rewrites, one_more, finds, Turns, begins}
 use Rattle.ol_net.specs.Graph.{Graph}
 use Rattle.ol_net.specs.Numbered.{net_of}
-use Rattle.ol_net.specs.Nets.{SameNet}
+use Rattle.ol_net.specs.Nets.{SameNet, NamedNet, NamedPort, free, slot, HasNode, Linked, IsNet}
 use Rattle.ol_term.specs.Trees.{Tree}
 use Rattle.ol_term.specs.declared.translations.Translation.{Translation}
 use Rattle.ol_translate.specs.Names.{HasNames}
 use Rattle.ol_translate.specs.Translation.{translation_of}
 use Rattle.ol_demand.specs.Chains.{Ends, left, undefined}
-use Rattle.ol_demand.specs.Demands.{Asking, asks, Turn, rewrites, one_more, finds, Turns, begins}
 use Rattle.ol_demand.specs.Demands.{and_then}
 use Rattle.ol_demand.specs.Laws.{IsStart}
 use Rattle.ol_law_edges.specs.Edges.{IsTest, Joined}
 use Rattle.ol_law_levels.specs.Levels.{IsLevelled}
-use Rattle.ol_net.specs.Nets.{NamedNet, NamedPort, free, slot, HasNode, Linked, IsNet}
 use Rattle.ol_net.specs.Parts.{arity}
 use Rattle.ol_net.specs.declared.parts.Kind.{Kind}
 use Rattle.ol_net.specs.declared.parts.Rule.{Rule}

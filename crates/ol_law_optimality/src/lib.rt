@@ -25,60 +25,123 @@
 #![tactic(auto)]
 
 ghost use Rattle.ol_law_optimality.specs.AllFamilies.{BetasAreFamilies};
-ghost use Rattle.ol_law_optimality.specs.Demand.{BetasAreOfEachReduction, NoneIsShorterThanDemand};
-ghost use Rattle.ol_law_optimality.specs.Demand.{DemandIsAsShort, BetasAreOfEachHeadReduction};
-ghost use Rattle.ol_law_optimality.specs.Demand.{NoneIsShorterForAHead, DemandIsAsShortForAHead};
-ghost use Rattle.ol_law_optimality.specs.Demand.{NeverMoreThanAnyReduction};
+ghost use Rattle.ol_law_optimality.specs.Demand.{
+  BetasAreOfEachReduction,
+  NoneIsShorterThanDemand,
+  DemandIsAsShort,
+  BetasAreOfEachHeadReduction,
+  NoneIsShorterForAHead,
+  DemandIsAsShortForAHead,
+  NeverMoreThanAnyReduction,
+};
 ghost use Rattle.ol_law_optimality.specs.Entries.{BetasSpellFamilies};
-ghost use Rattle.ol_law_optimality.specs.Families.{LabelsHaveTheirSigns, SignsTellRoutes};
-ghost use Rattle.ol_law_optimality.specs.Families.{NoMoreBetasThanFamilies};
-ghost use Rattle.ol_law_optimality.specs.Families.{BetasAreNoMoreThanFamilies};
-ghost use Rattle.ol_law_optimality.specs.Fewest.{FewestAreFamilies, FewestAreAllFamilies};
-ghost use Rattle.ol_law_optimality.specs.Fewest.{FewestIsFrugal};
-ghost use Rattle.ol_law_optimality.specs.FirstHeads.{BetasAreOfEachReductionForHeads};
-ghost use Rattle.ol_law_optimality.specs.FirstHeads.{NoneIsShorterForHeads};
-ghost use Rattle.ol_law_optimality.specs.FirstHeads.{DemandIsAsShortForHeads, HeadsAreFound};
-ghost use Rattle.ol_law_optimality.specs.FirstHeads.{PrintedHeadsAreAsShort};
-ghost use Rattle.ol_law_optimality.specs.FirstHeads.{NoReductionToHeadsIsShorter, FilledHasHeads};
-ghost use Rattle.ol_law_optimality.specs.FirstHeads.{NormalHasHeads, OneHeadIsHeadNormal};
-ghost use Rattle.ol_law_optimality.specs.FirstHeads.{FewestForHeads, NoneIsShorterThanNeeded};
-ghost use Rattle.ol_law_optimality.specs.HeadFamilies.{SeenByWiderQuestions, SeenByFirstQuestion};
-ghost use Rattle.ol_law_optimality.specs.HeadFamilies.{BetasAreHeadFamilies};
-ghost use Rattle.ol_law_optimality.specs.Labelling.{EachTermHasLetters, LeftmostIsLabelled};
-ghost use Rattle.ol_law_optimality.specs.Labelling.{LabelledIsLeftmost};
+ghost use Rattle.ol_law_optimality.specs.Families.{
+  LabelsHaveTheirSigns,
+  SignsTellRoutes,
+  NoMoreBetasThanFamilies,
+  BetasAreNoMoreThanFamilies,
+};
+ghost use Rattle.ol_law_optimality.specs.Fewest.{
+  FewestAreFamilies,
+  FewestAreAllFamilies,
+  FewestIsFrugal,
+};
+ghost use Rattle.ol_law_optimality.specs.FirstHeads.{
+  BetasAreOfEachReductionForHeads,
+  NoneIsShorterForHeads,
+  DemandIsAsShortForHeads,
+  HeadsAreFound,
+  PrintedHeadsAreAsShort,
+  NoReductionToHeadsIsShorter,
+  FilledHasHeads,
+  NormalHasHeads,
+  OneHeadIsHeadNormal,
+  FewestForHeads,
+  NoneIsShorterThanNeeded,
+};
+ghost use Rattle.ol_law_optimality.specs.HeadFamilies.{
+  SeenByWiderQuestions,
+  SeenByFirstQuestion,
+  BetasAreHeadFamilies,
+};
+ghost use Rattle.ol_law_optimality.specs.Labelling.{
+  EachTermHasLetters,
+  LeftmostIsLabelled,
+  LabelledIsLeftmost,
+};
 ghost use Rattle.ol_law_optimality.specs.Labels.{LabelsErase};
-ghost use Rattle.ol_law_optimality.specs.Leftmost.{NeverMoreThanLeftmost, NeverMoreOnTheWay};
-ghost use Rattle.ol_law_optimality.specs.Leftmost.{SeenOnPlacesIsFew, NeverMoreWherePrinted};
-ghost use Rattle.ol_law_optimality.specs.Leftmost.{NeverMoreThanHead};
+ghost use Rattle.ol_law_optimality.specs.Leftmost.{
+  NeverMoreThanLeftmost,
+  NeverMoreOnTheWay,
+  SeenOnPlacesIsFew,
+  NeverMoreWherePrinted,
+  NeverMoreThanHead,
+};
 ghost use Rattle.ol_law_optimality.specs.LeftmostHeads.{BetasAreFamiliesForHeads};
-ghost use Rattle.ol_law_optimality.specs.LevysTheorem.{EachDegreeIsNeeded, NeededAreContracted};
-ghost use Rattle.ol_law_optimality.specs.LevysTheorem.{NoneIsShorter, AtOnceIsOneStep};
-ghost use Rattle.ol_law_optimality.specs.LevysTheorem.{WholeFamilyIsOne, WholeFamiliesAreFamilies};
-ghost use Rattle.ol_law_optimality.specs.LevysTheorem.{LeftmostFamiliesAreWhole};
-ghost use Rattle.ol_law_optimality.specs.LevysTheorem.{HeadFamiliesAreWhole, FamilyStepsDevelop};
-ghost use Rattle.ol_law_optimality.specs.LevysTheorem.{FewestForAHead, EachHeadDegreeIsNeeded};
-ghost use Rattle.ol_law_optimality.specs.LevysTheorem.{NoFamilyTwice, FewestIsReached};
-ghost use Rattle.ol_law_optimality.specs.LevysTheorem.{NeededFamiliesAreFewest, NeedGoesBack};
-ghost use Rattle.ol_law_optimality.specs.LevysTheorem.{CallByNeedIsFewest, CallByNeedGoesOn};
+ghost use Rattle.ol_law_optimality.specs.LevysTheorem.{
+  EachDegreeIsNeeded,
+  NeededAreContracted,
+  NoneIsShorter,
+  AtOnceIsOneStep,
+  WholeFamilyIsOne,
+  WholeFamiliesAreFamilies,
+  LeftmostFamiliesAreWhole,
+  HeadFamiliesAreWhole,
+  FamilyStepsDevelop,
+  FewestForAHead,
+  EachHeadDegreeIsNeeded,
+  NoFamilyTwice,
+  FewestIsReached,
+  NeededFamiliesAreFewest,
+  NeedGoesBack,
+  CallByNeedIsFewest,
+  CallByNeedGoesOn,
+};
 ghost use Rattle.ol_law_optimality.specs.Met.{NoMoreThanHeadSteps, SeenIsFew};
-ghost use Rattle.ol_law_optimality.specs.NeededHeads.{NeedForHeadsGoesBack};
-ghost use Rattle.ol_law_optimality.specs.NeededHeads.{CallByNeedIsFewestForHeads};
-ghost use Rattle.ol_law_optimality.specs.NeededHeads.{CallByNeedGoesOnForHeads};
-ghost use Rattle.ol_law_optimality.specs.Readings.{HeadStepsKeepWords, WordsAreDegrees};
-ghost use Rattle.ol_law_optimality.specs.Readings.{DegreesAreMet, HeadIsLeftmost, SiteHasOneWord};
-ghost use Rattle.ol_law_optimality.specs.Readings.{NoMoreThanFamilies, NoMoreThanLeftmostFamilies};
-ghost use Rattle.ol_law_optimality.specs.Readings.{DegreesAreWords, WordsAreLeftmostDegrees};
-ghost use Rattle.ol_law_optimality.specs.RedexLaws.{RedexHasSource, RedexHasResidue, NoRedexIsLeft};
-ghost use Rattle.ol_law_optimality.specs.RedexLaws.{EachBetaIsVirtual, BetasAreVirtualRedexes};
-ghost use Rattle.ol_law_optimality.specs.RedexLaws.{BetasOfATerm};
-ghost use Rattle.ol_law_optimality.specs.RouteLaws.{ResidueIsOne, SourceIsOne, PairHasNoResidue};
-ghost use Rattle.ol_law_optimality.specs.RouteLaws.{EachIsResidue, EachBetaHasARoute};
-ghost use Rattle.ol_law_optimality.specs.RouteLaws.{BetaHasOneRoute, NoRedexIsCopied};
-ghost use Rattle.ol_law_optimality.specs.RouteLaws.{BetasAreRoutes};
-ghost use Rattle.ol_law_optimality.specs.Seen.{SeenHasResidue, SeenHasSource, NoneIsSeen};
-ghost use Rattle.ol_law_optimality.specs.Seen.{SeenAreContracted, DemandContractsTheSeen};
-ghost use Rattle.ol_law_optimality.specs.Seen.{BetasOfDemand, BetasOfATermOnDemand};
-ghost use Rattle.ol_law_optimality.specs.Seen.{DemandContractsTheFewest};
+ghost use Rattle.ol_law_optimality.specs.NeededHeads.{
+  NeedForHeadsGoesBack,
+  CallByNeedIsFewestForHeads,
+  CallByNeedGoesOnForHeads,
+};
+ghost use Rattle.ol_law_optimality.specs.Readings.{
+  HeadStepsKeepWords,
+  WordsAreDegrees,
+  DegreesAreMet,
+  HeadIsLeftmost,
+  SiteHasOneWord,
+  NoMoreThanFamilies,
+  NoMoreThanLeftmostFamilies,
+  DegreesAreWords,
+  WordsAreLeftmostDegrees,
+};
+ghost use Rattle.ol_law_optimality.specs.RedexLaws.{
+  RedexHasSource,
+  RedexHasResidue,
+  NoRedexIsLeft,
+  EachBetaIsVirtual,
+  BetasAreVirtualRedexes,
+  BetasOfATerm,
+};
+ghost use Rattle.ol_law_optimality.specs.RouteLaws.{
+  ResidueIsOne,
+  SourceIsOne,
+  PairHasNoResidue,
+  EachIsResidue,
+  EachBetaHasARoute,
+  BetaHasOneRoute,
+  NoRedexIsCopied,
+  BetasAreRoutes,
+};
+ghost use Rattle.ol_law_optimality.specs.Seen.{
+  SeenHasResidue,
+  SeenHasSource,
+  NoneIsSeen,
+  SeenAreContracted,
+  DemandContractsTheSeen,
+  BetasOfDemand,
+  BetasOfATermOnDemand,
+  DemandContractsTheFewest,
+};
 ghost use Rattle.ol_law_optimality.specs.Signs.{WordsAreSigned};
 ghost use Rattle.ol_law_optimality.specs.WantedDegrees.{DegreesAreWanted, WantedAreDegrees};
 ghost use Rattle.ol_law_optimality.specs.Words.{WordsTellRoutes, WordIsOne, BetasHaveTheirWords};

@@ -1,7 +1,6 @@
 -- What the calls that read a net answer
-use Rattle.std.proofs.Common.{◌≡◌, ℕ, ◌+◌, ◌<◌, ◌≤◌, nat_lt, true, false, List, [], ◌∷◌, length}
+use Rattle.std.proofs.Common.{◌≡◌, ℕ, ◌+◌, ◌<◌, ◌≤◌, nat_lt, true, false, List, [], ◌∷◌, length, inr, arith, subst}
 use Rattle.std.proofs.Common.{take, get_or, max, min, Option, Some, None, refl, sym, ap, ◌∙◌, inl}
-use Rattle.std.proofs.Common.{inr, arith, subst}
 use Rattle.std.specs.Prelude.{◌↔◌, IfSome, IfNone}
 use Rattle.std.proofs.lemmas.Bool.{cases_lt, cases_eq, false≢true}
 use Rattle.std.proofs.lemmas.Bool.Decides.{nat_tests}

@@ -1,7 +1,6 @@
 -- The ends that the joins of a replacement have.
-use Rattle.std.specs.Prelude.{◌≡◌, ℕ, zero, suc, ◌+◌, Bool, true, false, ◌==◌, ◌&&◌, not}
+use Rattle.std.specs.Prelude.{◌≡◌, ℕ, zero, suc, ◌+◌, Bool, true, false, ◌==◌, ◌&&◌, not, slice_get, ◌↔◌}
 use Rattle.std.specs.Prelude.{if◌then◌else◌, List, [], ◌∷◌, ◌++◌, Option, Some, None, option_map}
-use Rattle.std.specs.Prelude.{slice_get, ◌↔◌}
 use Rattle.ol_net.specs.declared.parts.JoinEnd.{JoinEnd}
 use Rattle.ol_net.specs.declared.parts.JoinEnd.TheVariants.{First, Second, Born}
 use Rattle.ol_net.specs.declared.parts.Kind.{Kind}

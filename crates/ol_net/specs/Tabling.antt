@@ -1,7 +1,6 @@
 -- Private: links by the places of their ports, and the table that they make
-use Rattle.std.specs.Prelude.{◌≡◌, ℕ, ◌+◌, ◌*◌, ◌<◌, Bool, true, false, ◌==◌, not, ◌&&◌, List}
+use Rattle.std.specs.Prelude.{◌≡◌, ℕ, ◌+◌, ◌*◌, ◌<◌, Bool, true, false, ◌==◌, not, ◌&&◌, List, slice_index_or}
 use Rattle.std.specs.Prelude.{length, map, take, Option, Result, MatchOption, MatchResult}
-use Rattle.std.specs.Prelude.{slice_index_or}
 use Rattle.std.specs.declared.vec.Vec.{Vec}
 use Rattle.std.specs.declared.alloc.Global.{Global}
 use Rattle.ol_net.specs.declared.parts.Kind.{Kind}

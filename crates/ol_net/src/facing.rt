@@ -2,10 +2,9 @@
 
 ghost use Rattle.std.specs.Prelude.{◌≡◌, ℕ, ◌+◌, ◌*◌, ◌^◌, ◌<◌, ◌≤◌, length, true, ◌↔◌};
 ghost use Rattle.ol_net.specs.Graph.{Graph, IsTabled, facing_at};
-ghost use Rattle.ol_net.specs.Scans.{graph_of};
+ghost use Rattle.ol_net.specs.Scans.{graph_of, IsLesserOfStuck};
 ghost use Rattle.ol_net.specs.Numbered.{net_of};
 ghost use Rattle.ol_net.specs.Pairs.{HasStuck};
-ghost use Rattle.ol_net.specs.Scans.{IsLesserOfStuck};
 
 use crate::parts::{Facing, Kind, NodeId, Port, facing_of};
 use crate::table::{kind_in, partner_in};

@@ -8,9 +8,20 @@ ghost use Rattle.ol_net.specs.PartTexts.{port_text};
 ghost use Rattle.ol_net.specs.declared.parts.Kind.{Kind};
 ghost use Rattle.ol_net.specs.declared.parts.NodeId.{NodeId};
 ghost use Rattle.ol_net.specs.declared.parts.Port.TheVariants.{Free, Of};
-ghost use Rattle.ol_orders.specs.Same.{pair_at, port_on, left_text, AreAlike, Meets, ReachAlike};
-ghost use Rattle.ol_orders.specs.Same.{node_words, partner_words, both_words};
-ghost use Rattle.ol_orders.specs.Same.{IsFirstAlone, IsComparison, IsSame};
+ghost use Rattle.ol_orders.specs.Same.{
+  pair_at,
+  port_on,
+  left_text,
+  AreAlike,
+  Meets,
+  ReachAlike,
+  node_words,
+  partner_words,
+  both_words,
+  IsFirstAlone,
+  IsComparison,
+  IsSame,
+};
 ghost use Rattle.ol_orders.specs.Meetings.{met_by, Answers, TellPairs, AreTables, EachMet, Finds};
 ghost use Rattle.ol_orders.specs.Walked.{HasWalked, SearchedFrom, SearchedAt};
 ghost use Rattle.ol_limits.specs.Limits.{most_net_bytes};

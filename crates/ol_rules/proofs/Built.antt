@@ -1,7 +1,6 @@
 -- The net that a step builds is the one that its relation asks for, and is counted again.
-use Rattle.std.proofs.Common.{◌≡◌, ◌≢◌, ℕ, zero, suc, ◌+◌, ◌<◌, ◌≤◌, List, [], ◌∷◌, ◌++◌, map}
+use Rattle.std.proofs.Common.{◌≡◌, ◌≢◌, ℕ, zero, suc, ◌+◌, ◌<◌, ◌≤◌, List, [], ◌∷◌, ◌++◌, map, ap, ◌∙◌, subst, arith}
 use Rattle.std.proofs.Common.{filter, Bool, true, false, not, ◌||◌, ◌⊎◌, ◌↔◌, inl, inr, refl, sym}
-use Rattle.std.proofs.Common.{ap, ◌∙◌, subst, arith}
 use Rattle.ol_law_edges.proofs.Contraction.{is_or_is_not, is_other, contracted, left_edges, one_edge, ends_loop}
 use Rattle.ol_law_edges.proofs.Joining.{joined_sym, joined_map}
 use Rattle.ol_law_edges.specs.Edges.{IsIn, Near, ends, bit, IsTest, Joined, here, on, back, EdgeOf, Ready, contract_all}
@@ -15,9 +14,8 @@ use Rattle.ol_law_edges.proofs.Lists.{in_left, in_right, in_cases, in_map, in_ma
 use Rattle.ol_rules.proofs.Lists.{in_each, in_each_of}
 use Rattle.ol_rules.proofs.Ports.{Lasts, LinkAfter, links_of, Real, name_one, lasts_real, first_edge}
 use Rattle.ol_rules.proofs.Tests.{port_test, vertex_test}
-use Rattle.ol_rules.specs.Contracting.{Vertex, old, f_copy, g_copy, vertex_same, gone, name}
+use Rattle.ol_rules.specs.Contracting.{Vertex, old, f_copy, g_copy, vertex_same, gone, name, IsCounted}
 use Rattle.ol_rules.specs.Contracting.{is_principal, nodes_left, links_left, rewritten, port_same}
-use Rattle.ol_rules.specs.Contracting.{IsCounted}
 use Rattle.ol_rules.proofs.Wires.{Off, Join, Wire, stays, join}
 use Rattle.ol_rules.specs.Laws.{IsFresh}
 use Rattle.ol_rules.specs.Listed.{each}

@@ -1,7 +1,6 @@
 -- Elements of lists, and counts of ends in lists of edges.
-use Rattle.std.proofs.Common.{◌≡◌, ◌≢◌, ℕ, zero, suc, ◌+◌, ◌<◌, ◌≤◌, List, [], ◌∷◌, ◌++◌, map}
+use Rattle.std.proofs.Common.{◌≡◌, ◌≢◌, ℕ, zero, suc, ◌+◌, ◌<◌, ◌≤◌, List, [], ◌∷◌, ◌++◌, map, subst, arith}
 use Rattle.std.proofs.Common.{filter, Bool, true, false, cond, ◌⊎◌, inl, inr, refl, sym, ap, ◌∙◌}
-use Rattle.std.proofs.Common.{subst, arith}
 use Rattle.ol_law_edges.specs.Edges.{IsIn, Near, ends, bit, IsTest}
 use Rattle.ol_rules.specs.Listed.{each}
 

@@ -1,7 +1,6 @@
 -- Reading one line of a trace text from the front of some bytes.
-use Rattle.std.specs.Prelude.{◌≡◌, ℕ, ◌+◌, ◌-◌, ◌*◌, Bool, ◌&&◌, ◌==◌, nat_le, if◌then◌else◌, List}
+use Rattle.std.specs.Prelude.{◌≡◌, ℕ, ◌+◌, ◌-◌, ◌*◌, Bool, ◌&&◌, ◌==◌, nat_le, if◌then◌else◌, List, length}
 use Rattle.std.specs.Prelude.{[], ◌∷◌, Option, None, Some, option_and_then, option_map, eqb, drop}
-use Rattle.std.specs.Prelude.{length}
 use Rattle.std.specs.List.{starts_with}
 use Rattle.ol_net.specs.declared.parts.Rule.{Rule}
 use Rattle.ol_net.specs.declared.parts.Rule.TheVariants as rule
