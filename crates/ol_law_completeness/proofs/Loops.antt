@@ -6,7 +6,7 @@ use Rattle.ol_invariance.proofs.Table.{rule_suits}
 use Rattle.ol_law_optimality.specs.Routes.{Crossing, rise}
 use Rattle.ol_law_optimality.proofs.Runs.{kept_net, kept_names}
 use Rattle.ol_law_optimality.proofs.Table.{no_lam, arities}
-use Rattle.ol_law_levels.specs.Rings.{Descends, first, next}
+use Rattle.ol_law_completeness.specs.Rings.{Descends, first, next}
 use Rattle.ol_net.specs.Nets.{NamedNet, NamedPort, slot, HasNode, Linked, IsNet}
 use Rattle.ol_net.specs.Parts.{arity}
 use Rattle.ol_net.specs.declared.parts.Kind.{Kind}

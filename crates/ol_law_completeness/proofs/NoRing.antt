@@ -7,7 +7,7 @@ use Rattle.ol_translate.specs.Translation.{translation_of}
 use Rattle.ol_law_completeness.proofs.Circling.{no_loop}
 use Rattle.ol_law_completeness.proofs.LoopNames.{loop_unnamed}
 use Rattle.ol_law_completeness.proofs.Loops.{rings_are_loops}
-use Rattle.ol_law_completeness.specs.NoRing.{TermHasNoRing}
+use Rattle.ol_law_completeness.specs.Rings.{TermHasNoRing}
 
 pub no_ring : TermHasNoRing
 no_ring τ t names h K n same journal M run p d =

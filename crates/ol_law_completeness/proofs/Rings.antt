@@ -1,7 +1,7 @@
 -- A net that has a weight has no ring of principal ports.
 -- For `light_has_no_ring`.
 use Rattle.std.proofs.Common.{◌≡◌, ℕ, suc, List, refl, sym, ◌∙◌, subst, arith}
-use Rattle.ol_law_levels.specs.Rings.{Descends, first, next}
+use Rattle.ol_law_completeness.specs.Rings.{Descends, first, next}
 use Rattle.ol_law_levels.specs.Unblocked.{Change}
 use Rattle.ol_net.specs.Nets.{NamedNet, NamedPort, free, slot, HasNode, Linked, IsNet}
 use Rattle.ol_net.specs.declared.parts.Kind.{Kind}

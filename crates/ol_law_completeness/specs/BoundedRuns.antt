@@ -12,7 +12,7 @@ use Rattle.ol_rules.specs.Runs.{IsRun, IsOneThread}
 use Rattle.ol_rules.specs.declared.journal.Entry.{Entry}
 use Rattle.ol_rules.specs.declared.journal.NodeName.{NodeName}
 use Rattle.ol_rules.specs.declared.journal.NodeName.TheVariants.{Init}
-use Rattle.ol_law_levels.specs.Rings.{HasNoRing}
+use Rattle.ol_law_completeness.specs.Rings.{HasNoRing}
 use Rattle.ol_law_completeness.specs.Walks.{AreBounded}
 use Rattle.ol_law_completeness.specs.Weights.{weight, WeighsAtMost}
 

@@ -58,7 +58,7 @@ ghost use Rattle.ol_law_completeness.specs.Least.{
   CompleteIsEnough,
   ReadAsItIs,
 };
-ghost use Rattle.ol_law_completeness.specs.NoRing.{TermHasNoRing};
+ghost use Rattle.ol_law_completeness.specs.Rings.{TermHasNoRing};
 ghost use Rattle.ol_law_completeness.specs.StrongNormalisation.{
   StronglyNormalisingByRules,
   StronglyNormalisingIsBounded,

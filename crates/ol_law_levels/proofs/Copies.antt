@@ -1,5 +1,5 @@
 -- The vertices of a step have depths and orientations, and its edges are gone along one way.
--- Used in Steps, Examples and Rings.
+-- Used in Steps and Examples.
 use Rattle.std.proofs.Common.{◌≡◌, ◌≢◌, ℕ, zero, suc, ◌<◌, Bool, true, false, not, ◌⊎◌, inl, inr}
 use Rattle.std.proofs.Common.{refl, sym, ap, ◌∙◌, subst}
 use Rattle.ol_law_edges.specs.Edges.{IsTest, Joined, here, on, back}

@@ -12,13 +12,10 @@
 //! The file starts with levels (`term_is_levelled` to `levels_have_no_names`), and continues with
 //! stuck pairs, walks and heads in levelled nets (`stuck_pairs_are_of_sharing` to
 //! `asked_places_are_the_sources`), examples and wrong translations (`stuck_examples` to
-//! `wrong_tables_break_levels`), unblocked nets (`step_keeps_unblocked` to `wrong_index_blocks`),
-//! and a criterion for the absence of vicious circles (`placed_has_no_ring`). Every function is a
-//! theorem, without code.
+//! `wrong_tables_break_levels`), and unblocked nets (`step_keeps_unblocked` to
+//! `wrong_index_blocks`). Every function is a theorem, without code.
 //!
-//! That no reduction of a term's net leads to a vicious circle of principal ports (Lafont, Interaction
-//! Nets, 1990) is a theorem of `ol_law_completeness`. Levels bound indexes from above only: they
-//! don't exclude an index that is too small.
+//! Levels bound indexes from above only: they don't exclude an index that is too small.
 #![tactic(auto)]
 
 ghost use Rattle.ol_law_levels.specs.Asked.{
@@ -48,7 +45,6 @@ ghost use Rattle.ol_law_levels.specs.Laws.{
   NoWalkCrossesAStuckPair,
   StuckPairsStopWalks,
 };
-ghost use Rattle.ol_law_levels.specs.Rings.{PlacedHasNoRing};
 ghost use Rattle.ol_law_levels.specs.Terms.{
   NoPairIsStuck,
   NoPairIsStuckInOrder,
@@ -265,10 +261,4 @@ pub fn blocked_example()
 pub fn wrong_index_blocks()
     ensures right { RightIndexIsUnblocked }
     ensures lower { LowerIndexIsBlocked }
-{}
-
-/// A levelled net has no vicious circle of principal ports if its ports have places, of bounded
-/// depth, and distances.
-pub fn placed_has_no_ring<A>()
-    ensures { PlacedHasNoRing A }
 {}
