@@ -12,7 +12,8 @@ use Rattle.ol_net.proofs.Numbered.{few_live}
 use Rattle.ol_rules.proofs.StartNets.{one_start}
 use Rattle.ol_parse.specs.Grammar.{Named, var, lam, app}
 use Rattle.ol_parse.specs.Laws.{leaves}
-use Rattle.ol_parse.specs.Numbered.{position_of, unbound, free_in, once, names_of}
+use Rattle.ol_term.specs.NameLists.{position_of, put_unless, with_names}
+use Rattle.ol_parse.specs.Numbered.{unbound, free_in, once, names_of}
 use Rattle.ol_parse.specs.Parsed.{AreNames, IsFileOf}
 use Rattle.ol_parse.proofs.Sizes.{few_leaves}
 use Rattle.ol_parse.proofs.Words.{names_good}
@@ -31,7 +32,6 @@ use Rattle.ol_readback.specs.declared.answers.HeadVar.{HeadVar}
 use Rattle.ol_readback.proofs.OneTree.{all_left, all_right}
 use Rattle.ol_equal.specs.declared.answers.Compared.TheVariants.{Equal, Different, Cut}
 use Rattle.ol_equal.proofs.Walks.{path-within}
-use Rattle.ol_derivations.specs.Tables.{put_unless, with_names}
 use Rattle.ol_derivations.specs.Heads.{all_names, lams_of, head_text, IsHeadText}
 use Rattle.ol_derivations.specs.HeadLaws.{IsToldHead}
 use Rattle.ol_derivations.proofs.Plain.{Lacks}

@@ -2,19 +2,8 @@
 use Rattle.std.proofs.Common.{◌≡◌, ℕ, zero, suc, ◌+◌, ◌<◌, Bool, true, false, List, [], ◌∷◌, ◌++◌, append_assoc, append-nil, length, take, drop, Some, refl, sym, ap, ◌∙◌, subst, arith}
 use Rattle.std.specs.Prelude.{◌&&◌, ◌≤◌, get_or, map, slice_get}
 use Rattle.std.specs.Borrow.{Bor}
-use Rattle.ol_parse.specs.Numbered.{position_of}
 use Rattle.ol_derivations.specs.Lines.{all_left_out}
-use Rattle.ol_derivations.specs.Tables.{put_unless, with_names}
 use Rattle.ol_derivations.specs.Derivations.{Terms, no_terms, IsLine, AreLines, none, more}
-
--- one name more
-pub names_on : (names table : List (List ℕ)) (k : ℕ) (name : List ℕ) → slice_get names k ≡ Some name →
-    put_unless (position_of name (with_names table (take k names))) (with_names table (take k names)) name
-    ≡ with_names table (take (suc k) names)
-names_on [] table k name h = absurd (cc)
-names_on (x ∷ xs) table zero name h =
-    let same : name ≡ x = cc in ap (λ x. put_unless (position_of x table) table x) same
-names_on (x ∷ xs) table (suc k) name h = names_on xs (put_unless (position_of x table) table x) k name h
 
 and_assoc : (a b c : Bool) → (a && (b && c)) ≡ ((a && b) && c)
 and_assoc true b c = refl

@@ -4,7 +4,7 @@ use Rattle.std.specs.Prelude.{◌<◌, is_some}
 use Rattle.ol_term.specs.Trees.{Tree, term_size}
 use Rattle.ol_derivations.specs.StepsFound.{IsLeft}
 use Rattle.ol_derivations.specs.Lines.{is_left_out}
-use Rattle.ol_derivations.specs.Tables.{with_names, in_table}
+use Rattle.ol_term.specs.NameLists.{with_names, in_table}
 use Rattle.ol_derivations.specs.Verdicts.{IsVerdict, is_fine, verdict_words}
 use Rattle.ol_derivations.specs.Derivations.{Terms, IsTermLine, IsNoTermLine, IsTold, IsLine, line_text, with_term}
 use Rattle.ol_derivations.specs.Derivations.{first, behind, left_out, no_term, term}

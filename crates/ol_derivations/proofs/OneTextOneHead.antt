@@ -8,7 +8,7 @@ use Rattle.std.proofs.lemmas.Slice.Eq.{bytes_eq-Decides}
 use Rattle.ol_term.specs.BinderNames.{is_among, binder_name}
 use Rattle.ol_term.proofs.Binders.{binder_is_not_free, binders_differ}
 use Rattle.ol_term.proofs.BinderTexts.{among_nowhere}
-use Rattle.ol_parse.specs.Numbered.{position_of}
+use Rattle.ol_term.specs.NameLists.{position_of, put_unless, with_names}
 use Rattle.ol_parse.specs.Parsed.{AreNames}
 use Rattle.ol_readback.specs.Terms.{HasAllHeads}
 use Rattle.ol_readback.specs.Texts.{IsNamedVar, IsNamedNode, abstractions, rounds}
@@ -20,7 +20,6 @@ use Rattle.ol_readback.specs.declared.answers.ReadNode.TheVariants as node
 use Rattle.ol_readback.proofs.OneTree.{list_is_of_one_tree}
 use Rattle.ol_readback.proofs.Scoped.{AreRound}
 use Rattle.ol_equal.specs.Comparing.{TreeWithNames, IsSameVar, Agree, place_at}
-use Rattle.ol_derivations.specs.Tables.{put_unless, with_names}
 use Rattle.ol_derivations.specs.Heads.{all_names, lams_of, underscores, told_variable, head_text}
 use Rattle.ol_derivations.specs.HeadLaws.{IsToldHead, OneTextIsOneHead}
 use Rattle.ol_derivations.specs.PlacesOfPaths.{gone}

@@ -1,52 +1,11 @@
--- Names in a table.
-use Rattle.std.proofs.Common.{◌≡◌, ℕ, suc, ◌+◌, ◌<◌, ◌≤◌, List, [], ◌∷◌, ◌++◌, length, Option, Some, None, cond, refl, sym, ap, ◌∙◌, arith}
-use Rattle.std.specs.Prelude.{◌≢◌, ◌&&◌, max, slice_get, slice_index_or}
-use Rattle.std.specs.List.{position_from}
-use Rattle.std.specs.Str.{bytes_eq}
-use Rattle.std.proofs.lemmas.List.{append-nil}
-use Rattle.ol_term.proofs.BinderTexts.{not_same}
+-- A tree in a table: its size, its depth and its variables stay.
+use Rattle.std.proofs.Common.{◌≡◌, ℕ, ◌+◌, List, [], Option, Some, None, refl, ap, ◌∙◌, arith}
+use Rattle.std.specs.Prelude.{◌&&◌, max, slice_index_or}
 use Rattle.ol_term.specs.Trees as tree
 use Rattle.ol_term.specs.Trees.{Tree, term_size, depth, is_below}
+use Rattle.ol_term.specs.NameLists.{position_of, free_at, in_table}
 use Rattle.ol_beta.specs.Beta.{IsWithin}
-use Rattle.ol_term.specs.NameLists.{IsFirstPlace}
-use Rattle.ol_parse.specs.Grammar.{var}
-use Rattle.ol_parse.specs.Numbered.{position_of, free_at}
-use Rattle.ol_parse.specs.Resolving.{add_unless}
-use Rattle.ol_parse.proofs.Places.{free_named, free_numbered}
 use Rattle.ol_parse.proofs.Files.{free_below}
-use Rattle.ol_derivations.specs.Tables.{put_unless, in_table}
-
--- a name that is in no place has none
-none_from : (x : List ℕ) (names : List (List ℕ)) (i : ℕ) →
-    ((j : ℕ) → slice_get names j ≢ Some x) → position_from (λ y. bytes_eq x y) i names ≡ None
-none_from x [] i each = refl
-none_from x (y ∷ ys) i each =
-    ap (λ b. cond b (Some i) (position_from (λ y. bytes_eq x y) (i + 1) ys))
-    (not_same x y (λ same. each 0 (ap (λ (l : List ℕ). Some l) (sym same))))
-    ∙ none_from x ys (i + 1) (λ j. each (suc j))
-
-pub place_none : (x : List ℕ) (table : List (List ℕ)) → ((j : ℕ) → slice_get table j ≢ Some x) →
-    tree.free 0 ≡ free_at (position_of x table)
-place_none x table each = sym (ap free_at (none_from x table 0 each))
-
-pub place_some : (x : List ℕ) (table : List (List ℕ)) (k : ℕ) → IsFirstPlace table x k →
-    tree.free k ≡ free_at (position_of x table)
-place_some x table k first = sym (free_numbered (var x) x [] table k refl refl first [])
-    ∙ ap (λ l. free_at (position_of x l)) (append-nil table)
-
--- ---- one name more
-
-same_put : (x : List ℕ) (table : List (List ℕ)) (o : Option ℕ) → add_unless table x None o ≡ put_unless o table x
-same_put x table None = refl
-same_put x table (Some k) = refl
-
-pub one_more : (x : List ℕ) (old new : List (List ℕ)) (k : ℕ) → IsFirstPlace new x k →
-    (k < length old → new ≡ old) → (length old ≤ k → new ≡ old ++ (x ∷ [])) →
-    new ≡ put_unless (position_of x old) old x
-one_more x old new k first known last = free_named (var x) x [] old new k refl refl first known last
-    ∙ same_put x old (position_of x old)
-
--- ---- a tree in a table
 
 free_small : (o : Option ℕ) → term_size (free_at o) ≡ 1
 free_small None = refl

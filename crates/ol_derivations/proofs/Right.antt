@@ -7,7 +7,7 @@ use Rattle.ol_beta.specs.Beta.{contracted}
 use Rattle.ol_subjects.specs.declared.answers.End.{End}
 use Rattle.ol_subjects.specs.declared.answers.End.TheVariants.{Yes, No}
 use Rattle.ol_derivations.specs.Lines.{lines_of, all_left_out}
-use Rattle.ol_derivations.specs.Tables.{with_names, in_table}
+use Rattle.ol_term.specs.NameLists.{with_names, in_table}
 use Rattle.ol_derivations.specs.Verdicts.{IsVerdict, is_fine}
 use Rattle.ol_derivations.specs.declared.judging.Verdict.{Verdict}
 use Rattle.ol_derivations.specs.declared.judging.Verdict.TheVariants.{Step, Same, Steps, Apart, NoStep}

@@ -13,7 +13,7 @@ use Rattle.ol_subjects.specs.declared.answers.End.TheVariants.{Yes, No}
 use Rattle.ol_derivations.specs.Steps.{IsFirstStep}
 use Rattle.ol_derivations.specs.Lines.{lines_of}
 use Rattle.ol_derivations.specs.Reductions.{AreSteps}
-use Rattle.ol_derivations.specs.Tables.{with_names, in_table}
+use Rattle.ol_term.specs.NameLists.{with_names, in_table}
 use Rattle.ol_derivations.specs.Verdicts.{IsVerdict, is_fine, verdict_words}
 use Rattle.ol_derivations.specs.declared.judging.Verdict.{Verdict}
 use Rattle.ol_derivations.specs.declared.judging.Verdict.TheVariants.{Step, Same, Steps, Apart, NoStep}

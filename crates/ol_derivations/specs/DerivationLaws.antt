@@ -5,7 +5,7 @@ use Rattle.ol_beta.specs.Beta.{contracted}
 use Rattle.ol_subjects.specs.declared.answers.End.{End}
 use Rattle.ol_subjects.specs.declared.answers.End.TheVariants.{Yes}
 use Rattle.ol_derivations.specs.Lines.{lines_of, is_left_out}
-use Rattle.ol_derivations.specs.Tables.{with_names, in_table}
+use Rattle.ol_term.specs.NameLists.{with_names, in_table}
 use Rattle.ol_derivations.specs.Reductions.{LeadsBy, IsSeen, most_told_steps}
 use Rattle.ol_derivations.specs.Verdicts.{IsVerdict, is_fine, verdict_words}
 use Rattle.ol_derivations.specs.Derivations.{IsTermLine, IsDerivation}

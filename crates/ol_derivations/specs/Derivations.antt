@@ -11,7 +11,7 @@ use Rattle.ol_subjects.specs.Limited.{bytes_words, depth_words, size_words}
 use Rattle.ol_subjects.specs.declared.answers.End.{End}
 use Rattle.ol_subjects.specs.declared.answers.End.TheVariants.{Yes, No}
 use Rattle.ol_derivations.specs.Lines.{lines_of, is_left_out, all_left_out}
-use Rattle.ol_derivations.specs.Tables.{with_names, in_table}
+use Rattle.ol_term.specs.NameLists.{with_names, in_table}
 use Rattle.ol_derivations.specs.Verdicts.{IsVerdict, is_fine, verdict_words}
 use Rattle.ol_derivations.specs.declared.judging.Verdict.{Verdict}
 use Rattle.ol_derivations.specs.declared.lines.Read as reads

@@ -10,7 +10,7 @@ use Rattle.ol_readback.specs.declared.answers.HeadVar.TheVariants as var
 use Rattle.ol_readback.specs.declared.answers.ReadNode.{ReadNode}
 use Rattle.ol_readback.specs.declared.answers.ReadNode.TheVariants as node
 use Rattle.ol_equal.specs.Comparing.{TreeWithNames, place_at}
-use Rattle.ol_derivations.specs.Tables.{with_names}
+use Rattle.ol_term.specs.NameLists.{with_names}
 
 -- the free names of two trees, each once
 abbrev pub all_names : TreeWithNames → List (List ℕ)

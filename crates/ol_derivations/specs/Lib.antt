@@ -1,6 +1,5 @@
 -- What clauses of public functions rest on.
 pub mod Lines
-pub mod Tables
 pub mod Steps
 pub mod NormalForms
 pub mod Reductions

@@ -1,7 +1,6 @@
 //! What students hand in: derivations, one term a line, and functions, compared with a solution.
 //!
 //! - `lines`: the lines of a file, and what each has
-//! - `tables`: one table of names for the terms of all lines
 //! - `stepping`: the first address at which one beta step leads from a term to another
 //! - `forms`: normal forms that are found within so many steps
 //! - `searching`: how many beta steps lead from a term to another
@@ -37,7 +36,6 @@ mod reading;
 mod rounding;
 mod searching;
 mod stepping;
-mod tables;
 mod telling;
 mod walking;
 
@@ -51,6 +49,5 @@ pub use lines::{Read, lines_of, read_line, words_of};
 pub use naming::all_names;
 pub use printing::head_text;
 pub use reading::Bounds;
-pub use tables::add_names;
 pub use telling::line_text;
 pub use walking::derivation;

@@ -3,7 +3,6 @@
 ghost use Rattle.std.specs.Prelude.{◌≡◌, IfOk};
 ghost use Rattle.ol_derivations.specs.Heads.{all_names};
 
-use crate::tables::add_names;
 use ol_limits::NoMemory;
 use ol_term::Names;
 use std::alloc::Global;
@@ -13,7 +12,7 @@ pub fn all_names(alloc: Global, a: &Names, b: &Names) -> Result<Names, NoMemory>
     ensures { IfOk result (λ all. all ≡ all_names (record { a = a.now; b = b.now })) }
 {
     let mut all = Names::new(alloc);
-    add_names(&mut all, a)?;
-    add_names(&mut all, b)?;
+    all.add_all(a)?;
+    all.add_all(b)?;
     Ok(all)
 }

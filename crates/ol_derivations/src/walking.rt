@@ -3,18 +3,17 @@
 ghost use Rattle.std.specs.Prelude.{◌≡◌, ◌<◌, ◌^◌, ◌++◌, [], true, codes, if◌then◌else◌, IfOk, OnOk};
 ghost use Rattle.ol_term.specs.Trees.{tree_of, is_below};
 ghost use Rattle.ol_beta.specs.Beta.{IsWithin};
-ghost use Rattle.ol_derivations.specs.Tables.{with_names, in_table};
+ghost use Rattle.ol_term.specs.NameLists.{with_names, in_table};
 ghost use Rattle.ol_derivations.specs.Derivations.{IsTermLine, IsTold, IsLine, IsDerivation, with_term};
 ghost use Rattle.ol_derivations.specs.StepsFound.{last_of, terms_of};
 
 use crate::holding::{Last, Sofar};
 use crate::judging::judge;
 use crate::lines::{Read, all_left_out, lines_of, read_line};
-use crate::tables::{add_names, renumber};
 use crate::telling::{line_text, verdict_line};
 use ol_limits::NoMemory;
 use ol_subjects::{Answer, End, put};
-use ol_term::{Names, Term, TermFile};
+use ol_term::{Names, Term, TermFile, renumber};
 use std::alloc::Global;
 
 /// What is said of a line, and whether a derivation may go on so.
@@ -63,7 +62,7 @@ fn take_term(alloc: Global, sofar: &mut Sofar, n: usize, file: TermFile) -> Resu
         (last_of sofar.old.last) told.text.items told.fine) }
 {
     let TermFile { mut term, names } = file;
-    add_names(&mut sofar.table, &names)?;
+    sofar.table.add_all(&names)?;
     renumber(&mut term, &names, &sofar.table);
     let told = told_of(alloc, &sofar.last, n, &term)?;
     sofar.last = Some(Last { line: n, term });

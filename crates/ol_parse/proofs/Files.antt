@@ -10,7 +10,8 @@ use Rattle.ol_term.specs.Trees as tree
 use Rattle.ol_term.specs.Trees.{Tree, tree_of, is_below, is_named_below, has_name}
 use Rattle.ol_parse.specs.Grammar.{Named, var, lam, app}
 use Rattle.ol_parse.specs.Depth.{named_depth}
-use Rattle.ol_parse.specs.Numbered.{position_of, numbered, var_at, free_at, names_of, number}
+use Rattle.ol_term.specs.NameLists.{position_of, free_at}
+use Rattle.ol_parse.specs.Numbered.{numbered, var_at, names_of, number}
 use Rattle.ol_parse.specs.Resolving.{names_from, add_unless}
 use Rattle.ol_parse.proofs.Once.{names_once}
 use Rattle.ol_parse.proofs.Places.{kept_from, new_from, grows}
@@ -43,7 +44,7 @@ within x (y ∷ ys) i k n e h = go (within x ys (i + 1) k n (omega arith)) (byte
     go each true h = let here : i ≡ k = cc in omega arith
     go each false h = each h
 
-in_list : (x : List ℕ) (names : List (List ℕ)) (k : ℕ) → position_of x names ≡ Some k → k < length names
+pub in_list : (x : List ℕ) (names : List (List ℕ)) (k : ℕ) → position_of x names ≡ Some k → k < length names
 in_list x names k h = within x names 0 k (length names) (omega arith) h
 
 pub free_below : (d : ℕ) (o : Option ℕ) → is_below d (free_at o) ≡ true

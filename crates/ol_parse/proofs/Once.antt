@@ -7,10 +7,11 @@ use Rattle.std.specs.Str.{bytes_eq}
 use Rattle.std.proofs.lemmas.Slice.Eq.{bytes_eq-Decides}
 use Rattle.std.proofs.Math.Bool.{or-false, or_assoc}
 use Rattle.ol_term.specs.Trees.{Tree}
-use Rattle.ol_term.specs.NameLists.{without}
+use Rattle.ol_term.specs.NameLists.{without, position_of, put_unless, with_names}
 use Rattle.ol_parse.specs.Grammar.{Named, var, lam, app}
-use Rattle.ol_parse.specs.Numbered.{position_of, unbound, free_in, once, names_of, number, numbered}
+use Rattle.ol_parse.specs.Numbered.{unbound, free_in, once, names_of, number, numbered}
 use Rattle.ol_parse.specs.Resolving.{add_unless, names_from, texts, IsNumbered}
+use Rattle.ol_parse.proofs.Places.{same_put}
 
 -- a name is in the list
 abbrev has : List ℕ → List (List ℕ) → Bool
@@ -21,26 +22,23 @@ has x (y ∷ ys) = bytes_eq x y || has x ys
 abbrev is_new : List (List ℕ) → List ℕ → Bool
 is_new names x = not (has x names)
 
-abbrev add_all : List (List ℕ) → List (List ℕ) → List (List ℕ)
-add_all names [] = names
-add_all names (x ∷ xs) = add_all (add_unless names x None (position_of x names)) xs
-
-add_both : (xs ys names : List (List ℕ)) → add_all names (xs ++ ys) ≡ add_all (add_all names xs) ys
-add_both [] ys names = refl
-add_both (x ∷ xs) ys names = add_both xs ys (add_unless names x None (position_of x names))
+pub both_added : (xs ys names : List (List ℕ)) →
+    with_names names (xs ++ ys) ≡ with_names (with_names names xs) ys
+both_added [] ys names = refl
+both_added (x ∷ xs) ys names = both_added xs ys (put_unless (position_of x names) names x)
 
 one_added : (names : List (List ℕ)) (x : List ℕ) (o : Option ℕ) →
-    add_unless names x o (position_of x names) ≡ add_all names (unbound x o)
+    add_unless names x o (position_of x names) ≡ with_names names (unbound x o)
 one_added names x (Some k) = refl
-one_added names x None = refl
+one_added names x None = same_put x names (position_of x names)
 
-all_added : (t : Named) (binders names : List (List ℕ)) → names_from binders names t ≡ add_all names (free_in binders t)
+all_added : (t : Named) (binders names : List (List ℕ)) → names_from binders names t ≡ with_names names (free_in binders t)
 all_added (var x) binders names = one_added names x (position_of x binders)
 all_added (lam x t) binders names = all_added t (x ∷ binders) names
 all_added (app f t) binders names =
     all_added t binders (names_from binders names f)
-    ∙ ap (λ n. add_all n (free_in binders t)) (all_added f binders names)
-    ∙ sym (add_both (free_in binders f) (free_in binders t) names)
+    ∙ ap (λ n. with_names n (free_in binders t)) (all_added f binders names)
+    ∙ sym (both_added (free_in binders f) (free_in binders t) names)
 
 -- ---- a name in a list
 
@@ -116,15 +114,15 @@ new_gone x names (y ∷ ys) = go (bytes_eq x y) refl (new_gone x names ys)
         ap (kept (has y names) y) each ∙ ap (λ b. kept b y (filter (is_new (names ++ (x ∷ []))) ys))
         (sym (or-false (has y names)) ∙ ap (λ b. has y names || b) (sym (back (bytes_eq y x) refl e)))
 
-behind : (xs names : List (List ℕ)) → add_all names xs ≡ names ++ filter (is_new names) (once xs)
+behind : (xs names : List (List ℕ)) → with_names names xs ≡ names ++ filter (is_new names) (once xs)
 behind [] names = sym (append-nil names)
 behind (x ∷ xs) names = go (position_of x names) refl (behind xs names) (behind xs (names ++ (x ∷ [])))
   where
     go : (o : Option ℕ) → position_of x names ≡ o →
-        add_all names xs ≡ names ++ filter (is_new names) (once xs) →
-        add_all (names ++ (x ∷ [])) xs
+        with_names names xs ≡ names ++ filter (is_new names) (once xs) →
+        with_names (names ++ (x ∷ [])) xs
         ≡ (names ++ (x ∷ [])) ++ filter (is_new (names ++ (x ∷ []))) (once xs)
-        → add_all (add_unless names x None o) xs ≡ names ++ kept (has x names) x
+        → with_names (put_unless o names x) xs ≡ names ++ kept (has x names) x
         (filter (is_new names) (without x (once xs)))
     go (Some k) e old new =
         let here = at_some x names 0 k e in
@@ -140,8 +138,11 @@ all_new : (ys : List (List ℕ)) → filter (is_new []) ys ≡ ys
 all_new [] = refl
 all_new (y ∷ ys) = ap (λ l. y ∷ l) (all_new ys)
 
+pub once_added : (xs : List (List ℕ)) → with_names [] xs ≡ once xs
+once_added xs = behind xs [] ∙ all_new (once xs)
+
 pub names_once : (t : Named) → names_from [] [] t ≡ names_of t
-names_once t = all_added t [] [] ∙ behind (free_in [] t) [] ∙ all_new (once (free_in [] t))
+names_once t = all_added t [] [] ∙ once_added (free_in [] t)
 
 pub whole_numbered : (t : Named) (binders : List (Bor (List ℕ))) (names names' : List (List ℕ))
     (u : Tree) → binders ≡ [] → names ≡ [] → names' ≡ names_from (texts (reverse binders)) names t →

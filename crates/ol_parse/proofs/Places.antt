@@ -1,21 +1,18 @@
 -- Places of names.
-use Rattle.std.proofs.Common.{◌≡◌, ℕ, zero, suc, ◌+◌, ◌-◌, ◌<◌, ◌≤◌, inl, inr, List, [], ◌∷◌, ◌++◌, drop, get_or}
+use Rattle.std.proofs.Common.{◌≡◌, ℕ, suc, ◌+◌, ◌-◌, ◌<◌, ◌≤◌, List, [], ◌∷◌, ◌++◌, drop, get_or}
 use Rattle.std.proofs.Common.{length, reverse, Bool, true, false, cond, Option, Some, None, refl, sym, ap, ◌∙◌}
 use Rattle.std.proofs.Common.{append_assoc, append-nil, add-one, drop-cons, arith}
 use Rattle.std.proofs.lemmas.List.{get_or-reverse}
-use Rattle.std.proofs.lemmas.Bool.{cases_lt}
-use Rattle.std.specs.Prelude.{◌≢◌, slice_get}
 use Rattle.std.specs.List.{position_from}
 use Rattle.std.proofs.lemmas.Slice.Eq.{bytes_eq-Decides}
 use Rattle.std.specs.Borrow.{Bor}
 use Rattle.std.specs.Str.{bytes_eq}
-use Rattle.ol_term.proofs.BinderTexts.{not_same}
-use Rattle.ol_term.proofs.Indexing.{below_added}
+use Rattle.ol_term.proofs.NamePlaces.{first_place, one_name_more}
 use Rattle.ol_parse.specs.Grammar.{Named, var, lam, app}
 use Rattle.ol_term.specs.Trees as tree
 use Rattle.ol_term.specs.Trees.{Tree}
-use Rattle.ol_term.specs.NameLists.{IsFirstPlace}
-use Rattle.ol_parse.specs.Numbered.{position_of, numbered, var_at, free_at}
+use Rattle.ol_term.specs.NameLists.{IsFirstPlace, position_of, put_unless, free_at}
+use Rattle.ol_parse.specs.Numbered.{numbered, var_at}
 use Rattle.ol_parse.specs.Resolving.{texts, names_from, add_unless, IsNumbered}
 
 abbrev is : List ℕ → List ℕ → Bool
@@ -85,57 +82,19 @@ grows (app f t) binders names =
     let (b, h) = grows t binders (names_from binders names f) in
     (a ++ b, h ∙ ap (λ l. l ++ b) e ∙ append_assoc names a b)
 
--- ---- first places
-
-first_from : (x : List ℕ) (names : List (List ℕ)) (i k n : ℕ) → n ≡ i + k →
-    slice_get names k ≡ Some x → ((j : ℕ) → j < k → slice_get names j ≢ Some x) →
-    position_from (λ y. bytes_eq x y) i names ≡ Some n
-first_from x [] i k n e h before = absurd (cc)
-first_from x (y ∷ ys) i zero n e h before =
-    let same : x ≡ y = cc in
-    let here : i ≡ n = omega arith in
-    ap (λ b. cond b (Some i) (position_from (is x) (i + 1) ys))
-    (ap (bytes_eq x) (sym same) ∙ (bytes_eq-Decides x x).1 refl) ∙ ap (λ (n : ℕ). Some n) here
-first_from x (y ∷ ys) i (suc k) n e h before =
-    let other : bytes_eq x y ≡ false = not_same x y
-    (λ same. before 0 (omega arith) (ap (λ (l : List ℕ). Some l) (sym same))) in
-    let further : n ≡ (i + 1) + k = omega arith in
-    ap (λ b. cond b (Some i) (position_from (is x) (i + 1) ys)) other
-    ∙ first_from x ys (i + 1) k n further h (λ j l. before (suc j) (omega arith))
-
-none_from : (x : List ℕ) (names : List (List ℕ)) (i : ℕ) →
-    ((j : ℕ) → j < length names → slice_get names j ≢ Some x) → position_from (λ y. bytes_eq x y) i names ≡ None
-none_from x [] i each = refl
-none_from x (y ∷ ys) i each =
-    ap (λ b. cond b (Some i) (position_from (is x) (i + 1) ys))
-    (not_same x y (λ same. each 0 (omega arith) (ap (λ (l : List ℕ). Some l) (sym same))))
-    ∙ none_from x ys (i + 1) (λ j l. each (suc j) (omega arith))
-
-first_place : (x : List ℕ) (names : List (List ℕ)) (k : ℕ) → IsFirstPlace names x k → position_of x names ≡ Some k
-first_place x names k f = let e : k ≡ 0 + k = omega arith in first_from x names 0 k k e f.here f.before
-
 -- ---- a free name
+
+pub same_put : (x : List ℕ) (table : List (List ℕ)) (o : Option ℕ) → add_unless table x None o ≡ put_unless o table x
+same_put x table None = refl
+same_put x table (Some k) = refl
 
 -- the names behind it
 pub free_named : (t : Named) (x : List ℕ) (binders old new : List (List ℕ)) (k : ℕ) → t ≡ var x →
     position_of x binders ≡ None → IsFirstPlace new x k → (k < length old → new ≡ old) →
     (length old ≤ k → new ≡ old ++ (x ∷ [])) → new ≡ names_from binders old t
 free_named t x binders old new k e b f known last =
-    sym (ap (names_from binders old) e ∙ ap (λ o. add_unless old x o (position_of x old)) b
-    ∙ elim (cases_lt k (length old)) [
-      | inl low ↦ (
-          let same : new ≡ old = known low in
-          let here : position_of x old ≡ Some k = ap (position_of x) (sym same) ∙ first_place x new k f in
-          ap (add_unless old x None) here ∙ sym same
-          )
-      | inr past ↦ (
-          let more : new ≡ old ++ (x ∷ []) = last (omega arith) in
-          let gone : position_of x old ≡ None = none_from x old 0
-          (λ j l same. f.before j (omega arith)
-          (ap (λ l. slice_get l j) more ∙ below_added old (x ∷ []) j l ∙ same)) in
-          ap (add_unless old x None) gone ∙ sym more
-          )
-    ])
+    one_name_more x old new k f known last ∙ sym (ap (names_from binders old) e
+    ∙ ap (λ o. add_unless old x o (position_of x old)) b ∙ same_put x old (position_of x old))
 
 -- its number
 pub free_numbered : (t : Named) (x : List ℕ) (binders names : List (List ℕ)) (k : ℕ) → t ≡ var x →

@@ -8,10 +8,10 @@ use Rattle.ol_parse.specs.Grammar.{term_spine, term_both, IsSpine, spine_one, sp
 use Rattle.ol_parse.specs.Grammar.{atom_name, atom_brackets, IsBody, body_lambda, body_let}
 use Rattle.ol_parse.specs.Texts.{token_of, is_word, IsToken, token_sign, token_letter, token_word}
 use Rattle.ol_parse.specs.Texts.{IsName, Spells, spells_none, spells_one, IsText}
-use Rattle.ol_parse.specs.Numbered.{position_of, unbound, free_in, once, names_of}
+use Rattle.ol_term.specs.NameLists.{position_of, without}
+use Rattle.ol_parse.specs.Numbered.{unbound, free_in, once, names_of}
 use Rattle.ol_parse.specs.Parsed.{AreNames}
 use Rattle.ol_parse.proofs.Spelling.{sign_no_word}
-use Rattle.ol_term.specs.NameLists.{without}
 
 -- ---- tokens
 

@@ -1,16 +1,10 @@
 -- From a term with names to a tree: each name by its innermost binding, and free names in order of first occurrence,
 -- the function before the argument.
 use Rattle.std.specs.Prelude.{ℕ, List, [], ◌∷◌, ◌++◌, Option, Some, None}
-use Rattle.std.specs.List.{position_from}
-use Rattle.std.specs.Str.{bytes_eq}
 use Rattle.ol_term.specs.Trees as tree
 use Rattle.ol_term.specs.Trees.{Tree}
-use Rattle.ol_term.specs.NameLists.{without}
+use Rattle.ol_term.specs.NameLists.{without, position_of, free_at}
 use Rattle.ol_parse.specs.Grammar.{Named, var, lam, app}
-
--- the first place of a name
-abbrev pub position_of : List ℕ → List (List ℕ) → Option ℕ
-position_of x names = position_from (λ y. bytes_eq x y) 0 names
 
 -- a name, unless it is bound
 abbrev pub unbound : List ℕ → Option ℕ → List (List ℕ)
@@ -32,11 +26,6 @@ once (x ∷ xs) = x ∷ without x (once xs)
 -- the free names of a term, in order of first occurrence
 abbrev pub names_of : Named → List (List ℕ)
 names_of t = once (free_in [] t)
-
--- the number of a free name; no name of the term is missing from the list
-abbrev pub free_at : Option ℕ → Tree
-free_at (Some k) = tree.free k
-free_at None = tree.free 0
 
 -- an occurrence of a name, from its place among the binders and among the free names
 abbrev pub var_at : Option ℕ → Option ℕ → Tree

@@ -3,7 +3,8 @@ use Rattle.std.specs.Prelude.{◌≡◌, ℕ, List, [], ◌∷◌, ◌++◌, map
 use Rattle.std.specs.Borrow.{Bor}
 use Rattle.ol_term.specs.Trees.{Tree}
 use Rattle.ol_parse.specs.Grammar.{Named, var, lam, app}
-use Rattle.ol_parse.specs.Numbered.{position_of, numbered}
+use Rattle.ol_term.specs.NameLists.{position_of}
+use Rattle.ol_parse.specs.Numbered.{numbered}
 
 -- a name behind the others, unless it has a place among the binders or among them
 abbrev pub add_unless : List (List ℕ) → List ℕ → Option ℕ → Option ℕ → List (List ℕ)

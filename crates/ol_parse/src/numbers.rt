@@ -7,14 +7,15 @@ ghost use Rattle.ol_term.specs.Trees.{tree_of, is_below, is_named_below, depth};
 ghost use Rattle.ol_parse.specs.Depth.{named_depth};
 ghost use Rattle.ol_parse.specs.Laws.{leaves};
 ghost use Rattle.ol_parse.specs.Steps.{term_at, whole, HaveStarts};
-ghost use Rattle.ol_parse.specs.Numbered.{position_of, names_of, number, numbered};
+ghost use Rattle.ol_term.specs.NameLists.{position_of};
+ghost use Rattle.ol_parse.specs.Numbered.{names_of, number, numbered};
 ghost use Rattle.ol_parse.specs.Resolving.{texts, names_from, add_unless, IsNumbered};
 
 use crate::bytes::is_same;
 use crate::flat::Op;
 use crate::steps::{Part, part_at, starts_of};
 use ol_limits::NoMemory;
-use ol_term::{Names, Term, TermFile};
+use ol_term::{Names, Term, TermFile, boxed};
 use std::alloc::Global;
 
 /// The number of the innermost binder of a name, counted from the innermost as 0.
@@ -68,12 +69,6 @@ fn resolve<'a>(
             Ok(Term::App(boxed(alloc, function)?, boxed(alloc, argument)?))
         }
     }
-}
-
-fn boxed(alloc: Global, term: Term) -> Result<Box<Term>, NoMemory>
-    ensures { IfOk result (λ b. b.value ≡ term) }
-{
-    Box::new(alloc, term).map_err(|_| NoMemory)
 }
 
 /// The term that the operations build, in de Bruijn notation. The free names are numbered in the

@@ -7,13 +7,13 @@ use Rattle.std.specs.Str.{bytes_eq}
 use Rattle.std.proofs.lemmas.Slice.Eq.{bytes_eq-Decides}
 use Rattle.ol_term.specs.Trees as tree
 use Rattle.ol_term.specs.Trees.{Tree}
-use Rattle.ol_term.specs.NameLists.{NoNameTwice, without}
+use Rattle.ol_term.specs.NameLists.{NoNameTwice, without, position_of, free_at}
 use Rattle.ol_term.specs.BinderNames.{binder_name}
 use Rattle.ol_term.proofs.Binders.{binder_is_not_free, binders_differ}
 use Rattle.ol_term.proofs.BinderTexts.{not_same}
 use Rattle.ol_parse.specs.Grammar as grammar
 use Rattle.ol_parse.specs.Grammar.{Named, lams}
-use Rattle.ol_parse.specs.Numbered.{position_of, unbound, free_in, once, names_of, numbered, free_at, var_at}
+use Rattle.ol_parse.specs.Numbered.{unbound, free_in, once, names_of, numbered, var_at}
 use Rattle.ol_readback.specs.Whole.{Part, term, lost, cut, none, more, preorder}
 use Rattle.ol_readback.specs.Texts.{variable}
 use Rattle.ol_readback.specs.Terms.{abstracted, index_of, variable_of, meaning, AreAmong, term_of}

@@ -5,7 +5,8 @@ use Rattle.ol_term.specs.Trees as tree
 use Rattle.ol_term.specs.Trees.{Tree}
 use Rattle.ol_parse.specs.Grammar.{Named}
 use Rattle.ol_parse.specs.Texts.{IsText}
-use Rattle.ol_parse.specs.Numbered.{position_of, names_of, numbered}
+use Rattle.ol_term.specs.NameLists.{position_of}
+use Rattle.ol_parse.specs.Numbered.{names_of, numbered}
 use Rattle.ol_readback.specs.Whole.{Part, term, lost, cut, none, more, preorder}
 use Rattle.ol_readback.specs.declared.answers.HeadVar.{HeadVar}
 use Rattle.ol_readback.specs.declared.answers.HeadVar.TheVariants as var

@@ -8,11 +8,11 @@ use Rattle.std.proofs.lemmas.Bool.{and_parts, ltb-true}
 use Rattle.std.proofs.lemmas.Slice.Eq.{bytes_eq-Decides}
 use Rattle.ol_term.specs.Trees as tree
 use Rattle.ol_term.specs.Trees.{Tree, depth, is_below, is_named_below}
-use Rattle.ol_term.specs.NameLists.{NoNameTwice}
+use Rattle.ol_term.specs.NameLists.{NoNameTwice, position_of, free_at}
 use Rattle.ol_term.specs.BinderNames.{binder_name}
 use Rattle.ol_term.proofs.Binders.{binder_is_not_free, binders_differ}
 use Rattle.ol_term.proofs.BinderTexts.{not_same}
-use Rattle.ol_parse.specs.Numbered.{position_of, numbered, free_at, var_at}
+use Rattle.ol_parse.specs.Numbered.{numbered, var_at}
 use Rattle.ol_steps.specs.Lettered.{lettered}
 use Rattle.ol_steps.specs.BinderLaws.{LettersAreRead}
 use Rattle.ol_steps.proofs.Catching.{some_there, free_place}

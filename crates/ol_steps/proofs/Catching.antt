@@ -8,10 +8,10 @@ use Rattle.std.proofs.lemmas.Bool.{and_parts, or_parts, cases_lt, ltb-true, lt-l
 use Rattle.std.proofs.lemmas.Slice.Eq.{bytes_eq-Decides}
 use Rattle.ol_term.specs.Trees as tree
 use Rattle.ol_term.specs.Trees.{Tree, is_below, is_named_below}
-use Rattle.ol_term.specs.NameLists.{NoNameTwice}
+use Rattle.ol_term.specs.NameLists.{NoNameTwice, position_of, free_at}
 use Rattle.ol_term.specs.BinderNames.{is_among}
 use Rattle.ol_parse.specs.Grammar as grammar
-use Rattle.ol_parse.specs.Numbered.{position_of, numbered, free_at, var_at}
+use Rattle.ol_parse.specs.Numbered.{numbered, var_at}
 use Rattle.ol_steps.specs.Binders.{Binders, leaf, lam, app, Fits}
 use Rattle.ol_steps.specs.Naming.{used, primed, named}
 use Rattle.ol_steps.specs.BinderLaws.{NoneIsCaught}

@@ -8,7 +8,8 @@ use Rattle.ol_term.specs.Trees as tree
 use Rattle.ol_term.specs.Trees.{Tree}
 use Rattle.ol_parse.specs.Grammar as named
 use Rattle.ol_parse.specs.Grammar.{Named}
-use Rattle.ol_parse.specs.Numbered.{position_of, names_of, number, numbered, free_at, var_at}
+use Rattle.ol_term.specs.NameLists.{position_of, free_at}
+use Rattle.ol_parse.specs.Numbered.{names_of, number, numbered, var_at}
 use Rattle.ol_beta.specs.Beta as beta
 use Rattle.ol_beta.specs.Beta.{shifted, substituted}
 use Rattle.ol_steps.specs.Binders.{Binders, leaf, lam, app, binders_of, Fits}

@@ -11,7 +11,8 @@ use Rattle.ol_term.specs.Trees as tree
 use Rattle.ol_term.specs.Trees.{Tree, is_named_below}
 use Rattle.ol_term.specs.BinderNames.{binder_name}
 use Rattle.ol_parse.specs.Grammar.{Named, var, lam, app}
-use Rattle.ol_parse.specs.Numbered.{position_of, var_at, numbered}
+use Rattle.ol_term.specs.NameLists.{position_of}
+use Rattle.ol_parse.specs.Numbered.{var_at, numbered}
 use Rattle.ol_beta.specs.Beta.{contracted, applied}
 use Rattle.ol_beta.proofs.Redexes.{some_map}
 use Rattle.ol_strategies.proofs.Nexts.{next_is_redex}

@@ -9,11 +9,11 @@ use Rattle.std.proofs.lemmas.Slice.Eq.{bytes_eq-Decides}
 use Rattle.std.proofs.lemmas.Option.{same_Some}
 use Rattle.ol_term.specs.Trees as tree
 use Rattle.ol_term.specs.Trees.{Tree}
-use Rattle.ol_term.specs.NameLists.{IsFirstPlace, without}
+use Rattle.ol_term.specs.NameLists.{IsFirstPlace, without, position_of}
 use Rattle.ol_term.specs.BinderNames.{is_among}
 use Rattle.ol_term.proofs.BinderTexts.{not_same}
 use Rattle.ol_parse.specs.Grammar.{Named, var, lam, app}
-use Rattle.ol_parse.specs.Numbered.{position_of, unbound, free_in, once, names_of, number, numbered, var_at}
+use Rattle.ol_parse.specs.Numbered.{unbound, free_in, once, names_of, number, numbered, var_at}
 use Rattle.ol_steps.specs.Binders as binders
 use Rattle.ol_steps.specs.Binders.{binders_of}
 use Rattle.ol_steps.specs.Naming.{used, primed, named}

@@ -3,3 +3,4 @@ pub mod Binders
 pub mod BinderTexts
 pub mod Items
 pub mod Doubling
+pub mod NamePlaces

@@ -3,7 +3,9 @@
 //!
 //! - `terms`: terms without names
 //! - `measures`: size, depth and α-equality
+//! - `copying`: copies of terms
 //! - `name_list`: lists of names, each found by an index
+//! - `renumbering`: the free names of a term, numbered by another list
 //! - `term_file`: a term and its free names
 //! - `binder_names`: names for binders, different from the free names
 //! - `binder_laws`: the theorem that these names are new
@@ -16,20 +18,24 @@
 
 mod binder_laws;
 mod binder_names;
+mod copying;
 mod generating;
 mod measures;
 mod name_list;
 mod printing;
+mod renumbering;
 mod term_file;
 mod terms;
 mod translations;
 
 pub use binder_laws::binder_names_are_new;
 pub use binder_names::BinderNames;
+pub use copying::{boxed, copied};
 pub use generating::{Made, make};
 pub use measures::{alpha_eq, depth, size};
 pub use name_list::Names;
 pub use printing::print_term;
+pub use renumbering::renumber;
 pub use term_file::TermFile;
 pub use terms::Term;
 pub use translations::Translation;

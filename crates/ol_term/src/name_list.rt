@@ -1,9 +1,9 @@
 //! Lists of names, each found by an index.
 
-ghost use Rattle.std.specs.Prelude.{◌≡◌, ◌≢◌, ℕ, ◌+◌, ◌^◌, ◌<◌, ◌≤◌, ◌↔◌, List, [], ◌∷◌, ◌++◌, Some, IfOk, OnOk, OnErr, IfSome, IsNone, length, map, slice_get};
+ghost use Rattle.std.specs.Prelude.{◌≡◌, ◌≢◌, ℕ, ◌+◌, ◌^◌, ◌<◌, ◌≤◌, ◌↔◌, List, [], ◌∷◌, ◌++◌, Some, IfOk, OnOk, OnErr, IfSome, IsNone, length, map, slice_get, take};
 ghost use Rattle.std.specs.BTreeMap.{insert_entry};
 ghost use Rattle.std.specs.Option.{option_map};
-ghost use Rattle.ol_term.specs.NameLists.{IsFirstPlace, NoNameTwice};
+ghost use Rattle.ol_term.specs.NameLists.{IsFirstPlace, NoNameTwice, position_of, put_unless, with_names};
 ghost use Rattle.ol_term.specs.NameIndexes.{by_bytes};
 ghost use Rattle.ol_term.specs.NameFinds.{IsIndexed, found};
 
@@ -98,6 +98,36 @@ impl Names {
             }
         }
     }
+
+    /// Appends the names of another list, each unless this list contains it. `NoMemory`: no memory
+    /// was found for a name, and only those before it were appended.
+    pub fn add_all(&mut self, names: &Names) -> Result<(), NoMemory>
+        ensures all { OnOk result (self.new ≡ with_names self.old names.now) }
+        ensures refusal { OnErr result
+            ((k : ℕ) × (self.new ≡ with_names self.old (take k names.now))) }
+    {
+        for k in 0..names.len() {
+            let Some(name) = names.get(k) else {
+                unreachable!()
+            };
+            add_name(self, name)?;
+        }
+        Ok(())
+    }
+}
+
+// Appends a name, unless the list contains it. A list has fewer than 2^32 names, each of which
+// takes memory.
+fn add_name(list: &mut Names, name: &[u8]) -> Result<(), NoMemory>
+    ensures added { OnOk result
+        (list.new ≡ put_unless (position_of name.now list.old) list.old name.now) }
+    ensures refusal { OnErr result (list.new ≡ list.old) }
+{
+    if list.len() == u32::MAX {
+        return Err(NoMemory);
+    }
+    list.add(name)?;
+    Ok(())
 }
 
 fn found_in(index: &BTreeMap<Vec<u8>, u32>, name: &[u8]) -> Option<u32>

@@ -3,7 +3,7 @@ use Rattle.std.proofs.lemmas.Result.{err_from_is_err_and}
 use Rattle.ol_term.specs.Trees as tree
 use Rattle.ol_term.specs.Trees.{tree_of}
 use Rattle.ol_parse.specs.Steps.{term_at, shown}
-use Rattle.ol_parse.specs.Numbered.{position_of}
+use Rattle.ol_term.specs.NameLists.{position_of}
 use Rattle.ol_parse.specs.Resolving.{texts, names_from, IsNumbered}
 use Rattle.ol_parse.proofs.Places.{free_named, free_numbered, both_numbered}
 use Rattle.ol_parse.proofs.numbers.+resolve.Goals as goal

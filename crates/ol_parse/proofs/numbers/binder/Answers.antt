@@ -1,7 +1,7 @@
 use Rattle.std.proofs.Common.{◌<◌, length, reverse, sym, ◌∙◌, true, false, arith}
 use Rattle.std.proofs.lemmas.List.{length-reverse}
 use Rattle.ol_parse.proofs.Places.{turn_back}
-use Rattle.ol_parse.specs.Numbered.{position_of}
+use Rattle.ol_term.specs.NameLists.{position_of}
 use Rattle.ol_parse.specs.Resolving.{texts}
 use Rattle.ol_parse.proofs.numbers.binder.Goals as goal
 

@@ -1,6 +1,6 @@
 use Rattle.std.proofs.Common.{refl}
-use Rattle.ol_derivations.proofs.Places.{place_some, place_none}
-use Rattle.ol_derivations.proofs.tables.place_of.Goals as goal
+use Rattle.ol_term.proofs.NamePlaces.{place_some, place_none}
+use Rattle.ol_term.proofs.renumbering.place_of.Goals as goal
 
 pub returns-in-Some : goal.returns-in-Some
 returns-in-Some c = place_some c.args.name.now c.args.table.now c.in-Some.place c.in-Some.ensures.place
