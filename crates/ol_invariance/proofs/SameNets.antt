@@ -9,7 +9,8 @@ use Rattle.ol_rules.proofs.Relation.{same_sym}
 use Rattle.ol_rules.proofs.StartNets.{one_start}
 use Rattle.ol_rules.specs.declared.journal.NodeName.TheVariants.{Init}
 
-same_path : {A : Type 0} (M N : NamedNet A) → SameNet M N →
+-- the paths of one net are those of another with the same nodes and links
+pub same_path : {A : Type 0} (M N : NamedNet A) → SameNet M N →
     {p : NamedPort A} {c d : Context} {q : ℕ} → Path M p c q d → Path N p c q d
 same_path M N s (ends l) = ends ((s.links _ _).0 l)
 same_path M N s (goes l h x r) = goes ((s.links _ _).0 l) ((s.nodes _ _ _).0 h) x (same_path M N s r)

@@ -7,6 +7,7 @@ use Rattle.ol_net.specs.declared.parts.Rule.{Rule}
 use Rattle.ol_net.specs.declared.parts.Rule.TheVariants as rule
 use Rattle.ol_net.specs.Rules.{rule_of, met, crossed, by_index}
 use Rattle.ol_rules.specs.Rewriting.{is_meeting}
+use Rattle.ol_rules.proofs.Alike.{crossed_crosses}
 use Rattle.ol_law_completeness.proofs.Lines.{marks}
 
 met_level : (k l : Kind) (r : Rule) → met k l ≡ Some r → marks k ≡ marks l
@@ -17,24 +18,12 @@ met_level kind.Croissant kind.Croissant r e = refl
 met_level kind.Bracket kind.Bracket r e = refl
 met_level _ _ r e = absurd (let bad : None ≡ Some r = e in cc)
 
-crossed_meets : (k : Kind) (r : Rule) → crossed k ≡ Some r → is_meeting r ≡ true → ⊥
-crossed_meets kind.Fan r e h =
-    let q : r ≡ rule.CrossFan = (let g : Some rule.CrossFan ≡ Some r = e in cc) in
-    let bad : false ≡ true = sym (ap is_meeting q) ∙ h in absurd (cc)
-crossed_meets kind.Croissant r e h =
-    let q : r ≡ rule.CrossCroissant = (let g : Some rule.CrossCroissant ≡ Some r = e in cc) in
-    let bad : false ≡ true = sym (ap is_meeting q) ∙ h in absurd (cc)
-crossed_meets kind.Bracket r e h =
-    let q : r ≡ rule.CrossBracket = (let g : Some rule.CrossBracket ≡ Some r = e in cc) in
-    let bad : false ≡ true = sym (ap is_meeting q) ∙ h in absurd (cc)
-crossed_meets _ r e h = absurd (let bad : None ≡ Some r = e in cc)
-
 by_index_level : (k : Kind) (i : ℕ) (l : Kind) (j : ℕ) (r : Rule) → by_index k i l j ≡ Some r →
     is_meeting r ≡ true → marks k ≡ marks l
 by_index_level k i l j r e h = same (nat_eq i j) (nat_lt i j) e
   where
     below : (b : Bool) → cond b (crossed k) None ≡ Some r → marks k ≡ marks l
-    below true e = absurd (crossed_meets k r e h)
+    below true e = let z = crossed_crosses k r e in absurd (let bad : false ≡ true = sym z ∙ h in cc)
     below false e = absurd (let bad : None ≡ Some r = e in cc)
 
     same : (b c : Bool) → cond b (met k l) (cond c (crossed k) None) ≡ Some r → marks k ≡ marks l

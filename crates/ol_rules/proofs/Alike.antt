@@ -16,7 +16,8 @@ met_alike kind.Croissant kind.Croissant r e = refl
 met_alike kind.Bracket kind.Bracket r e = refl
 met_alike _ _ r e = absurd (let bad : None ≡ Some r = e in cc)
 
-crossed_crosses : (k : Kind) (r : Rule) → crossed k ≡ Some r → is_meeting r ≡ false
+-- no crossing is a meeting
+pub crossed_crosses : (k : Kind) (r : Rule) → crossed k ≡ Some r → is_meeting r ≡ false
 crossed_crosses kind.Fan r e = ap is_meeting
     (let q : r ≡ rule.CrossFan = (let h : Some rule.CrossFan ≡ Some r = e in cc) in q)
 crossed_crosses kind.Croissant r e = ap is_meeting

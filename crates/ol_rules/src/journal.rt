@@ -1,6 +1,6 @@
 //! Traces: the active pairs of a reduction, in order, with names that don't depend on the order.
 
-ghost use Rattle.std.specs.Prelude.{◌≡◌, ℕ, ◌+◌, ◌-◌, ◌<◌, ◌^◌, ◌++◌, [], ◌∷◌, length, IfOk, OnOk, OnErr, slice_get, get_or, vec_len};
+ghost use Rattle.std.specs.Prelude.{◌≡◌, ℕ, ◌+◌, ◌-◌, ◌<◌, ◌^◌, ◌++◌, [], ◌∷◌, length, OnOk, OnErr, slice_get, get_or};
 
 use ol_limits::NoMemory;
 use ol_net::Rule;
@@ -50,15 +50,6 @@ impl Journal {
         Journal {
             entries: Vec::new(alloc),
         }
-    }
-
-    /// The empty trace, with a capacity of `entries` entries. `NoMemory`: no memory was found for
-    /// it.
-    pub fn with_room(alloc: Global, entries: u32) -> Result<Journal, NoMemory>
-        ensures empty { IfOk result (λ journal. journal ≡ []) }
-    {
-        let entries = Vec::with_capacity(alloc, entries as usize)?;
-        Ok(Journal { entries })
     }
 
     /// Appends an entry. After `NoMemory` the trace is unchanged.

@@ -191,7 +191,7 @@ impl Words {
         ensures { IfOk result (λ journal. journal ≡ journal_drawn self.now) }
     {
         let events = self.events();
-        let mut journal = Journal::with_room(alloc, events)?;
+        let mut journal = Journal::new(alloc);
         for k in 0..events {
             let pair = pairs[k as usize];
             journal.push(self.entry(k, pair))?;
