@@ -362,9 +362,10 @@ fn put_copy(text: &mut String, ticket: u32, place: u8) -> Result<(), NoMemory>
     put_name(text, NodeName::Born { ticket, place })?;
     put(text, ": line ")?;
     put_long(text, ticket as u64 + 2)?;
-    let causes =
-        " numbers its nodes otherwise, links are crossed, or the first net differs; see bisect";
-    put(text, causes)
+    put(
+        text,
+        " numbers its nodes otherwise, links are crossed, or the first net differs; see bisect",
+    )
 }
 
 // Appends by which line a link came, and what it weighs.

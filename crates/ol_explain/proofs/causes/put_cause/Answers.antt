@@ -14,7 +14,7 @@ returns-in_ok-put-in-FacesCopy c =
     let end = c.put_copy in
     subst (λ words. OnOk end.result (string_bytes end.new.text ≡ words))
     (three b0 (string_bytes c.put_name-in-FacesCopy.new.text) (string_bytes c.put-in-FacesCopy.new.text)
-    (name_text c.in-FacesCopy.name) (codes " faces ") (copy_text c.in-FacesCopy.ticket c.in-FacesCopy.place)
+    (name_text c.in-FacesCopy.name) (codes " is linked to ") (copy_text c.in-FacesCopy.ticket c.in-FacesCopy.place)
     c.in_ok-put_name-in-FacesCopy.ensures c.in_ok-put-in-FacesCopy.ensures
     ∙ ap (λ x. b0 ++ cause_words c.args.first c.args.second x) (sym c.in-FacesCopy.is))
     end.ensures
