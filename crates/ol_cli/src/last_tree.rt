@@ -33,14 +33,7 @@ pub fn last_tree<R: Threads + Wait + Sync, G: Gate + Sync>(
     ensures names { IfOk result (λ tree. IfSome tree (AreNamed (net.now.free - 1))) }
 {
     net.is_net();
-    let reduced = reduce_counted(
-        rt,
-        alloc,
-        net,
-        numbers.workers.count,
-        numbers.fuel.most,
-        gate,
-    )?;
+    let reduced = reduce_counted(rt, alloc, net, numbers.workers, numbers.fuel, gate)?;
     match reduced {
         Counted::Spent { .. } => Ok(None),
         Counted::Done { net: last, .. } => {

@@ -177,11 +177,11 @@ fn exchanged(pool: &Pool, zero: &mut Hand, one: &mut Hand) -> [Option<u32>; 5]
 fn told_of_two(alloc: Global) -> Result<String, Fail> {
     let (pool, mut zero, mut one) = pool_of_two(alloc, 8)?;
     let taken = exchanged(&pool, &mut zero, &mut one);
-    let (cells, hands, hinted) = (pool.cells(), pool.hands(), pool.hinted());
+    let (cells, hands) = (pool.cells(), pool.hands());
     let numbers = [zero.number(), one.number()];
     let missed = [zero.missed(), one.missed()];
     let refused = zero.refused();
-    Ok(format!(in alloc; "{taken:?} {cells} {hands} {hinted:?} {numbers:?} {missed:?} {refused}")?)
+    Ok(format!(in alloc; "{taken:?} {cells} {hands} {numbers:?} {missed:?} {refused}")?)
 }
 
 /// A hand takes what it put in order, and another hand takes of it too.
@@ -190,7 +190,7 @@ fn cells_go_from_hand_to_hand(rt: HostRuntime) -> Result<(), Fail> {
     let text = told_of_two(rt.alloc())?;
     assert!(rt;
         text.as_bytes()
-            == b"[None, Some(7), Some(3), Some(1), None] 8 2 None [0, 1] [true, false] 0".as_slice(),
+            == b"[None, Some(7), Some(3), Some(1), None] 8 2 [0, 1] [true, false] 0".as_slice(),
         "{text}"
     );
     Ok(())

@@ -8,6 +8,7 @@ ghost use Rattle.ol_wire.specs.Stand.{IsNewSeat};
 use crate::closing::alone;
 use crate::small_nets::{Small, net_of};
 use ol_io::OpenGate;
+use ol_limits::{Fuel, Workers};
 use ol_pool::{Hand, Pool};
 use ol_reduce::{Counted, Reduced, Worker, reduce, reduce_counted, sweep, worker};
 use ol_rules::counts;
@@ -150,12 +151,9 @@ fn workers_share_a_net(rt: HostRuntime) -> Result<(), Fail> {
 fn counted(
     rt: &(impl Threads + Wait + Sync),
     alloc: Global,
-    workers: u32,
-    fuel: u32,
-) -> Result<String, Fail>
-    requires fuel { fuel ≤ 8000000 }
-    requires workers { (0 < workers) × (workers ≤ 64) }
-{
+    workers: Workers,
+    fuel: Fuel,
+) -> Result<String, Fail> {
     let net = net_of(alloc, Small::Twice)?;
     match reduce_counted(rt, alloc, &net, workers, fuel, &OpenGate)? {
         Counted::Done { net, counts, words } => {
@@ -181,7 +179,7 @@ fn counts_come_in_place_of_the_journal(rt: HostRuntime) -> Result<(), Fail> {
         ),
         (64, 16, b"spent 16".as_slice()),
     ] {
-        let text = counted(&rt, rt.alloc(), workers, fuel)?;
+        let text = counted(&rt, rt.alloc(), Workers::of(workers), Fuel::of(fuel))?;
         assert!(rt; text.as_bytes() == wanted, "{workers}: {text}");
     }
     Ok(())

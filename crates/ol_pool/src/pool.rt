@@ -1,11 +1,10 @@
 //! The pool of cells, shared by the workers.
-ghost use Rattle.std.specs.Prelude.{◌≡◌, ◌<◌, length, map, IfSome};
+ghost use Rattle.std.specs.Prelude.{◌≡◌, ◌<◌, length, map};
 ghost use Rattle.crossbeam_deque.specs.Handles.{stealer_deque};
 ghost use Rattle.ol_pool.specs.Owned.{IsDequeAt};
 
 use crate::deques::Thief;
 use std::marker::Model;
-use std::sync::atomic::{AtomicU64, Ordering};
 
 /// Cells that wait for a worker: a first-in first-out deque for each hand, from which the other
 /// hands steal. No call waits for another thread.
@@ -17,8 +16,6 @@ pub struct Pool {
     thieves: Vec<Thief>,
     hands: u32,
     cells: u32,
-    // one more than the cell of the last hint, or 0
-    hint: AtomicU64,
 }
 
 impl Model for Pool {
@@ -38,7 +35,7 @@ impl Model for Pool {
 }
 
 impl Pool {
-    // The pool of these deques, with no hint.
+    // The pool of these deques.
     pub(crate) fn of(thieves: Vec<Thief>, hands: u32, cells: u32) -> Pool
         requires { length thieves.items ≡ hands }
         ensures { result ≡ record {
@@ -51,7 +48,6 @@ impl Pool {
             thieves,
             hands,
             cells,
-            hint: AtomicU64::new(0),
         }
     }
 
@@ -67,26 +63,6 @@ impl Pool {
         ensures { result ≡ self.now.hands }
     {
         self.hands
-    }
-
-    /// Publishes the number of a cell to all hands as a hint. The cell isn't put into a deque.
-    /// Never waits for another thread, and takes no memory.
-    pub fn hint(&self, cell: u32) {
-        self.hint.store(cell as u64 + 1, Ordering::SeqCst);
-    }
-
-    /// The cell of the last hint, or `None` before the first hint. The contract promises only that
-    /// it is a cell below the bound: the hint suggests where to look, and takes no cell out of a
-    /// deque. Never waits for another thread, and takes no memory.
-    pub fn hinted(&self) -> Option<u32>
-        ensures below { IfSome result (λ cell. cell < self.now.cells) }
-    {
-        let next = self.hint.load(Ordering::SeqCst);
-        if 0 < next && next <= self.cells as u64 {
-            Some((next - 1) as u32)
-        } else {
-            None
-        }
     }
 
     // The side of a deque from which other hands steal.

@@ -1,5 +1,5 @@
 -- What a worker's seat and hand tell of each other, turn by turn.
-use Rattle.std.proofs.Common.{◌≡◌, ◌≢◌, ◌∙◌, ℕ, ◌+◌, ◌≤◌, ⊎_elim, List, [], ◌∷◌, ◌++◌, Result, Ok}
+use Rattle.std.proofs.Common.{◌≡◌, ◌≢◌, ◌∙◌, ℕ, ◌+◌, ◌≤◌, ⊎_elim, Bool, false, List, [], ◌∷◌, ◌++◌, Result, Ok}
 use Rattle.std.proofs.Common.{Err, OnOk, OnErr, refl, sym, ap, arith}
 use Rattle.std.proofs.lemmas.List.{append-nil, append_assoc, length-append}
 use Rattle.ol_pool.specs.Looks.{CountsOne}
@@ -13,7 +13,7 @@ use Rattle.ol_wire.specs.declared.turn.Turn.{Turn}
 use Rattle.ol_wire.specs.declared.turn.Turn.TheVariants.{Rewrote, Gone, Stuck, Spent}
 use Rattle.ol_wire.specs.Stand.{SeatState}
 use Rattle.ol_wire.specs.Turns.{Leaves, masked}
-use Rattle.ol_reduce.specs.Working.{ClaimsGiven, HasPut, PutsPublished}
+use Rattle.ol_reduce.specs.Working.{ClaimsGiven, HasPut, PutsPublished, spent_cell}
 use Rattle.ol_reduce.specs.Offered.{HasOffered}
 
 put_none : (v n : HandState) → n.sent ≡ v.sent → n.refused ≡ v.refused → HasPut v [] n
@@ -29,13 +29,24 @@ offered_none v = record {
   put = λ _. put_none v v refl refl;
 }
 
-put_more : (u v n : HandState) (xs ys : List ℕ) → HasPut u xs v → HasPut v ys n → HasPut u (xs ++ ys) n
-put_more u v n xs ys (a, b, s, r, w) (c, d, t, q, z) = (
+-- `again` are put with the second list
+put_more : (u v n : HandState) (again xs ys : List ℕ) → HasPut u xs v → HasPut v (again ++ ys) n →
+    HasPut u (again ++ (xs ++ ys)) n
+put_more u v n again xs ys (a, b, s, r, w) (c, d, t, q, z) = (
   a ++ c,
   b ++ d,
   t ∙ ap (λ l. l ++ c) s ∙ append_assoc u.sent a c,
   omega (arith, r, q, length-append b d),
-  λ h. omega (arith, w h, z h, weigh_append h xs ys, weigh_append h a c, weigh_append h b d),
+  λ h. omega (
+    arith,
+    w h,
+    z h,
+    weigh_append h again (xs ++ ys),
+    weigh_append h again ys,
+    weigh_append h xs ys,
+    weigh_append h a c,
+    weigh_append h b d,
+  ),
 )
 
 pub offered_more : (u v n : HandState) (xs ys : List ℕ) → HasOffered u xs v → HasOffered v ys n →
@@ -46,7 +57,7 @@ offered_more u v n xs ys a b = record {
   parts = b.parts ∙ a.parts;
   missed = b.missed ∙ a.missed;
   refused = omega (arith, a.refused, b.refused);
-  put = λ few. put_more u v n xs ys (a.put (omega (arith, few, b.refused))) (b.put few);
+  put = λ few. put_more u v n [] xs ys (a.put (omega (arith, few, b.refused))) (b.put few);
 }
 
 -- one put, by its answer
@@ -106,7 +117,7 @@ published_by z v c (Rewrote t r b m) n l = ap (λ (u : View). u.published) l.vie
 pub claims_first : (s : SeatState) (v : HandState) → ClaimsGiven s v s v
 claims_first s v = ([], sym (append-nil s.view.claimed), λ h. omega arith)
 
-pub puts_first : (s : SeatState) (v : HandState) → PutsPublished s v s v
+pub puts_first : (s : SeatState) (v : HandState) → PutsPublished s v false s v
 puts_first s v = λ _. ([], sym (append-nil s.view.published), put_none v v refl refl)
 
 -- a take that missed; a turn on a cell that was given
@@ -124,16 +135,18 @@ claims_more s t u v m b cell (cells, e, less) claimed one = (
 )
 
 -- cells were published, and offered to the pool
-pub puts_more : (s t u : SeatState) (v m b n : HandState) (cells : List ℕ) → PutsPublished s v t m →
-    b.sent ≡ m.sent → b.refused ≡ m.refused → u.view.published ≡ t.view.published ++ cells
-    → HasOffered b cells n → PutsPublished s v u n
-puts_more s t u v m b n cells before sent refused published offered few =
+pub puts_more : (s t u : SeatState) (v m b n : HandState) (spent : Bool) (cells : List ℕ) →
+    PutsPublished s v false t m → b.sent ≡ m.sent → b.refused ≡ m.refused
+    → u.view.published ≡ t.view.published ++ cells → HasOffered b (spent_cell spent u ++ cells) n
+    → PutsPublished s v spent u n
+puts_more s t u v m b n spent cells before sent refused published offered few =
+    let again = spent_cell spent u in
     let less = offered.refused in
     let p = before (let e = refused in omega (arith, few, less)) in
-    let here = put_more m b n [] cells (put_none m b sent refused) (offered.put few) in (
+    let here = put_more m b n again [] cells (put_none m b sent refused) (offered.put few) in (
       p.0 ++ cells,
       published ∙ ap (λ l. l ++ cells) p.1 ∙ append_assoc s.view.published p.0 cells,
-      put_more v m n p.0 cells p.2 here,
+      put_more v m n again p.0 cells p.2 here,
     )
 
 -- one part of a worker's work after another
@@ -145,12 +158,12 @@ claims_on s t u v m n (xs, e, less) (ys, d, more) = (
   λ h. omega (arith, less h, more h, weigh_append h xs ys),
 )
 
-pub puts_on : (s t u : SeatState) (v m n : HandState) → m.refused ≤ n.refused →
-    PutsPublished s v t m → PutsPublished t m u n → PutsPublished s v u n
-puts_on s t u v m n le before after few =
+pub puts_on : (s t u : SeatState) (v m n : HandState) (spent : Bool) → m.refused ≤ n.refused →
+    PutsPublished s v false t m → PutsPublished t m spent u n → PutsPublished s v spent u n
+puts_on s t u v m n spent le before after few =
     let p = before (omega (arith, few, le)) in
     let q = after few in (
       p.0 ++ q.0,
       q.1 ∙ ap (λ l. l ++ q.0) p.1 ∙ append_assoc s.view.published p.0 q.0,
-      put_more v m n p.0 q.0 p.2 q.2,
+      put_more v m n (spent_cell spent u) p.0 q.0 p.2 q.2,
     )

@@ -13,7 +13,7 @@ use Rattle.ol_reduce.specs.declared.answers.End.{End}
 use Rattle.ol_reduce.specs.declared.answers.End.TheVariants.{Quiet, Spent}
 use Rattle.ol_reduce.specs.declared.workers.Worker.{Worker}
 use Rattle.ol_reduce.specs.Worked.{HasWorked, rested, turned, looked}
-use Rattle.ol_reduce.specs.Working.{ClaimsGiven, PutsPublished}
+use Rattle.ol_reduce.specs.Working.{ClaimsGiven, PutsPublished, is_spent}
 use Rattle.ol_reduce.specs.Offered.{HasOffered}
 use Rattle.ol_reduce.specs.Works.{HasTurnedOn, HasKept, HasAsked, GoesOn}
 use Rattle.ol_reduce.proofs.Offering.{offered_none, claims_first, puts_first, claims_still}
@@ -42,7 +42,7 @@ asked_on b u v n (Some Spent) w a missed = absurd a
 
 -- ---- what stays
 
-pub kept_first : (b : TableState) (p : PoolState) (v : Worker) → IsSeatOf b v.seat → IsOfPool v.hand p → HasKept b p v v
+pub kept_first : (b : TableState) (p : PoolState) (v : Worker) → IsSeatOf b v.seat → IsOfPool v.hand p → HasKept b p v false v
 kept_first b p v seat hand = record {
   seat = seat;
   hand = hand;
@@ -53,22 +53,24 @@ kept_first b p v seat hand = record {
   put = puts_first v.seat v.hand;
 }
 
-pub kept_on : (b : TableState) (p : PoolState) (u v n : Worker) → HasKept b p u v → HasKept b p v n → HasKept b p u n
-kept_on b p u v n k l = record {
+pub kept_on : (b : TableState) (p : PoolState) (u v n : Worker) (spent : Bool) → HasKept b p u false v →
+    HasKept b p v spent n → HasKept b p u spent n
+kept_on b p u v n spent k l = record {
   seat = l.seat;
   hand = l.hand;
   number = l.number ∙ k.number;
   holds = l.holds ∙ k.holds;
   refused = omega (arith, k.refused, l.refused);
   claimed = claims_on u.seat v.seat n.seat u.hand v.hand n.hand k.claimed l.claimed;
-  put = puts_on u.seat v.seat n.seat u.hand v.hand n.hand l.refused k.put l.put;
+  put = puts_on u.seat v.seat n.seat u.hand v.hand n.hand spent l.refused k.put l.put;
 }
 
 -- a turn on a cell that the hand was given
-pub kept_turn : (b : TableState) (p : PoolState) (u v n : Worker) (c : ℕ) → v.seat ≡ u.seat →
+pub kept_turn : (b : TableState) (p : PoolState) (u v n : Worker) (c : ℕ) (spent : Bool) → v.seat ≡ u.seat →
     v.number ≡ u.number → IsOfPool v.hand p → v.hand.sent ≡ u.hand.sent → v.hand.refused ≡ u.hand.refused
-    → ((h : ℕ → ℕ) → weigh_given h v.hand ≤ weigh_given h u.hand + h c) → HasTurnedOn b v c n → HasKept b p u n
-kept_turn b p u v n c seat number hand sent refused weighs t =
+    → ((h : ℕ → ℕ) → weigh_given h v.hand ≤ weigh_given h u.hand + h c) → HasTurnedOn b v c spent n
+    → HasKept b p u spent n
+kept_turn b p u v n c spent seat number hand sent refused weighs t =
     let parts = t.offered.parts in record {
       seat = t.seat;
       hand = t.offered.pool ∙ hand;
@@ -78,21 +80,21 @@ kept_turn b p u v n c seat number hand sent refused weighs t =
       claimed = claims_more u.seat u.seat n.seat u.hand u.hand n.hand c (claims_first u.seat u.hand)
           (t.claimed ∙ ap (λ (s : SeatState). s.view.claimed ++ c ∷ []) seat)
           (λ h. let f = ap (λ l. weigh_parts h l) parts in let w = weighs h in omega (arith, f, w));
-      put = puts_more u.seat u.seat n.seat u.hand u.hand v.hand n.hand t.cells
+      put = puts_more u.seat u.seat n.seat u.hand u.hand v.hand n.hand spent t.cells
           (puts_first u.seat u.hand) sent refused
           (t.published ∙ ap (λ (s : SeatState). s.view.published ++ t.cells) seat) t.offered;
     }
 
 -- a turn on a cell of the round
-pub kept_own_turn : (b : TableState) (p : PoolState) (v n : Worker) (c : ℕ) → IsOfPool v.hand p →
-    HasTurnedOn b v c n → HasKept b p v n
-kept_own_turn b p v n c hand t = kept_turn b p v v n c refl refl hand refl refl (λ h. omega arith) t
+pub kept_own_turn : (b : TableState) (p : PoolState) (v n : Worker) (c : ℕ) (spent : Bool) → IsOfPool v.hand p →
+    HasTurnedOn b v c spent n → HasKept b p v spent n
+kept_own_turn b p v n c spent hand t = kept_turn b p v v n c spent refl refl hand refl refl (λ h. omega arith) t
 
 -- a take that gave no cell
 pub kept_missed : (b : TableState) (p : PoolState) (u v : Worker) → v.seat ≡ u.seat →
     v.number ≡ u.number → IsSeatOf b v.seat → IsOfPool v.hand p → v.hand.sent ≡ u.hand.sent →
     v.hand.refused ≡ u.hand.refused
-    → ((h : ℕ → ℕ) → weigh_given h v.hand ≡ weigh_given h u.hand) → HasKept b p u v
+    → ((h : ℕ → ℕ) → weigh_given h v.hand ≡ weigh_given h u.hand) → HasKept b p u false v
 kept_missed b p u v seat number of hand sent refused weighs = record {
   seat = of;
   hand = hand;
@@ -101,8 +103,8 @@ kept_missed b p u v seat number of hand sent refused weighs = record {
   refused = omega (arith, refused);
   claimed = subst (λ (s : SeatState). ClaimsGiven u.seat u.hand s v.hand) (sym seat)
       (claims_still u.seat u.seat u.hand u.hand v.hand (claims_first u.seat u.hand) weighs);
-  put = subst (λ (s : SeatState). PutsPublished u.seat u.hand s v.hand) (sym seat)
-      (puts_more u.seat u.seat u.seat u.hand u.hand v.hand v.hand []
+  put = subst (λ (s : SeatState). PutsPublished u.seat u.hand false s v.hand) (sym seat)
+      (puts_more u.seat u.seat u.seat u.hand u.hand v.hand v.hand false []
       (puts_first u.seat u.hand) sent refused (sym (append-nil u.seat.view.published)) (offered_none v.hand));
 }
 
@@ -112,9 +114,15 @@ seen v n None a = (a.0, a.1.0)
 seen v n (Some Quiet) a = (a.0, a.1.0)
 seen v n (Some Spent) a = absurd a
 
+-- a look is no turn
+no_turn : (v n : SeatState) (r : Option End) → HasAsked v r n → is_spent r ≡ false
+no_turn v n None a = refl
+no_turn v n (Some Quiet) a = refl
+no_turn v n (Some Spent) a = absurd a
+
 pub kept_asked : (b : TableState) (p : PoolState) (v n : Worker) (r : Option End) →
     IsSeatOf b n.seat → IsOfPool v.hand p → n.hand ≡ v.hand → n.number ≡ v.number →
-    HasAsked v.seat r n.seat → HasKept b p v n
+    HasAsked v.seat r n.seat → HasKept b p v (is_spent r) n
 kept_asked b p v n r of hand same number a =
     let view = (seen v.seat n.seat r a).1 in
     let claimed = ap (λ (x : View). x.claimed) view in
@@ -126,9 +134,10 @@ kept_asked b p v n r of hand same number a =
       refused = let e = ap (λ (h : HandState). h.refused) same in omega (arith, e);
       claimed = subst (λ (h : HandState). ClaimsGiven v.seat v.hand n.seat h) (sym same)
           ([], claimed ∙ sym (append-nil v.seat.view.claimed), λ h. omega arith);
-      put = puts_more v.seat v.seat n.seat v.hand v.hand v.hand n.hand []
+      put = subst (λ (x : Bool). PutsPublished v.seat v.hand x n.seat n.hand) (sym (no_turn v.seat n.seat r a))
+          (puts_more v.seat v.seat n.seat v.hand v.hand v.hand n.hand false []
           (puts_first v.seat v.hand) refl refl (published ∙ sym (append-nil v.seat.view.published))
-          (subst (λ (h : HandState). HasOffered v.hand [] h) (sym same) (offered_none v.hand));
+          (subst (λ (h : HandState). HasOffered v.hand [] h) (sym same) (offered_none v.hand)));
     }
 
 -- ---- two workers that ended, joined

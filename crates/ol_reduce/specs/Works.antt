@@ -12,7 +12,7 @@ use Rattle.ol_reduce.specs.declared.workers.Worker.{Worker}
 use Rattle.ol_reduce.specs.Offered.{HasOffered}
 use Rattle.ol_reduce.specs.Started.{HasStarted}
 use Rattle.ol_reduce.specs.Worked.{HasWorked, HasWorkedToQuiet, HasWorkedToSpent}
-use Rattle.ol_reduce.specs.Working.{ClaimsGiven, PutsPublished}
+use Rattle.ol_reduce.specs.Working.{ClaimsGiven, PutsPublished, spent_cell}
 
 -- its seat is one of those that were made for this table
 abbrev pub IsSeated : TableState → Worker → Type 0
@@ -35,25 +35,27 @@ IsEnded b w = IsSeated b w × (w.is_quiet ≡ true → w.seat.view.settled ≡ t
 abbrev pub IsAtWork : TableState → PoolState → Worker → Type 0
 IsAtWork b p w = IsSeatOf b w.seat × IsOfPool w.hand p × (p.cells ≡ cells_of b.plan.parts)
 
--- it made a turn on cell c, and offered to the pool the cells in which that turn published a pair
-pub record HasTurnedOn (b : TableState) (v : Worker) (c : ℕ) (n : Worker) : Type 0 where
+-- it made a turn on cell c, and offered to the pool the cells in which that turn published a pair, and cell c if the turn
+-- answered Spent
+pub record HasTurnedOn (b : TableState) (v : Worker) (c : ℕ) (spent : Bool) (n : Worker) : Type 0 where
   pub seat : IsSeatOf b n.seat
   pub number : n.number ≡ v.number
   pub holds : n.seat.view.holds ≡ v.seat.view.holds
   pub claimed : n.seat.view.claimed ≡ v.seat.view.claimed ++ c ∷ []
   pub cells : List ℕ
   pub published : n.seat.view.published ≡ v.seat.view.published ++ cells
-  pub offered : HasOffered v.hand cells n.hand
+  pub offered : HasOffered v.hand (spent_cell spent n.seat ++ cells) n.hand
 
--- what stays through all that a worker does, and what its seat and its hand tell of each other
-pub record HasKept (b : TableState) (p : PoolState) (v n : Worker) : Type 0 where
+-- what stays through all that a worker does, and what its seat and its hand tell of each other; `spent` tells whether its
+-- last turn answered Spent
+pub record HasKept (b : TableState) (p : PoolState) (v : Worker) (spent : Bool) (n : Worker) : Type 0 where
   pub seat : IsSeatOf b n.seat
   pub hand : IsOfPool n.hand p
   pub number : n.number ≡ v.number
   pub holds : n.seat.view.holds ≡ v.seat.view.holds
   pub refused : v.hand.refused ≤ n.hand.refused
   pub claimed : ClaimsGiven v.seat v.hand n.seat n.hand
-  pub put : PutsPublished v.seat v.hand n.seat n.hand
+  pub put : PutsPublished v.seat v.hand spent n.seat n.hand
 
 -- it asked whether no active pair is left, and ends where that is so
 abbrev pub HasAsked : SeatState → Option End → SeatState → Type 0

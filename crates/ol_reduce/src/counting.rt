@@ -1,6 +1,5 @@
 //! A net reduced by any number of workers, without the trace.
-ghost use Rattle.std.specs.Prelude.{◌≡◌, ◌<◌, ◌≤◌, length, is_some, count_by, IfOk, ◌↔◌};
-ghost use Rattle.ol_limits.specs.Limits.{most_fuel};
+ghost use Rattle.std.specs.Prelude.{◌≡◌, length, is_some, count_by, IfOk, ◌↔◌};
 ghost use Rattle.ol_wire.specs.Sizes.{IsSmallNet};
 ghost use Rattle.ol_reduce.specs.Counted.{IsDoneCounted, ReducesCounted};
 ghost use Rattle.ol_reduce.specs.Reduced.{EndsWithin};
@@ -9,7 +8,7 @@ use crate::answers::End;
 use crate::freezing::freeze_counted;
 use crate::reducing::reduce_words;
 use ol_io::Gate;
-use ol_limits::NoMemory;
+use ol_limits::{Fuel, NoMemory, Workers};
 use ol_net::Net;
 use ol_rules::Counts;
 use ol_wire::Words;
@@ -46,16 +45,14 @@ pub fn reduce_counted<R: Threads + Wait + Sync, G: Gate + Sync>(
     rt: &R,
     alloc: Global,
     net: &Net,
-    workers: u32,
-    fuel: u32,
+    workers: Workers,
+    fuel: Fuel,
     gate: &G,
 ) -> Result<Counted, NoMemory>
     requires whole { count_by is_some net.now.nodes ≡ length net.now.nodes }
     requires small { IsSmallNet net.now }
-    requires fuel { fuel ≤ most_fuel }
-    requires workers { (0 < workers) × (workers ≤ 64) }
-    ensures reduced { IfOk result (λ r. ReducesCounted net.now fuel workers r) }
-    ensures done { IfOk result (λ r. IsDoneCounted r ↔ EndsWithin net.now fuel) }
+    ensures reduced { IfOk result (λ r. ReducesCounted net.now fuel.most workers.count r) }
+    ensures done { IfOk result (λ r. IsDoneCounted r ↔ EndsWithin net.now fuel.most) }
 {
     let (words, end) = reduce_words(rt, alloc, net, workers, fuel, gate)?;
     match end {

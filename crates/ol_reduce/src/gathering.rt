@@ -1,6 +1,5 @@
 //! From seats to workers and back, and the work of all workers.
 ghost use Rattle.std.specs.Prelude.{◌≡◌, ◌||◌, ◌<◌, ◌≤◌, All, IfOk, vec_len, length, is_some, count_by, true, false};
-ghost use Rattle.ol_limits.specs.Limits.{most_fuel};
 ghost use Rattle.ol_pool.specs.Pools.{AreDealt};
 ghost use Rattle.ol_wire.specs.Layout.{cells_of};
 ghost use Rattle.ol_wire.specs.Sizes.{IsSmallNet};
@@ -15,7 +14,7 @@ use crate::workers::Worker;
 use crate::working::{offer, worker};
 use crossbeam_utils::CachePadded;
 use ol_io::Gate;
-use ol_limits::NoMemory;
+use ol_limits::{Fuel, NoMemory, Workers};
 use ol_net::Net;
 use ol_pool::{Hand, Pool};
 use ol_wire::{Seat, Shared, Words};
@@ -32,30 +31,28 @@ pub(crate) fn run_workers<R: Threads + Wait + Sync, G: Gate + Sync>(
     rt: &R,
     alloc: Global,
     net: &Net,
-    workers: u32,
-    fuel: u32,
+    workers: Workers,
+    fuel: Fuel,
     gate: &G,
 ) -> Result<(Words, End), NoMemory>
     requires whole { count_by is_some net.now.nodes ≡ length net.now.nodes }
     requires small { IsSmallNet net.now }
-    requires fuel { fuel ≤ most_fuel }
-    requires workers { (0 < workers) × (workers ≤ 64) }
-    ensures parts { IfOk result (λ r. AreParts net.now fuel r.0.plan.parts) }
+    ensures parts { IfOk result (λ r. AreParts net.now fuel.most r.0.plan.parts) }
     ensures start { IfOk result (λ r. r.0.plan.start.value ≡ net.now) }
-    ensures seats { IfOk result (λ r. r.0.plan.seats ≡ workers) }
+    ensures seats { IfOk result (λ r. r.0.plan.seats ≡ workers.count) }
     ensures quiet { IfOk result (λ r. r.1 ≡ End.Quiet → HasSettled r.0) }
     ensures spent { IfOk result (λ r. r.1 ≡ End.Spent → r.0.view.over ≡ true) }
 {
-    let (shared, seats) = Shared::make(alloc, net, fuel, workers)?;
-    let (pool, mut hands) = Pool::new(alloc, workers, shared.cells())?;
-    put_start(&pool, &mut hands, workers, shared.cells() - 4 * fuel);
+    let (shared, seats) = Shared::make(alloc, net, fuel.most, workers.count)?;
+    let (pool, mut hands) = Pool::new(alloc, workers.count, shared.cells())?;
+    put_start(&pool, &mut hands, workers, shared.cells() - 4 * fuel.most);
     let mut hired = hire(alloc, &shared, &pool, seats, hands)?;
     run(
         rt,
         &shared,
         &pool,
         hired.as_mut_slice(),
-        workers as usize,
+        workers.count as usize,
         gate,
     );
     let (seat, end) = gather(&shared, hired);
@@ -64,16 +61,15 @@ pub(crate) fn run_workers<R: Threads + Wait + Sync, G: Gate + Sync>(
 
 // Puts the cells below `count` into the pool, each by the hand whose number is the remainder by the
 // number of hands.
-fn put_start(pool: &Pool, hands: &mut Vec<Hand>, workers: u32, count: u32)
+fn put_start(pool: &Pool, hands: &mut Vec<Hand>, workers: Workers, count: u32)
     requires hands { AreDealt pool.now hands.old.items }
-    requires workers { (vec_len hands.old ≡ workers) × (pool.now.hands ≡ workers) }
-    requires some { 0 < workers }
+    requires workers { (vec_len hands.old ≡ workers.count) × (pool.now.hands ≡ workers.count) }
     requires count { count ≤ pool.now.cells }
     ensures started { All (HasStarted pool.now count) hands.new.items }
     ensures workers { vec_len hands.new ≡ vec_len hands.old }
 {
     for cell in 0..count {
-        offer(pool, &mut hands[(cell % workers) as usize], cell);
+        offer(pool, &mut hands[(cell % workers.count) as usize], cell);
     }
 }
 

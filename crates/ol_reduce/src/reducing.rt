@@ -12,7 +12,7 @@ use crate::gathering::run_workers;
 use crate::reduced::Reduced;
 use ol_diamond::one_thread_agrees;
 use ol_io::Gate;
-use ol_limits::NoMemory;
+use ol_limits::{Fuel, NoMemory, Workers};
 use ol_net::Net;
 use ol_wire::Words;
 use std::alloc::Global;
@@ -48,6 +48,8 @@ pub fn reduce<R: Threads + Wait + Sync, G: Gate + Sync>(
     ensures reduced { IfOk result (λ r. Reduces net.now fuel workers r) }
     ensures done { IfOk result (λ r. IsDoneAnswer r ↔ EndsWithin net.now fuel) }
 {
+    let workers = Workers { count: workers };
+    let fuel = Fuel { most: fuel };
     let (words, end) = reduce_words(rt, alloc, net, workers, fuel, gate)?;
     match end {
         End::Quiet => {
@@ -73,18 +75,17 @@ pub(crate) fn reduce_words<R: Threads + Wait + Sync, G: Gate + Sync>(
     rt: &R,
     alloc: Global,
     net: &Net,
-    workers: u32,
-    fuel: u32,
+    workers: Workers,
+    fuel: Fuel,
     gate: &G,
 ) -> Result<(Words, End), NoMemory>
     requires whole { count_by is_some net.now.nodes ≡ length net.now.nodes }
     requires small { IsSmallNet net.now }
-    requires fuel { fuel ≤ most_fuel }
-    requires workers { (0 < workers) × (workers ≤ 64) }
-    ensures quiet { IfOk result (λ r. r.1 ≡ End.Quiet → IsDoneOnceFrozen net.now fuel workers r.0) }
+    ensures quiet { IfOk result (λ r. r.1 ≡ End.Quiet →
+        IsDoneOnceFrozen net.now fuel.most workers.count r.0) }
     ensures spent { IfOk result (λ r. r.1 ≡ End.Spent →
-        IsSpent net.now fuel workers (journal_drawn r.0) r.0) }
-    ensures ends { IfOk result (λ r. (r.1 ≡ End.Quiet) ↔ EndsWithin net.now fuel) }
+        IsSpent net.now fuel.most workers.count (journal_drawn r.0) r.0) }
+    ensures ends { IfOk result (λ r. (r.1 ≡ End.Quiet) ↔ EndsWithin net.now fuel.most) }
 {
     one_thread_agrees();
     net.is_net();

@@ -8,7 +8,7 @@ ghost use Rattle.ol_wire.specs.Stand.{IsSeatOf};
 ghost use Rattle.ol_wire.specs.Turns.{masked};
 ghost use Rattle.ol_reduce.specs.TurnEnds.{IsSpentTurn, IsOtherTurn};
 ghost use Rattle.ol_reduce.specs.Worked.{HasWorkedToQuiet, HasWorkedToSpent};
-ghost use Rattle.ol_reduce.specs.Working.{ClaimsGiven, PutsPublished};
+ghost use Rattle.ol_reduce.specs.Working.{ClaimsGiven, PutsPublished, is_spent};
 ghost use Rattle.ol_reduce.specs.Offered.{HasOffered};
 ghost use Rattle.ol_reduce.specs.Passed.{GoesRound};
 ghost use Rattle.ol_reduce.specs.Works.{IsAtWork, HasTurnedOn, HasKept, HasAsked, Goes, GoesOn};
@@ -25,10 +25,9 @@ use std::sync::Wait;
 /// If no cell waits, it calls `quiet`, and ends if that is true; otherwise it pauses and tries
 /// again. Every 64th time it makes turns on the next 64 cells of its own round over all cells
 /// before it calls `quiet`, in order to find a pair whose cell the pool refused. A cell in which a
-/// turn published a pair is put into the pool. After a turn that returned `Spent` the pair is still
-/// in its cell, and the pool gets a hint of this cell. While there is a hint, the rounds of all
-/// other workers continue at its cell, and part of the round is made every time, so that every
-/// worker soon finds that the fuel is used up.
+/// turn published a pair is put into the pool. After a turn that returned `Spent` the pair is in
+/// its cell again, and this cell is put into the pool too: the next worker that takes it finds that
+/// the fuel is used up.
 ///
 /// - `Spent` is returned only if the last turn returned `Spent`.
 /// - `Quiet` is returned only if `quiet` was true for the worker's seat at the end of the call,
@@ -37,8 +36,9 @@ use std::sync::Wait;
 /// The difference between the seat's view before and after the call is the turns and the loads of
 /// the live word of this call: at most the last turn returned `Spent`, and at most the last load
 /// read 0. The seat claimed each cell that its hand was given during the call, as often as it was
-/// given. The hand put each cell in which the seat published a pair during the call, except as many
-/// as `refused` of the hand rose by; this is promised unless that count reaches its greatest value.
+/// given. The hand put each cell in which the seat published a pair during the call, and after
+/// `Spent` the cell of the last turn, except as many as `refused` of the hand rose by; this is
+/// promised unless that count reaches its greatest value.
 ///
 /// The gate is passed at the start with 0, and after each turn with the number of turns made, at
 /// most 2^64 - 1. A cell for which the pool finds no memory isn't put, and its pair stays in the
@@ -63,7 +63,8 @@ pub fn worker<R: Wait, G: Gate>(
     ensures quiet { result ≡ End.Quiet → HasWorkedToQuiet shared.now own.old.seat own.new.seat }
     ensures spent { result ≡ End.Spent → HasWorkedToSpent shared.now own.old.seat own.new.seat }
     ensures claimed { ClaimsGiven own.old.seat own.old.hand own.new.seat own.new.hand }
-    ensures put { PutsPublished own.old.seat own.old.hand own.new.seat own.new.hand }
+    ensures put { PutsPublished own.old.seat own.old.hand (is_spent (Some result))
+        own.new.seat own.new.hand }
 {
     gate.pass(own.number, 0);
     let mut pace = Pace::new(own.number);
@@ -103,13 +104,8 @@ impl Pace {
         }
     }
 
-    // Whether a part of the round is due where no cell waits. It is each time where the pool has a
-    // hint of a cell, from that cell on.
-    fn is_round_due(&mut self, pool: &Pool) -> bool {
-        if let Some(cell) = pool.hinted() {
-            self.next = cell;
-            return true;
-        }
+    // Whether a part of the round is due where no cell waits.
+    fn is_round_due(&mut self) -> bool {
         self.waits = self.waits.wrapping_add(1);
         self.waits % WAITS_A_ROUND == 0
     }
@@ -144,7 +140,7 @@ fn go_on<G: Gate>(
     pace: &mut Pace,
 ) -> Option<End>
     requires work { IsAtWork shared.now pool.now own.old }
-    ensures kept { HasKept shared.now pool.now own.old own.new }
+    ensures kept { HasKept shared.now pool.now own.old (is_spent result) own.new }
     ensures goes { GoesOn shared.now own.old.seat result own.new }
 {
     let Some(cell) = pool.take(&mut own.hand) else {
@@ -167,7 +163,7 @@ fn wait_on<G: Gate>(
 ) -> Option<End>
     requires work { IsAtWork shared.now pool.now own.old }
     requires missed { own.old.hand.missed ≡ true }
-    ensures kept { HasKept shared.now pool.now own.old own.new }
+    ensures kept { HasKept shared.now pool.now own.old (is_spent result) own.new }
     ensures goes { GoesOn shared.now own.old.seat result own.new }
 {
     if go_round_if_due(shared, pool, own, gate, pace) {
@@ -187,11 +183,11 @@ fn go_round_if_due<G: Gate>(
     pace: &mut Pace,
 ) -> bool
     requires work { IsAtWork shared.now pool.now own.old }
-    ensures kept { HasKept shared.now pool.now own.old own.new }
+    ensures kept { HasKept shared.now pool.now own.old result own.new }
     ensures missed { own.new.hand.missed ≡ own.old.hand.missed }
     ensures goes { Goes shared.now own.old.seat result own.new.seat }
 {
-    if pace.is_round_due(pool) {
+    if pace.is_round_due() {
         go_round(shared, pool, own, gate, pace)
     } else {
         false
@@ -223,7 +219,7 @@ fn go_round<G: Gate>(
     pace: &mut Pace,
 ) -> bool
     requires work { IsAtWork shared.now pool.now own.old }
-    ensures kept { HasKept shared.now pool.now own.old own.new }
+    ensures kept { HasKept shared.now pool.now own.old result own.new }
     ensures missed { own.new.hand.missed ≡ own.old.hand.missed }
     ensures goes { Goes shared.now own.old.seat result own.new.seat }
     ensures passed { GoesRound (cells_of shared.now.plan.parts) pace.old.next pace.new.next
@@ -240,7 +236,7 @@ fn go_round<G: Gate>(
 }
 
 // Makes a turn on a cell, and offers the cells in which it published a pair to the pool. Tells
-// whether it answered Spent; its pair is active still then, and the pool gets a hint of it.
+// whether it answered Spent; its pair is active still then, and its cell is offered again.
 fn turn_on<G: Gate>(
     shared: &Shared,
     pool: &Pool,
@@ -252,7 +248,7 @@ fn turn_on<G: Gate>(
     requires work { IsAtWork shared.now pool.now own.old }
     requires cell { cell < cells_of shared.now.plan.parts }
     ensures round { pace.new.next ≡ pace.old.next }
-    ensures turned { HasTurnedOn shared.now own.old cell own.new }
+    ensures turned { HasTurnedOn shared.now own.old cell result own.new }
     ensures no { IsFalse result → IsOtherTurn shared.now own.old.seat.view cell own.new.seat.view }
     ensures yes { IsTrue result → IsSpentTurn shared.now own.old.seat.view cell own.new.seat.view }
 {
@@ -261,7 +257,7 @@ fn turn_on<G: Gate>(
     gate.pass(own.number, pace.turns);
     match turn {
         Turn::Spent => {
-            pool.hint(cell);
+            offer(pool, &mut own.hand, cell);
             true
         }
         Turn::Rewrote {

@@ -1,6 +1,5 @@
 //! A net laid out in words.
 ghost use Rattle.std.specs.Prelude.{◌≡◌, suc, ◌<◌, ◌≤◌, [], ◌∷◌, ◌++◌, length, IfOk, OnOk, replicate, vec_len, is_some, count_by, slice_index};
-ghost use Rattle.ol_limits.specs.Limits.{most_fuel};
 ghost use Rattle.ol_rules.specs.Listed.{each};
 ghost use Rattle.ol_wire.specs.References.{wire_ref};
 ghost use Rattle.ol_wire.specs.Layout.{port_word, start_node, start_cell, table_size};
@@ -17,7 +16,7 @@ ghost use Rattle.ol_wire.specs.LaidWords.{word_of_port, cell_words, port_row, fi
 use crate::layout::{BLOCK, Parts, port_word};
 use crate::reference::{node_ref, wire_ref};
 use crate::rewrite::active_in;
-use ol_limits::NoMemory;
+use ol_limits::{Fuel, NoMemory};
 use ol_net::{Net, NodeId, Port};
 use std::alloc::Global;
 
@@ -216,10 +215,9 @@ fn count_active(parts: Parts, words: &[u64]) -> u64
 }
 
 // The parts, and the words.
-fn lay_out(alloc: Global, net: &Net, fuel: u32) -> Result<(Parts, Vec<u64>), NoMemory>
+fn lay_out(alloc: Global, net: &Net, fuel: Fuel) -> Result<(Parts, Vec<u64>), NoMemory>
     requires small { IsSmallNet net.now }
-    requires fuel { fuel ≤ most_fuel }
-    ensures parts { IfOk result (λ r. AreParts net.now fuel r.0) }
+    ensures parts { IfOk result (λ r. AreParts net.now fuel.most r.0) }
     ensures small { IfOk result (λ r. IsSmall r.0) }
     ensures laid { IfOk result (λ r. IsLaid net.now r.0 r.1.items) }
     ensures live { IfOk result (λ r. slice_index r.1.items 1 ≡ active_cells r.0 r.1.items) }
@@ -230,16 +228,16 @@ fn lay_out(alloc: Global, net: &Net, fuel: u32) -> Result<(Parts, Vec<u64>), NoM
         nodes: net.born(),
         wires: 0,
         cells: 0,
-        fuel,
+        fuel: fuel.most,
     };
-    let mut words: Vec<u64> = Vec::with_capacity(alloc, room_for(net, fuel))?;
+    let mut words: Vec<u64> = Vec::with_capacity(alloc, room_for(net, fuel.most))?;
     put(&mut words, 0)?;
     put(&mut words, 0)?;
     put_ports(net, early, &mut words)?;
     let wires = put_nodes(net, early, &mut words)?;
     put_empty(&mut words, wires)?;
     let cells = put_cells(net, early, &mut words)?;
-    put_empty(&mut words, BLOCK * fuel)?;
+    put_empty(&mut words, BLOCK * fuel.most)?;
     let parts = Parts {
         wires,
         cells,
@@ -254,11 +252,10 @@ fn lay_out(alloc: Global, net: &Net, fuel: u32) -> Result<(Parts, Vec<u64>), NoM
 ///
 /// It takes time in proportion to the number of words, and takes memory for them alone. `NoMemory`:
 /// no memory was found.
-pub(crate) fn lay(alloc: Global, net: &Net, fuel: u32) -> Result<(Parts, Vec<u64>), NoMemory>
+pub(crate) fn lay(alloc: Global, net: &Net, fuel: Fuel) -> Result<(Parts, Vec<u64>), NoMemory>
     requires whole { count_by is_some net.now.nodes ≡ length net.now.nodes }
     requires small { IsSmallNet net.now }
-    requires fuel { fuel ≤ most_fuel }
-    ensures parts { IfOk result (λ r. AreParts net.now fuel r.0) }
+    ensures parts { IfOk result (λ r. AreParts net.now fuel.most r.0) }
     ensures small { IfOk result (λ r. IsSmall r.0) }
     ensures words { IfOk result (λ r. vec_len r.1 ≡ table_size r.0) }
     ensures kept { IfOk result (λ r. Opens net.now r.0 r.1.items) }

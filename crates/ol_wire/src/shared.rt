@@ -29,7 +29,7 @@ use crate::plan::Plan;
 use crate::seat::Seat;
 use crate::view::View;
 use atomic_table::Table;
-use ol_limits::NoMemory;
+use ol_limits::{Fuel, NoMemory};
 use ol_net::Net;
 use std::alloc::Global;
 use std::marker::Model;
@@ -76,7 +76,7 @@ impl Shared {
         ensures seats { IfOk result (λ r. (r.0.plan.seats ≡ seats) × (vec_len r.1 ≡ seats)) }
         ensures dealt { IfOk result (λ r. All (IsNewSeat r.0) r.1.items) }
     {
-        let (parts, words) = lay(alloc, net, fuel)?;
+        let (parts, words) = lay(alloc, net, Fuel { most: fuel })?;
         let plan = Plan {
             parts,
             seats,

@@ -132,7 +132,7 @@ fn rewrite<R: Threads + Wait + Sync, G: Gate + Sync>(
     ensures closed { IfOk result (λ a. a.closed ≡ None) }
 {
     net.is_net();
-    match reduce_counted(rt, alloc, net, workers.count, fuel.most, gate)? {
+    match reduce_counted(rt, alloc, net, workers, fuel, gate)? {
         Counted::Spent { .. } => {
             let text = spent_line(alloc, fuel.most)?;
             Ok(Answer::text_alone(text, Status::Spent))

@@ -62,14 +62,7 @@ pub fn run_net<R: Threads + Wait + Sync, G: Gate + Sync>(
         HandsOfTerm (run_by numbers) file.now a.status a.text.items a.closed) }
 {
     net.is_net();
-    let reduced = reduce_counted(
-        rt,
-        alloc,
-        net,
-        numbers.workers.count,
-        numbers.fuel.most,
-        gate,
-    )?;
+    let reduced = reduce_counted(rt, alloc, net, numbers.workers, numbers.fuel, gate)?;
     match reduced {
         Counted::Spent { words } => {
             words.once();

@@ -5,7 +5,7 @@ pub returns : goal.returns
 returns g c =
     let M = c.runs.ensures.some.0 in
     let after = c.runs.ensures.some.1 in
-    let told = words_tell c.args.net.now c.args.fuel c.args.workers c.in_ok-words.words c.is_net.ensures.net
+    let told = words_tell c.args.net.now c.args.fuel.most c.args.workers.count c.in_ok-words.words c.is_net.ensures.net
     (c.in_ok-words.ensures.parts, c.in_ok-words.ensures.start, c.in_ok-words.ensures.seats) M after
     c.one_thread_agrees.ensures.done c.one_thread_agrees.ensures.spent c.one_thread_agrees.ensures.exists
     c.in_ok-words.end (λ q. c.settled.ensures.complete (c.in_ok-words.ensures.quiet q) M after)

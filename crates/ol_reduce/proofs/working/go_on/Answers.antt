@@ -1,6 +1,7 @@
-use Rattle.std.proofs.Common.{refl, arith}
+use Rattle.std.proofs.Common.{true, false, refl, arith}
 use Rattle.ol_pool.proofs.Weighing.{taken_weighs, missed_weighs}
 use Rattle.ol_reduce.specs.Worked.{rested, turned}
+use Rattle.ol_reduce.specs.Working.{is_spent}
 use Rattle.ol_reduce.proofs.Worked.{kept_on, kept_turn, kept_missed}
 use Rattle.ol_reduce.proofs.working.go_on.Goals as goal
 
@@ -9,7 +10,7 @@ returns-in_default-clause-kept g c =
     let b = c.args.shared.now in
     let p = c.args.pool.now in
     let own = c.args.own.now in
-    kept_on b p own (record own { hand = c.take.new.hand }) c.wait_on.new.own
+    kept_on b p own (record own { hand = c.take.new.hand }) c.wait_on.new.own (is_spent c.wait_on.result)
     (kept_missed b p own (record own { hand = c.take.new.hand }) refl refl c.requires.work.0
     c.take.ensures.hand c.take.ensures.sent c.take.ensures.refused
     (λ h. missed_weighs h own.hand.parts c.take.new.hand.parts c.in_default.ensures.stay))
@@ -19,11 +20,11 @@ pub returns-then-turn_on-clause-kept : goal.returns-then-turn_on-clause-kept
 returns-then-turn_on-clause-kept g c =
     let own = c.args.own.now in
     kept_turn c.args.shared.now c.args.pool.now own
-    (record own { hand = c.take.new.hand }) c.turn_on.new.own c.in-Some.cell refl refl
+    (record own { hand = c.take.new.hand }) c.turn_on.new.own c.in-Some.cell true refl refl
     c.take.ensures.hand c.take.ensures.sent c.take.ensures.refused
     (λ h. let e = taken_weighs h own.hand.parts c.take.new.hand.parts c.args.pool.now.hands
     c.in-Some.cell c.in-Some.ensures.one in omega arith)
-    c.turn_on.ensures.turned
+    c.if-turn_on.ensures.turned
 
 pub returns-then-turn_on-clause-goes : goal.returns-then-turn_on-clause-goes
 returns-then-turn_on-clause-goes g c = (
@@ -37,11 +38,11 @@ pub returns-clause-kept : goal.returns-clause-kept
 returns-clause-kept g c =
     let own = c.args.own.now in
     kept_turn c.args.shared.now c.args.pool.now own
-    (record own { hand = c.take.new.hand }) c.turn_on.new.own c.in-Some.cell refl refl
+    (record own { hand = c.take.new.hand }) c.turn_on.new.own c.in-Some.cell false refl refl
     c.take.ensures.hand c.take.ensures.sent c.take.ensures.refused
     (λ h. let e = taken_weighs h own.hand.parts c.take.new.hand.parts c.args.pool.now.hands
     c.in-Some.cell c.in-Some.ensures.one in omega arith)
-    c.turn_on.ensures.turned
+    c.if-turn_on.ensures.turned
 
 pub returns-clause-goes : goal.returns-clause-goes
 returns-clause-goes g c =

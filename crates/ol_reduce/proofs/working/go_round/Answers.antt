@@ -1,4 +1,4 @@
-use Rattle.std.proofs.Common.{refl, ap, min, ◌+◌, ◌∙◌, arith}
+use Rattle.std.proofs.Common.{true, false, refl, ap, min, ◌+◌, ◌∙◌, arith}
 use Rattle.ol_wire.specs.Layout.{cells_of}
 use Rattle.ol_reduce.specs.Worked.{rested, turned}
 use Rattle.ol_reduce.proofs.Passing.{passed_none, passed_more}
@@ -19,8 +19,9 @@ returns-then-turn_on-clause-kept g c =
     let b = c.args.shared.now in
     let p = c.args.pool.now in
     let kept = c.loop-passed.invariant.0 in
-    kept_on b p c.args.own.now c.loop-passed.own c.turn_on.new.own kept
-    (kept_own_turn b p c.loop-passed.own c.turn_on.new.own c.next_cell-cell.result kept.hand c.turn_on.ensures.turned)
+    kept_on b p c.args.own.now c.loop-passed.own c.turn_on.new.own true kept
+    (kept_own_turn b p c.loop-passed.own c.turn_on.new.own c.next_cell-cell.result true kept.hand
+    c.if-turn_on.ensures.turned)
 
 pub returns-then-turn_on-clause-passed : goal.returns-then-turn_on-clause-passed
 returns-then-turn_on-clause-passed g c = (
@@ -40,9 +41,9 @@ loop-passed-preserved g c =
     let p = c.args.pool.now in
     let kept = c.loop-passed.invariant.0 in
     let turn = c.turn_on.ensures.no c.if-turn_on.false in (
-      kept_on b p c.args.own.now c.loop-passed.own c.turn_on.new.own kept
-          (kept_own_turn b p c.loop-passed.own c.turn_on.new.own c.next_cell-cell.result kept.hand
-          c.turn_on.ensures.turned),
+      kept_on b p c.args.own.now c.loop-passed.own c.turn_on.new.own false kept
+          (kept_own_turn b p c.loop-passed.own c.turn_on.new.own c.next_cell-cell.result false kept.hand
+          c.if-turn_on.ensures.turned),
       c.turn_on.ensures.turned.offered.missed ∙ c.loop-passed.invariant.1,
       turned {m = c.loop-passed.own.seat.view} c.next_cell-cell.result turn.0 c.loop-passed.invariant.2 turn.1 turn.2,
       passed_more (cells_of c.args.shared.now.plan.parts) c.args.pace.now.next c.loop-passed.pace.next

@@ -1,4 +1,4 @@
-use Rattle.std.proofs.Common.{◌≡◌, ℕ, List, [], refl, sym, ◌∙◌, subst}
+use Rattle.std.proofs.Common.{◌≡◌, ℕ, List, [], ◌∷◌, refl, sym, ap, ◌∙◌, subst}
 use Rattle.ol_wire.specs.declared.layout.Parts.{Parts}
 use Rattle.ol_wire.specs.declared.turn.Turn.{Turn}
 use Rattle.ol_wire.specs.declared.turn.Turn.TheVariants.{Rewrote, Spent}
@@ -22,7 +22,8 @@ returns-in-Spent-clause-turned g c =
       claimed = e.claimed;
       cells = [];
       published = published_by z v c.args.cell Spent n c.in-Spent.ensures.view;
-      offered = offered_none c.args.own.now.hand;
+      offered = subst (λ cell. HasOffered c.args.own.now.hand (cell ∷ []) c.offer.new.hand)
+          (sym (ap (λ (u : View). u.cell) c.in-Spent.ensures.view)) c.offer.ensures;
     }
 
 pub returns-in-Rewrote-clause-no : goal.returns-in-Rewrote-clause-no

@@ -1,5 +1,6 @@
 use Rattle.std.proofs.Common.{ap, ◌∙◌}
 use Rattle.ol_pool.specs.Pools.{HandState}
+use Rattle.ol_reduce.specs.Working.{is_spent}
 use Rattle.ol_reduce.proofs.Worked.{kept_on, kept_asked, asked_on}
 use Rattle.ol_reduce.proofs.working.wait_on.Goals as goal
 
@@ -7,9 +8,10 @@ pub returns-clause-kept : goal.returns-clause-kept
 returns-clause-kept g c =
     let b = c.args.shared.now in
     let p = c.args.pool.now in
-    kept_on b p c.args.own.now c.go_round_if_due.new.own c.ask-end.new.own c.go_round_if_due.ensures.kept
+    let kept = c.if-go_round_if_due.ensures.kept in
+    kept_on b p c.args.own.now c.go_round_if_due.new.own c.ask-end.new.own (is_spent c.ask-end.result) kept
     (kept_asked b p c.go_round_if_due.new.own c.ask-end.new.own c.ask-end.result c.ask-end.ensures.seat
-    c.go_round_if_due.ensures.kept.hand c.ask-end.ensures.hand c.ask-end.ensures.number c.ask-end.ensures.asked)
+    kept.hand c.ask-end.ensures.hand c.ask-end.ensures.number c.ask-end.ensures.asked)
 
 pub returns-clause-goes : goal.returns-clause-goes
 returns-clause-goes g c = asked_on c.args.shared.now c.args.own.now.seat c.go_round_if_due.new.own.seat

@@ -1,6 +1,7 @@
-use Rattle.std.proofs.Common.{Option, Some, refl, ap, ◌∙◌, subst}
+use Rattle.std.proofs.Common.{Option, Some, false, refl, ap, ◌∙◌, subst}
 use Rattle.ol_reduce.specs.declared.answers.End.{End}
 use Rattle.ol_reduce.specs.Worked.{rested}
+use Rattle.ol_reduce.specs.Working.{PutsPublished, is_spent}
 use Rattle.ol_reduce.specs.Works.{GoesOn}
 use Rattle.ol_reduce.proofs.Worked.{kept_first, kept_on, worked_on, ended_on}
 use Rattle.ol_reduce.proofs.working.worker.Goals as goal
@@ -29,16 +30,19 @@ returns-in-Some-go_on-clause-spent g c = λ e.
 pub returns-in-Some-go_on-clause-claimed : goal.returns-in-Some-go_on-clause-claimed
 returns-in-Some-go_on-clause-claimed g
     c = (kept_on c.args.shared.now c.args.pool.now c.args.own.now c.loop.own c.go_on.new.own
-    c.loop.invariant.0 c.go_on.ensures.kept).claimed
+    (is_spent c.go_on.result) c.loop.invariant.0 c.go_on.ensures.kept).claimed
 
 pub returns-in-Some-go_on-clause-put : goal.returns-in-Some-go_on-clause-put
-returns-in-Some-go_on-clause-put g c = (kept_on c.args.shared.now c.args.pool.now c.args.own.now
-    c.loop.own c.go_on.new.own c.loop.invariant.0 c.go_on.ensures.kept).put
+returns-in-Some-go_on-clause-put g c =
+    subst (λ (r : Option End). PutsPublished c.args.own.now.seat c.args.own.now.hand (is_spent r) c.go_on.new.own.seat
+    c.go_on.new.own.hand) c.in-Some-go_on.is
+    (kept_on c.args.shared.now c.args.pool.now c.args.own.now c.loop.own c.go_on.new.own (is_spent c.go_on.result)
+    c.loop.invariant.0 c.go_on.ensures.kept).put
 
 pub loop-preserved : goal.loop-preserved
 loop-preserved g c = (
-  kept_on c.args.shared.now c.args.pool.now c.args.own.now c.loop.own c.go_on.new.own
-      c.loop.invariant.0 c.go_on.ensures.kept,
+  kept_on c.args.shared.now c.args.pool.now c.args.own.now c.loop.own c.go_on.new.own false
+      c.loop.invariant.0 c.in_default.ensures.kept,
   worked_on c.args.shared.now.plan.parts c.args.own.now.seat.view c.loop.own.seat.view
       c.go_on.new.own.seat.view c.loop.invariant.1 c.in_default.ensures.goes,
 )

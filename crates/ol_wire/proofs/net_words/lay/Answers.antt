@@ -7,7 +7,7 @@ returns-clause-words c = c.in_ok-parts.words.ok.0 ∙ c.in_ok-parts.ensures.laid
 
 pub returns-clause-kept : goal.returns-clause-kept
 returns-clause-kept c =
-    let is : IsStart c.args.net.now c.args.fuel c.in_ok-parts.parts c.in_ok-parts.words.items = record {
+    let is : IsStart c.args.net.now c.args.fuel.most c.in_ok-parts.parts c.in_ok-parts.words.items = record {
       is_net = c.is_net.ensures.net;
       whole = c.requires.whole;
       parts = c.in_ok-parts.ensures.parts;
@@ -19,5 +19,5 @@ returns-clause-kept c =
       indexes = c.is_tabled.ensures.indexes;
     } in
     λ p is_parts is_net some_seat few_seats.
-    opens_as p c.args.net.now c.args.fuel c.in_ok-parts.parts c.in_ok-parts.words.items is
+    opens_as p c.args.net.now c.args.fuel.most c.in_ok-parts.parts c.in_ok-parts.words.items is
     is_parts is_net some_seat few_seats

@@ -14,7 +14,7 @@ put_nodes-requires-clause-behind c =
       nodes = c.born.result;
       wires = 0;
       cells = 0;
-      fuel = c.args.fuel;
+      fuel = c.args.fuel.most;
     } in
     let ea : c.put-2.new.words.items ≡ 0 ∷ 0 ∷ [] = c.in_ok-put-2.ensures
     ∙ ap (λ xs. xs ++ 0 ∷ []) (c.in_ok-put.ensures ∙ ap (λ xs. xs ++ 0 ∷ []) c.in_ok-words.ensures.items) in
@@ -29,7 +29,7 @@ returns-clause-small c =
       nodes = omega (arith, c.requires.small, c.born.ensures.born);
       wires = omega (arith, c.requires.small, w);
       cells = omega (arith, c.requires.small, c.in_ok-cells.ensures.few);
-      fuel = c.requires.fuel;
+      fuel = c.args.fuel.within;
     }
 
 pub count_active-requires-clause-small : goal.count_active-requires-clause-small
@@ -40,7 +40,7 @@ count_active-requires-clause-small c =
       nodes = omega (arith, c.requires.small, c.born.ensures.born);
       wires = omega (arith, c.requires.small, w);
       cells = omega (arith, c.requires.small, c.in_ok-cells.ensures.few);
-      fuel = c.requires.fuel;
+      fuel = c.args.fuel.within;
     }
 
 pub count_active-requires-clause-wide : goal.count_active-requires-clause-wide
@@ -50,7 +50,7 @@ count_active-requires-clause-wide c =
       nodes = c.born.result;
       wires = c.in_ok-wires.wires;
       cells = c.in_ok-cells.cells;
-      fuel = c.args.fuel;
+      fuel = c.args.fuel.most;
     } in
     let ea : c.put-2.new.words.items ≡ 0 ∷ 0 ∷ [] = c.in_ok-put-2.ensures
     ∙ ap (λ xs. xs ++ 0 ∷ []) (c.in_ok-put.ensures ∙ ap (λ xs. xs ++ 0 ∷ []) c.in_ok-words.ensures.items) in
@@ -68,7 +68,7 @@ returns-clause-laid c =
       nodes = c.born.result;
       wires = c.in_ok-wires.wires;
       cells = c.in_ok-cells.cells;
-      fuel = c.args.fuel;
+      fuel = c.args.fuel.most;
     } in
     let ea : c.put-2.new.words.items ≡ 0 ∷ 0 ∷ [] = c.in_ok-put-2.ensures
     ∙ ap (λ xs. xs ++ 0 ∷ []) (c.in_ok-put.ensures ∙ ap (λ xs. xs ++ 0 ∷ []) c.in_ok-words.ensures.items) in
@@ -87,7 +87,7 @@ returns-clause-live c =
       nodes = c.born.result;
       wires = c.in_ok-wires.wires;
       cells = c.in_ok-cells.cells;
-      fuel = c.args.fuel;
+      fuel = c.args.fuel.most;
     } in
     let ea : c.put-2.new.words.items ≡ 0 ∷ 0 ∷ [] = c.in_ok-put-2.ensures
     ∙ ap (λ xs. xs ++ 0 ∷ []) (c.in_ok-put.ensures ∙ ap (λ xs. xs ++ 0 ∷ []) c.in_ok-words.ensures.items) in
