@@ -18,15 +18,16 @@ use Rattle.ol_words.specs.declared.jobs.Job.{Job}
 use Rattle.ol_words.specs.declared.jobs.UsageFault.{UsageFault}
 use Rattle.ol_words.specs.declared.jobs.UsageFault.TheVariants.{NoMemory, Refused}
 use Rattle.ol_words.specs.Texts.{Text}
-use Rattle.ol_words.specs.Lines.{Line, line_of}
-use Rattle.ol_words.specs.Numbers.{Limits, setting}
-use Rattle.ol_words.specs.declared.jobs.Job.{Job}
-use Rattle.ol_words.specs.Asked.{Verb, asks}
-use Rattle.ol_words.specs.Jobs.{Setting, setting_row, verb_row, options_of, known_of, verb_named}
-use Rattle.ol_words.specs.Jobs.{values_of, number_on, numbers, job_on, job_behind, job_of}
-use Rattle.ol_words.specs.Once.{is_given_once, is_told_once, is_agreed, agreed_verb}
-use Rattle.ol_words.specs.Found.{job_by}
+use Rattle.ol_words.specs.Asked.{asks, verb_named, verb_row}
 use Rattle.ol_words.specs.Command.{app, ids_of}
+use Rattle.ol_words.specs.Found.{job_by}
+use Rattle.ol_words.specs.Jobs.{job_behind, job_of, job_on, number_on, numbers, values_of}
+use Rattle.ol_words.specs.Lines.{Line, line_of}
+use Rattle.ol_words.specs.Settings.{setting, setting_row}
+use Rattle.ol_words.specs.Once.{agreed_verb, is_agreed, is_given_once, is_told_once, known_of, options_of}
+use Rattle.ol_words.specs.declared.numbers.Limits.{Limits}
+use Rattle.ol_words.specs.declared.settings.Setting.{Setting}
+use Rattle.ol_words.specs.declared.verbs.Verb.{Verb}
 use Rattle.std.proofs.lemmas.Bool.{cases_Bool}
 use Rattle.ol_words.proofs.FixedRules.{shape_with}
 use Rattle.ol_words.proofs.AnyVerb.{rules_of}

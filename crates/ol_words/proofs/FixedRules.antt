@@ -14,10 +14,11 @@ use Rattle.clap.specs.Takes.{bundle_passes, default_passes, flag_word_passes, is
 use Rattle.clap.specs.Takes.{level_passes, other_passes, settle_passes, step_passes, turn_passes}
 use Rattle.clap.specs.Takes.{walk_passes}
 use Rattle.ol_words.specs.Texts.{Text}
-use Rattle.ol_words.specs.Lines.{Line, is_dashed}
-use Rattle.ol_words.specs.Asked.{Verb}
-use Rattle.ol_words.specs.Jobs.{job_on, verb_row}
+use Rattle.ol_words.specs.Asked.{verb_row}
 use Rattle.ol_words.specs.Found.{job_by}
+use Rattle.ol_words.specs.Jobs.{job_on}
+use Rattle.ol_words.specs.Lines.{Line, is_dashed}
+use Rattle.ol_words.specs.declared.verbs.Verb.{Verb}
 use Rattle.ol_words.proofs.Shapes.{not_end, plain_long, plain_short}
 
 -- a subcommand of the command line, as clap builds it

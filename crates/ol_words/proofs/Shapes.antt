@@ -8,8 +8,7 @@ use Rattle.std.proofs.lemmas.Bool.Decides.{nat_tests}
 use Rattle.std.specs.List.{position_or_len, before_first, after_first}
 use Rattle.clap.specs.Lexer.{long_of, short_of, has_byte}
 use Rattle.ol_words.specs.Texts.{Text}
-use Rattle.ol_words.specs.Lines.{Known, is_dashed, is_end, is_option, is_equals, flag_alone}
-use Rattle.ol_words.specs.Lines.{option_of, name_and_value, value_in}
+use Rattle.ol_words.specs.Lines.{Known, flag_alone, is_dashed, is_end, is_equals, is_option, name_and_value, option_of, value_in}
 use Rattle.std.proofs.lemmas.Bool.{cases_Bool}
 use Rattle.std.proofs.lemmas.Slice.Eq.{bytes_eq-Decides}
 

@@ -6,11 +6,9 @@ use Rattle.std.proofs.Common.{append_assoc}
 use Rattle.std.specs.declared.alloc.Global.{Global}
 use Rattle.std.proofs.lemmas.List.{drop_more, drop_all, length-drop}
 use Rattle.std.proofs.lemmas.List.{map_push}
-use Rattle.ol_words.specs.Texts.{texts_of}
+use Rattle.ol_words.specs.Texts.{texts_of, Text}
 use Rattle.std.specs.Borrow.{Bor}
-use Rattle.ol_words.specs.Texts.{Text}
-use Rattle.ol_words.specs.Lines.{Line, Known, line_from, is_dashed, is_end, option_of, after_option}
-use Rattle.ol_words.specs.Lines.{with_option, with_name}
+use Rattle.ol_words.specs.Lines.{Known, Line, after_option, is_dashed, is_end, line_from, option_of, with_name, with_option}
 
 abbrev pub seen : List (Bor Text × Bor Text) → List (Text × Text)
 seen options = map (λ p. (p.0.now, p.1.now)) options
