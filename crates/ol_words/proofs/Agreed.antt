@@ -1,8 +1,7 @@
 -- The job of the words, by what clap finds in them.
-use Rattle.std.proofs.Common.{ℕ, ◌≡◌, ◌∙◌, sym, ap, refl, true, false, true≢false, ◌&&◌, List, []}
-use Rattle.std.proofs.Common.{◌∷◌, Option, Some, None, option_map, if◌then◌else◌, inl, inr, length}
-use Rattle.std.proofs.Common.{map, nat_lt, nat_eq, subst}
-use Rattle.std.specs.Prelude.{option_and_then}
+use Rattle.std.proofs.Common.{ℕ, ◌≡◌, ◌∙◌, sym, ap, refl, true, false, true≢false, ◌&&◌, List, [], ◌∷◌, Option, Some}
+use Rattle.std.proofs.Common.{None, option_map, if◌then◌else◌, inl, inr, length, map, nat_lt, nat_eq, subst}
+use Rattle.std.specs.Prelude.{option_and_then, Result, Ok, Err, ◌↔◌}
 use Rattle.std.specs.Option.{option_map_or}
 use Rattle.std.specs.List.{list_all}
 use Rattle.clap.specs.Walk.{Row, first_of, nothing_held, rows_after}
@@ -10,7 +9,6 @@ use Rattle.clap.specs.Takes.{level_passes}
 use Rattle.clap.specs.Words.{first_value, rows_of, subcommand_of, takes}
 use Rattle.clap.specs.declared.parser.matches.Found.{Found}
 use Rattle.clap.proofs.WalkLemmas.{first_value-rows}
-use Rattle.std.specs.Prelude.{Result, Ok, Err, ◌↔◌}
 use Rattle.std.specs.Result.{IsErrAnd}
 use Rattle.clap.specs.declared.error.kind.ErrorKind.{ErrorKind}
 use Rattle.clap.specs.declared.error.kind.ErrorKind.TheVariants.{OutOfMemory}

@@ -1,7 +1,6 @@
 -- The verb of words that are left to clap, by what was found of it.
-use Rattle.std.proofs.Common.{◌≡◌, ◌≤◌, ◌<◌, refl, ◌∙◌, sym, ap, arith, true, false, List}
-use Rattle.std.proofs.Common.{[], ◌∷◌, Option, Some, None, drop, get_or, if◌then◌else◌, length}
-use Rattle.std.proofs.Common.{String, string_bytes}
+use Rattle.std.proofs.Common.{◌≡◌, ◌≤◌, ◌<◌, refl, ◌∙◌, sym, ap, arith, true, false, List, [], ◌∷◌, Option, Some, None}
+use Rattle.std.proofs.Common.{drop, get_or, if◌then◌else◌, length, String, string_bytes}
 use Rattle.std.specs.declared.alloc.Global.{Global}
 use Rattle.std.specs.Prelude.{option_and_then}
 use Rattle.std.specs.Option.{option_map_or}

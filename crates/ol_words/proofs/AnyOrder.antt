@@ -11,11 +11,10 @@ use Rattle.std.proofs.lemmas.Bool.{and_from, and_parts, cases_Bool, or_right}
 use Rattle.std.proofs.lemmas.Bool.Decides.{nat_tests}
 use Rattle.std.proofs.lemmas.Slice.Eq.{bytes_eq-Decides}
 use Rattle.clap.specs.Lexer.{long_of, usize_max}
-use Rattle.clap.specs.Walk.{Held, Row, Rule, Step, Walk, after_flag, after_step, arg_by_id}
-use Rattle.clap.specs.Walk.{arg_by_index, arg_by_long, first_of, idle, is_pending, long_met}
-use Rattle.clap.specs.Walk.{long_or_other, next, nothing_held, option, option_word, pushed, reacted}
-use Rattle.clap.specs.Walk.{settled, to_positional, trailing, used_as, used_by_id, value, walked}
-use Rattle.clap.specs.Walk.{word_met, reading_by}
+use Rattle.clap.specs.Walk.{Held, Row, Rule, Step, Walk, after_flag, after_step, arg_by_id, arg_by_index, arg_by_long}
+use Rattle.clap.specs.Walk.{first_of, idle, is_pending, long_met, long_or_other, next, nothing_held, option}
+use Rattle.clap.specs.Walk.{option_word, pushed, reacted, settled, to_positional, trailing, used_as, used_by_id, value}
+use Rattle.clap.specs.Walk.{walked, word_met, reading_by}
 use Rattle.clap.specs.Takes.{flag_word_passes, long_passes, other_passes, positional_passes}
 use Rattle.clap.specs.Takes.{settle_passes, step_passes, turn_passes, use_passes}
 use Rattle.clap.specs.Simple.{Shape, filled, with_index}
@@ -29,9 +28,8 @@ use Rattle.ol_words.specs.Lines.{Known, Line, is_dashed, is_end, is_option, line
 use Rattle.ol_words.specs.Once.{is_given_once, is_told_once}
 use Rattle.ol_words.proofs.Rows.{first_same, found_in, itself, lacks, set_fresh, set_other}
 use Rattle.ol_words.proofs.Shapes.{Written, written_long}
-use Rattle.ol_words.proofs.FixedRules.{Goes, goes_on, idle_at, met_waiting, other_plain, pass_end}
-use Rattle.ol_words.proofs.FixedRules.{pass_plain, pass_trailing, shape_with, stays, step_end}
-use Rattle.ol_words.proofs.FixedRules.{step_plain, step_trailing}
+use Rattle.ol_words.proofs.FixedRules.{Goes, goes_on, idle_at, met_waiting, other_plain, pass_end, pass_plain}
+use Rattle.ol_words.proofs.FixedRules.{pass_trailing, shape_with, stays, step_end, step_plain, step_trailing}
 use Rattle.ol_words.proofs.Views.{View, view}
 use Rattle.ol_words.proofs.Views as views
 

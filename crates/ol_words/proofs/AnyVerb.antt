@@ -1,8 +1,7 @@
 -- What clap makes of the words behind a verb.
-use Rattle.std.proofs.Common.{ℕ, ◌≡◌, ◌∙◌, ◌+◌, ◌<◌, sym, ap, ap₂, refl, arith, true, false}
-use Rattle.std.proofs.Common.{true≢false, Bool, ◌&&◌, ◌||◌, not, List, [], ◌∷◌, Option, Some, None}
-use Rattle.std.proofs.Common.{if◌then◌else◌, codes, inl, inr, option_map, fold, length, map}
-use Rattle.std.proofs.Common.{nat_lt}
+use Rattle.std.proofs.Common.{ℕ, ◌≡◌, ◌∙◌, ◌+◌, ◌<◌, sym, ap, ap₂, refl, arith, true, false, true≢false, Bool, ◌&&◌}
+use Rattle.std.proofs.Common.{◌||◌, not, List, [], ◌∷◌, Option, Some, None, if◌then◌else◌, codes, inl, inr, option_map}
+use Rattle.std.proofs.Common.{fold, length, map, nat_lt}
 use Rattle.std.specs.Prelude.{is_some, option_and_then}
 use Rattle.std.specs.List.{list_all}
 use Rattle.std.specs.Str.{bytes_eq}
@@ -29,9 +28,8 @@ use Rattle.ol_words.specs.declared.settings.Setting.TheVariants as set
 use Rattle.ol_words.specs.declared.verbs.Verb.{Verb}
 use Rattle.ol_words.proofs.Rows.{first_same, found_in, itself, lacks, with_values_other}
 use Rattle.ol_words.proofs.FixedRules.{Reads, idle_at, lands, shape_with}
-use Rattle.ol_words.proofs.AnyOrder.{Awaits, Finds, Tells, Values, come_all, few, given_once}
-use Rattle.ol_words.proofs.AnyOrder.{name_at, names_count, names_told, nothing_given, rule_as}
-use Rattle.ol_words.proofs.AnyOrder.{seen_as, value_told}
+use Rattle.ol_words.proofs.AnyOrder.{Awaits, Finds, Tells, Values, come_all, few, given_once, name_at, names_count}
+use Rattle.ol_words.proofs.AnyOrder.{names_told, nothing_given, rule_as, seen_as, value_told}
 
 -- ---- the rules
 

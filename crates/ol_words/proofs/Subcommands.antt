@@ -1,7 +1,6 @@
 -- The verbs, as clap is told of them.
-use Rattle.std.proofs.Common.{ℕ, ◌≡◌, ◌∙◌, ap, append-nil, append_assoc, refl, true, false, List, ◌&&◌}
-use Rattle.std.proofs.Common.{[], ◌∷◌, ◌++◌, Option, Some, None, if◌then◌else◌, inl, inr}
-use Rattle.std.proofs.Common.{true≢false, sym, fold, find}
+use Rattle.std.proofs.Common.{ℕ, ◌≡◌, ◌∙◌, ap, append-nil, append_assoc, refl, true, false, List, ◌&&◌, [], ◌∷◌, ◌++◌}
+use Rattle.std.proofs.Common.{Option, Some, None, if◌then◌else◌, inl, inr, true≢false, sym, fold, find}
 use Rattle.std.specs.Option.{option_map_or}
 use Rattle.std.specs.Prelude.{option_map, nat_eq, length}
 use Rattle.std.specs.List.{list_all}
