@@ -19,7 +19,7 @@ pub record VerbRow : Type 0 where
   pub word : Text
   pub settings : List Setting
 
--- every verb has the translation, and these settings behind it
+-- every verb has the translation, followed by these settings
 abbrev pub verb : Text → List Setting → VerbRow
 verb word ss = record { word = word; settings = set.Translation ∷ ss }
 

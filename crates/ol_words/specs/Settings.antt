@@ -41,11 +41,11 @@ pub record SettingRow : Type 0 where
   pub is_flag : Bool
   pub limits : Limits
 
--- an option with the least and the most that its number may be, and what it is where the option isn't given
+-- an option with its least and its greatest number, and the number without the option
 abbrev pub number : Text → ℕ → ℕ → ℕ → SettingRow
 number option least most default = record { option = option; is_flag = false; limits = from_to least most default }
 
--- a flag takes no value: its number is 1 where it is given, else 0
+-- a flag takes no value: its number is 1 if it is given, and 0 otherwise
 abbrev pub flag : Text → SettingRow
 flag option = record { option = option; is_flag = true; limits = from_to 0 1 0 }
 

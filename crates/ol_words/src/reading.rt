@@ -20,10 +20,11 @@ use std::alloc::{AllocError, Global};
 /// The job of the arguments of a command line: the name of the program, which is ignored, followed
 /// by a command, followed by the options and the names of the command in any order.
 ///
-/// A command is the name of a variant of `Job` in lower case. The fields of the variant are its
-/// options, except that its names are the fields of type `Word`, which are the names of files, and
-/// `k`, in the order of the fields. At most one of two names is `-`. An option whose field is a
-/// `bool` takes no value. `from_term` is written `--from-term`.
+/// A command is the name of a variant of `Job` in lower case. The fields of the variant that have
+/// the type `Word`, which are the names of files, and the field `k` are the names of the command,
+/// in the order of the fields. At most one of two names is `-`. The other fields are the options of
+/// the command. An option whose field is a `bool` takes no value. `from_term` is written
+/// `--from-term`.
 ///
 /// An option is written in full, as `--name value` or `--name=value`, at most once. A number is 1
 /// to 8 ASCII digits, within the range that `Job` gives. The defaults are translation 2, 4 workers,
@@ -87,8 +88,8 @@ fn job_by(alloc: Global, verb: Verb, found: &ArgMatches) -> Result<Job, UsageFau
     }
 }
 
-// The numbers of settings by what was given to their options, followed by zeros, or None if a number
-// is outside its limits.
+// The numbers of settings by what was given to their options, followed by zeros, or None if a
+// number is outside its limits.
 fn numbers_of(settings: &[Setting], found: &ArgMatches) -> Option<[u32; 5]>
     requires few { length settings.now ≤ 5 }
     ensures { option_map (λ ns. take (length settings.now) ns) result

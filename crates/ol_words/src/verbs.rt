@@ -1,4 +1,5 @@
-//! The commands of the command line, with the settings and the names of each, and what each asks for.
+//! The commands of the command line, with the settings and the names of each, and what each asks
+//! for.
 
 ghost use Rattle.std.specs.Prelude.{◌≡◌, ◌≤◌, ◌&&◌, IfOk, length};
 ghost use Rattle.ol_words.specs.Asked.{asks, is_input, numbered, all_verbs, verb_named, verb_row};
@@ -158,14 +159,15 @@ impl Verb {
 
     /// What the verb asks for by the numbers of its settings and by its names, both in their order.
     /// Elements that the verb has no setting or name for aren't read. `None`: the number of `gen`
-    /// is outside its limits, or both names are that of standard input.
+    /// isn't 0 to 10, or both names are that of standard input.
     pub(crate) fn asks(
         self,
         alloc: Global,
         numbers: [u32; 5],
         names: (&str, &str),
     ) -> Result<Option<Job>, AllocError>
-        ensures { IfOk result (λ job. job ≡ asks self (firsts (length (verb_row self).settings) numbers)
+        ensures { IfOk result (λ job. job ≡ asks self
+            (firsts (length (verb_row self).settings) numbers)
             (first_texts (length (ids_of self)) names.entry)) }
     {
         let job = match (self, numbers, names) {
