@@ -1,7 +1,6 @@
 -- Words without options, and the line that is written for them.
-use Rattle.std.proofs.Common.{◌≡◌, ℕ, List, [], ◌∷◌, Bool, true, false, ◌&&◌, inl, inr}
-use Rattle.std.proofs.Common.{codes, Option, Some, None, String, Global, ◌⊎◌}
-use Rattle.std.proofs.Common.{refl, ap, ◌∙◌, subst, cond, zero, suc}
+use Rattle.std.proofs.Common.{◌≡◌, ℕ, List, [], ◌∷◌, Bool, true, false, ◌&&◌, inl, inr, codes, Option, Some, None}
+use Rattle.std.proofs.Common.{String, Global, ◌⊎◌, refl, ap, ◌∙◌, subst, cond, zero, suc}
 use Rattle.std.proofs.lemmas.Bool.{cases_Bool}
 use Rattle.std.proofs.lemmas.Slice.Eq.{bytes_eq-Decides}
 use Rattle.std.specs.Prelude.{option_and_then, option_map}
@@ -15,16 +14,13 @@ use Rattle.ol_words.specs.declared.verbs.Verb.TheVariants as verbs
 use Rattle.ol_words.specs.Asked.{is_input}
 use Rattle.ol_words.specs.Jobs.{job_of, job_on}
 use Rattle.ol_law_confluence.proofs.Read.{line_is_normal_form, lost_has_no_normal_form}
-use Rattle.ol_cli.specs.NormalForms.{PlainDemandSays, FirstLine, IsFoundWithin}
+use Rattle.ol_cli.specs.NormalForms.{PlainDemandSays, FirstLine, IsFoundWithin, ArePlain, LineIsOf, PlainLineSays}
+use Rattle.ol_cli.specs.NormalForms.{ArePlainTwo, PlainEqualSays, LineSaysOfTwo, CountsSay, AreFewest}
 use Rattle.ol_cli.specs.Jobs.{AskFor, AreTold, TellsFiles, TellsTerm, term_bytes, Files}
 use Rattle.ol_cli.specs.Sources.{WritesTree}
-use Rattle.ol_cli.specs.NormalForms.{ArePlain, LineIsOf, PlainLineSays}
-use Rattle.ol_cli.specs.NormalForms.{ArePlainTwo, PlainEqualSays, LineSaysOfTwo}
-use Rattle.ol_cli.specs.NormalForms.{CountsSay, AreFewest}
 use Rattle.ol_cli.proofs.CountedLines.{writes_fewest}
 use Rattle.ol_cli.proofs.OneAnswer.{one_job}
-use Rattle.ol_cli.proofs.NormalLines.{run_printed, walk_printed, demand_printed, first_line}
-use Rattle.ol_cli.proofs.NormalLines.{file_of}
+use Rattle.ol_cli.proofs.NormalLines.{run_printed, walk_printed, demand_printed, first_line, file_of}
 use Rattle.ol_cli.proofs.DemandedLines.{writes_demanded}
 use Rattle.ol_words.proofs.Shapes.{not_end}
 
