@@ -21,8 +21,7 @@ use Rattle.ol_readback.specs.ReadTrees.{IsTree}
 use Rattle.ol_readback.specs.declared.answers.ReadNode.{ReadNode}
 use Rattle.ol_cli.specs.Listing.{ListsOnce}
 use Rattle.ol_cli.specs.Run.{start_net_of_term, Shows, RunEnds, ReadsLast, Prints}
-use Rattle.ol_cli.specs.EveryRun.{PrintsOf}
-use Rattle.ol_cli.specs.EveryRun.{OneThreadIsThere, AnyRunPrints, AnyRunRunsOut}
+use Rattle.ol_cli.specs.EveryRun.{PrintsOf, OneThreadIsThere, AnyRunPrints, AnyRunRunsOut}
 use Rattle.ol_cli.proofs.EveryRun.{shows_under}
 use Rattle.ol_cli.proofs.NamedNets.{named_net}
 use Rattle.ol_diamond.proofs.OneThread.{one_thread_exists, done_tells, spent_tells, longer_tells}

@@ -1,6 +1,5 @@
 -- What the line of `equal` says of two terms.
-use Rattle.std.proofs.Common.{◌≡◌, ℕ, List, [], ◌∷◌, Option, String, Global}
-use Rattle.std.proofs.Common.{refl, ap, arith}
+use Rattle.std.proofs.Common.{◌≡◌, ℕ, List, [], ◌∷◌, Option, String, Global, refl, ap, arith}
 use Rattle.std.specs.Fmt.{decimal}
 use Rattle.ol_term.specs.Trees.{Tree}
 use Rattle.ol_parse.specs.Grammar.{Named}

@@ -1,7 +1,6 @@
 -- A job that can be done is done, where nothing fails and memory is found.
-use Rattle.std.proofs.Common.{◌≡◌, ℕ, zero, suc, ◌≤◌, Bool, true, false, List, [], ◌∷◌, length}
-use Rattle.std.proofs.Common.{slice_get, Option, Some, refl, sym, ◌∙◌, subst, inl, inr, arith}
-use Rattle.std.proofs.Common.{String, Global}
+use Rattle.std.proofs.Common.{◌≡◌, ℕ, zero, suc, ◌≤◌, Bool, true, false, List, [], ◌∷◌, length, slice_get, Option, Some}
+use Rattle.std.proofs.Common.{refl, sym, ◌∙◌, subst, inl, inr, arith, String, Global}
 use Rattle.ol_io.specs.Outside.{Rose, Appended}
 use Rattle.ol_term.specs.declared.translations.Translation.{Translation}
 use Rattle.ol_term.specs.Trees.{Tree}
@@ -10,19 +9,15 @@ use Rattle.ol_words.specs.Texts.{Text}
 use Rattle.ol_words.specs.declared.jobs.Job.{Job}
 use Rattle.ol_words.specs.declared.jobs.Job.TheVariants as jobs
 use Rattle.ol_cli.specs.declared.status.Status.{Status}
-use Rattle.ol_cli.specs.declared.status.Status.TheVariants.{Done}
-use Rattle.ol_cli.specs.declared.status.Status.TheVariants.{NoMemory}
+use Rattle.ol_cli.specs.declared.status.Status.TheVariants.{Done, NoMemory}
 use Rattle.ol_cli.specs.Jobs.{EndsWithinFuel, Files, AreTold, TellsFiles, file_name, term_bytes, translation_in}
 use Rattle.ol_cli.specs.TermFiles.{IsTermFile}
-use Rattle.ol_cli.specs.Cases.{FileAnswer}
+use Rattle.ol_cli.specs.Cases.{FileAnswer, Cause, JobAnswer, seen}
 use Rattle.ol_cli.specs.Check.{JournalAnswer}
-use Rattle.ol_cli.specs.Cases.{Cause}
 use Rattle.ol_cli.specs.Answers.{IsAnswer, Ends}
-use Rattle.ol_cli.specs.Cases.{JobAnswer, seen}
 use Rattle.ol_cli.specs.Generate.{Makes, plain_run}
 use Rattle.ol_cli.specs.Cases as answers
-use Rattle.ol_cli.specs.Completeness.{HasTermWithin, HasJournalWithin, CanDo}
-use Rattle.ol_cli.specs.Completeness.{AskForWhatCanBeDone, IsDoneOrNothing}
+use Rattle.ol_cli.specs.Completeness.{HasTermWithin, HasJournalWithin, CanDo, AskForWhatCanBeDone, IsDoneOrNothing}
 use Rattle.ol_cli.proofs.Exact.{ends_exact}
 use Rattle.ol_cli.proofs.OneAnswer.{done_file, of_file_answer}
 use Rattle.ol_cli.proofs.OneAnswer.{OfJournal, of_journal_answer, one_bytes, one_job, own_job}

@@ -27,12 +27,10 @@ use Rattle.ol_law_confluence.proofs.Read.{read_line, line_is_normal_form}
 use Rattle.ol_cli.specs.Demand.{DemandEnds}
 use Rattle.ol_cli.specs.Cases.{DemandRunsOut}
 use Rattle.ol_cli.specs.Sources.{DemandsTree, TellsTree, WritesTree}
-use Rattle.ol_cli.specs.NormalForms.{PrintsTerm, FirstLine, LineSays, IsFoundOnDemand}
-use Rattle.ol_cli.specs.NormalForms.{count_of_variables}
+use Rattle.ol_cli.specs.NormalForms.{PrintsTerm, FirstLine, LineSays, IsFoundOnDemand, count_of_variables}
 use Rattle.ol_cli.proofs.StartNet.{is_read_within, ends_within, reads_told}
 use Rattle.ol_law_meaning.proofs.FileNames.{file_names}
-use Rattle.ol_cli.proofs.NormalLines.{run_printed, walk_printed, demand_printed, first_line}
-use Rattle.ol_cli.proofs.NormalLines.{file_of}
+use Rattle.ol_cli.proofs.NormalLines.{run_printed, walk_printed, demand_printed, first_line, file_of}
 
 -- the demand run of a term with a normal form: how long it is at most, and what it reads
 pub record IsDemanded (tr : Translation) (t : Tree) (names : List (List ℕ)) (v : Tree) : Type 0

@@ -33,9 +33,8 @@ use Rattle.ol_readback.specs.ReadTrees.{IsTree}
 use Rattle.ol_readback.specs.Texts.{IsTextOf}
 use Rattle.ol_readback.specs.declared.answers.ReadNode.{ReadNode}
 use Rattle.ol_cli.specs.Texts.{line, answer_text}
-use Rattle.ol_cli.specs.Run.{start_net_of_term, Shows, RunsOut, Prints}
+use Rattle.ol_cli.specs.Run.{start_net_of_term, Shows, RunsOut, Prints, journal_of, PrintsWork}
 use Rattle.ol_cli.specs.Walk.{Walks}
-use Rattle.ol_cli.specs.Run.{journal_of, PrintsWork}
 use Rattle.ol_cli.proofs.NamedNets.{named_net}
 use Rattle.ol_cli.proofs.ListedOnce.{net_of_once, net_of_parts_once, net_under_once, same_length}
 use Rattle.ol_cli.proofs.TreeTransport.{tree_same, tree_under}

@@ -1,7 +1,6 @@
 -- What follows from the causes of the statuses.
-use Rattle.std.proofs.Common.{◌≡◌, ◌≢◌, ℕ, ◌<◌, ◌≤◌, Bool, true, false, List, Option, Some, refl}
-use Rattle.std.proofs.Common.{sym, ap, ◌∙◌, subst, inl, inr, ◌⊎◌, arith, String, Global, Vec, Ok}
-use Rattle.std.proofs.Common.{◌↔◌}
+use Rattle.std.proofs.Common.{◌≡◌, ◌≢◌, ℕ, ◌<◌, ◌≤◌, Bool, true, false, List, Option, Some, refl, sym, ap, ◌∙◌, subst}
+use Rattle.std.proofs.Common.{inl, inr, ◌⊎◌, arith, String, Global, Vec, Ok, ◌↔◌}
 use Rattle.std.specs.Option.{option_map_or}
 use Rattle.std.specs.Result.{IsErrOf}
 use Rattle.ol_io.specs.declared.calls.ReadAll.{ReadAll}
@@ -14,20 +13,14 @@ use Rattle.ol_words.specs.Texts.{Text}
 use Rattle.ol_words.specs.declared.jobs.Job.{Job}
 use Rattle.ol_words.specs.declared.jobs.Job.TheVariants as jobs
 use Rattle.ol_cli.specs.declared.status.Status.{Status}
-use Rattle.ol_cli.specs.declared.status.Status.TheVariants.{Done, Usage, ReadFault}
-use Rattle.ol_cli.specs.declared.status.Status.TheVariants.{WriteFault, NoMemory}
-use Rattle.ol_cli.specs.Jobs.{AskFor, AskForNothing, Files, AreTold, TellsFiles}
-use Rattle.ol_cli.specs.Cases.{HasTermFile}
-use Rattle.ol_cli.specs.Jobs.{count_of_files, files_of, file_name}
+use Rattle.ol_cli.specs.declared.status.Status.TheVariants.{Done, Usage, ReadFault, WriteFault, NoMemory}
+use Rattle.ol_cli.specs.Jobs.{AskFor, AskForNothing, Files, AreTold, TellsFiles, count_of_files, files_of, file_name}
+use Rattle.ol_cli.specs.Cases.{HasTermFile, TermAnswer, FileAnswer, JobAnswer, of_file, of_journal, made, seen}
+use Rattle.ol_cli.specs.Cases.{on_second, FileCause, JobCause, by_file, by_journal, by_making, by_net_file, by_first}
+use Rattle.ol_cli.specs.Cases.{by_second, by_both, of_net_file, of_first, of_second, of_both, Cause, CauseOf}
 use Rattle.ol_cli.specs.TermFiles.{IsTermFile}
-use Rattle.ol_cli.specs.Cases.{TermAnswer, FileAnswer}
 use Rattle.ol_cli.specs.Check.{JournalAnswer}
-use Rattle.ol_cli.specs.Answers.{IsAnswer, Seen}
-use Rattle.ol_cli.specs.Cases.{JobAnswer, of_file, of_journal, made, seen}
-use Rattle.ol_cli.specs.Cases.{on_second, FileCause, JobCause, by_file, by_journal, by_making}
-use Rattle.ol_cli.specs.Cases.{by_net_file, by_first, by_second, by_both, of_net_file, of_first}
-use Rattle.ol_cli.specs.Answers.{Ends, AnswerTo}
-use Rattle.ol_cli.specs.Cases.{of_second, of_both, Cause, CauseOf}
+use Rattle.ol_cli.specs.Answers.{IsAnswer, Seen, Ends, AnswerTo}
 use Rattle.ol_cli.specs.Equal.{HasTree}
 use Rattle.ol_cli.specs.Generate.{plain_run}
 use Rattle.ol_cli.specs.Net.{NetFileAnswer}

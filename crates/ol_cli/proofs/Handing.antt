@@ -1,6 +1,5 @@
 -- What is handed back of a term is handed back of its file, of the source's bytes, and of the words.
-use Rattle.std.proofs.Common.{◌≡◌, ℕ, List, length, Option, None, String, Global, count_by, is_some, sym, ap, ◌∙◌}
-use Rattle.std.proofs.Common.{inl}
+use Rattle.std.proofs.Common.{◌≡◌, ℕ, List, length, Option, None, String, Global, count_by, is_some, sym, ap, ◌∙◌, inl}
 use Rattle.ol_io.specs.Outside.{Appended}
 use Rattle.ol_term.specs.Trees.{Tree}
 use Rattle.ol_net.specs.declared.parts.Kind.{Kind}
@@ -13,12 +12,11 @@ use Rattle.ol_words.specs.declared.jobs.Job.TheVariants as jobs
 use Rattle.ol_cli.specs.declared.status.Status.{Status}
 use Rattle.ol_cli.specs.declared.status.Status.TheVariants as status
 use Rattle.ol_cli.specs.Jobs.{AskFor, TermHands, file_name, translation_in}
-use Rattle.ol_cli.specs.TermFiles.{IsTermFile}
+use Rattle.ol_cli.specs.TermFiles.{IsTermFile, FileHands}
 use Rattle.ol_cli.specs.Answers.{Seen}
 use Rattle.ol_cli.specs.Run.{journal_of}
 use Rattle.ol_cli.proofs.Statuses.{IsOfTerm, ended_status}
 use Rattle.ol_cli.specs.Cases.{GaveAll}
-use Rattle.ol_cli.specs.TermFiles.{FileHands}
 use Rattle.ol_cli.specs.Handed.{ReadHands, JobHands, WordsHand, WhereEnded}
 
 -- ---- the net that is handed to the workers

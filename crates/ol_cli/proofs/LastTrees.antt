@@ -18,8 +18,7 @@ use Rattle.ol_reduce.specs.Reduced.{IsDone}
 use Rattle.ol_readback.specs.Heads.{live}
 use Rattle.ol_readback.specs.ReadTrees.{IsTree}
 use Rattle.ol_readback.specs.declared.answers.ReadNode.{ReadNode}
-use Rattle.ol_cli.specs.Run.{ReadsLast}
-use Rattle.ol_cli.specs.Run.{journal_of}
+use Rattle.ol_cli.specs.Run.{ReadsLast, journal_of}
 use Rattle.ol_cli.proofs.AnyRun.{any_run_reads}
 use Rattle.ol_cli.proofs.Evaluated.{own_run, own_net, one_name}
 use Rattle.ol_invariance.proofs.Runs.{run_keeps_ports}

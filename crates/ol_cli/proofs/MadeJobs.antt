@@ -6,8 +6,7 @@ use Rattle.ol_words.specs.declared.jobs.Job.TheVariants as jobs
 use Rattle.ol_cli.specs.declared.answer.Answer.{Answer}
 use Rattle.ol_cli.specs.declared.status.Status.TheVariants.{Done}
 use Rattle.ol_cli.specs.Answers.{Seen}
-use Rattle.ol_cli.specs.Cases.{by_making}
-use Rattle.ol_cli.specs.Cases.{FileAnswer}
+use Rattle.ol_cli.specs.Cases.{by_making, FileAnswer}
 use Rattle.ol_cli.specs.Generate.{plain_run}
 use Rattle.ol_cli.specs.TermFiles.{FileHands}
 use Rattle.ol_cli.specs.Handed.{WhereEnded}

@@ -25,15 +25,13 @@ use Rattle.ol_words.specs.Texts.{Text}
 use Rattle.ol_words.specs.declared.jobs.Job.{Job}
 use Rattle.ol_words.specs.declared.jobs.Job.TheVariants as jobs
 use Rattle.ol_cli.specs.declared.status.Status.{Status}
-use Rattle.ol_cli.specs.declared.status.Status.TheVariants.{Done, Spent}
-use Rattle.ol_cli.specs.declared.status.Status.TheVariants.{Limit, BadNet}
+use Rattle.ol_cli.specs.declared.status.Status.TheVariants.{Done, Spent, Limit, BadNet}
 use Rattle.ol_cli.specs.Laws.{HaveOneText}
 use Rattle.ol_cli.specs.Texts.{line, counts_text}
 use Rattle.ol_cli.specs.RefusalTexts.{nodes_text, spent_text}
 use Rattle.ol_cli.specs.Run.{RunsOut}
-use Rattle.ol_cli.specs.Net.{long, start_net, NetRunEnds, PrintsNet, NetAnswer}
+use Rattle.ol_cli.specs.Net.{long, start_net, NetRunEnds, PrintsNet, NetAnswer, IsNetFile, NetFileAnswer, bad, of_net}
 use Rattle.ol_cli.specs.Cases.{IsPastNodes}
-use Rattle.ol_cli.specs.Net.{IsNetFile, NetFileAnswer, bad, of_net}
 use Rattle.ol_cli.proofs.Handing.{whole_net}
 use Rattle.ol_cli.proofs.NetRuns.{one_left, left_or_runs_out}
 

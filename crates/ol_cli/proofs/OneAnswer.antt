@@ -28,17 +28,14 @@ use Rattle.ol_cli.specs.declared.status.Status.TheVariants.{Done, Limit, Syntax,
 use Rattle.ol_cli.specs.Jobs.{EndsWithinFuel, Files, AskFor, AskForNothing, file_name, translation_in}
 use Rattle.ol_cli.specs.Laws.{HaveOneText}
 use Rattle.ol_cli.specs.Texts.{line, usage_text}
-use Rattle.ol_cli.specs.RefusalTexts.{bytes_text, depth_text, nodes_text, journal_text}
-use Rattle.ol_cli.specs.RefusalTexts.{syntax_text}
-use Rattle.ol_cli.specs.Check.{found_text}
+use Rattle.ol_cli.specs.RefusalTexts.{bytes_text, depth_text, nodes_text, journal_text, syntax_text}
+use Rattle.ol_cli.specs.Check.{found_text, JournalAnswer}
 use Rattle.ol_cli.specs.Run.{start_net_of_term, ReadsLast}
 use Rattle.ol_cli.specs.Net.{NetFileAnswer}
 use Rattle.ol_cli.specs.TermFiles.{IsTermFile}
-use Rattle.ol_cli.specs.Cases.{TermAnswer, FileAnswer}
-use Rattle.ol_cli.specs.Check.{JournalAnswer}
-use Rattle.ol_cli.specs.Cases.{JobAnswer, of_file, of_journal, made, of_net_file, of_first}
-use Rattle.ol_cli.specs.Answers.{IsAnswer}
+use Rattle.ol_cli.specs.Cases.{TermAnswer, FileAnswer, JobAnswer, of_file, of_journal, made, of_net_file, of_first}
 use Rattle.ol_cli.specs.Cases.{of_second, of_both}
+use Rattle.ol_cli.specs.Answers.{IsAnswer}
 use Rattle.ol_cli.specs.Equal.{HasTree, Compares}
 use Rattle.ol_cli.specs.Generate.{Makes, plain_run}
 use Rattle.ol_cli.proofs.OnePrint.{one_last_tree}

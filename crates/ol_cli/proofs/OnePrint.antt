@@ -30,10 +30,9 @@ use Rattle.ol_view.proofs.OneView.{leads_one}
 use Rattle.ol_view.proofs.ShownAlike.{live_alike, shown_alike}
 use Rattle.ol_cli.specs.Texts.{line, answer_text}
 use Rattle.ol_cli.specs.RefusalTexts.{view_text}
-use Rattle.ol_cli.specs.Certify.{verdict_text}
+use Rattle.ol_cli.specs.Certify.{verdict_text, Certifies}
 use Rattle.ol_cli.specs.Laws.{OneTreeIsPrinted, OneTreeIsWalked}
 use Rattle.ol_cli.specs.Run.{start_net_of_term, Shows, Prints, RunsOut, RunEnds, ReadsLast}
-use Rattle.ol_cli.specs.Certify.{Certifies}
 use Rattle.ol_cli.specs.Walk.{Walks}
 use Rattle.ol_cli.specs.View.{Views}
 use Rattle.ol_cli.specs.EveryRun.{PrintsOf}

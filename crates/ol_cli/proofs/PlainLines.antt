@@ -1,30 +1,26 @@
 -- Words without options, and the line that is written for them.
-use Rattle.std.proofs.Common.{◌≡◌, ℕ, List, [], ◌∷◌, Bool, true, false, ◌&&◌, inl, inr}
-use Rattle.std.proofs.Common.{codes, Option, Some, None, String, Global, ◌⊎◌}
-use Rattle.std.proofs.Common.{refl, ap, ◌∙◌, subst, cond, zero, suc}
+use Rattle.std.proofs.Common.{◌≡◌, ℕ, List, [], ◌∷◌, Bool, true, false, ◌&&◌, inl, inr, codes, Option, Some, None}
+use Rattle.std.proofs.Common.{String, Global, ◌⊎◌, refl, ap, ◌∙◌, subst, cond, zero, suc}
 use Rattle.std.proofs.lemmas.Bool.{cases_Bool}
 use Rattle.std.proofs.lemmas.Slice.Eq.{bytes_eq-Decides}
 use Rattle.std.specs.Prelude.{option_and_then, option_map}
 use Rattle.ol_term.specs.declared.translations.Translation.TheVariants.{Two}
 use Rattle.ol_parse.specs.Numbered.{names_of, number}
 use Rattle.ol_words.specs.Texts.{Text}
-use Rattle.ol_words.specs.Lines.{Line, Known, line_from, line_of, is_dashed, is_end, after_option}
-use Rattle.ol_words.specs.Lines.{option_of, with_name}
+use Rattle.ol_words.specs.Lines.{Line, Known, line_from, line_of, is_dashed, is_end, after_option, option_of, with_name}
 use Rattle.ol_words.specs.declared.jobs.Job.{Job}
 use Rattle.ol_words.specs.declared.jobs.Job.TheVariants as jobs
-use Rattle.ol_words.specs.Asked.{run_verb, walk_verb, demand_verb, equal_verb, is_input}
+use Rattle.ol_words.specs.declared.verbs.Verb.TheVariants as verbs
+use Rattle.ol_words.specs.Asked.{is_input}
 use Rattle.ol_words.specs.Jobs.{job_of, job_on}
 use Rattle.ol_law_confluence.proofs.Read.{line_is_normal_form, lost_has_no_normal_form}
-use Rattle.ol_cli.specs.NormalForms.{PlainDemandSays, FirstLine, IsFoundWithin}
+use Rattle.ol_cli.specs.NormalForms.{PlainDemandSays, FirstLine, IsFoundWithin, ArePlain, LineIsOf, PlainLineSays}
+use Rattle.ol_cli.specs.NormalForms.{ArePlainTwo, PlainEqualSays, LineSaysOfTwo, CountsSay, AreFewest}
 use Rattle.ol_cli.specs.Jobs.{AskFor, AreTold, TellsFiles, TellsTerm, term_bytes, Files}
 use Rattle.ol_cli.specs.Sources.{WritesTree}
-use Rattle.ol_cli.specs.NormalForms.{ArePlain, LineIsOf, PlainLineSays}
-use Rattle.ol_cli.specs.NormalForms.{ArePlainTwo, PlainEqualSays, LineSaysOfTwo}
-use Rattle.ol_cli.specs.NormalForms.{CountsSay, AreFewest}
 use Rattle.ol_cli.proofs.CountedLines.{writes_fewest}
 use Rattle.ol_cli.proofs.OneAnswer.{one_job}
-use Rattle.ol_cli.proofs.NormalLines.{run_printed, walk_printed, demand_printed, first_line}
-use Rattle.ol_cli.proofs.NormalLines.{file_of}
+use Rattle.ol_cli.proofs.NormalLines.{run_printed, walk_printed, demand_printed, first_line, file_of}
 use Rattle.ol_cli.proofs.DemandedLines.{writes_demanded}
 use Rattle.ol_words.proofs.Shapes.{not_end}
 
@@ -69,17 +65,17 @@ module _ {words : List (String Global)} {verb name : Text} (p : ArePlain words v
   asks_run : verb ≡ codes "run" → AskFor words (jobs.Run Two 4 200000 4096 name)
   asks_run e =
       ap job_of p.are ∙ ap (λ v. job_of (p.program ∷ v ∷ name ∷ [])) e
-      ∙ ap (option_and_then (job_on run_verb)) (one_name _ name p.is_name)
+      ∙ ap (option_and_then (job_on verbs.Run)) (one_name _ name p.is_name)
 
   asks_walk : verb ≡ codes "walk" → AskFor words (jobs.Walk Two 100000 4096 name)
   asks_walk e =
       ap job_of p.are ∙ ap (λ v. job_of (p.program ∷ v ∷ name ∷ [])) e
-      ∙ ap (option_and_then (job_on walk_verb)) (one_name _ name p.is_name)
+      ∙ ap (option_and_then (job_on verbs.Walk)) (one_name _ name p.is_name)
 
   asks_demand : verb ≡ codes "demand" → AskFor words (jobs.Demand Two 200000 4096 name)
   asks_demand e =
       ap job_of p.are ∙ ap (λ v. job_of (p.program ∷ v ∷ name ∷ [])) e
-      ∙ ap (option_and_then (job_on demand_verb)) (one_name _ name p.is_name)
+      ∙ ap (option_and_then (job_on verbs.Demand)) (one_name _ name p.is_name)
 
 -- two names that aren't both `-` ask for a comparison
 both_inputs : (a b : Text) → (a ≡ codes "-" → b ≡ codes "-" → ⊥) →
@@ -97,7 +93,7 @@ both_inputs a b apart = elim (cases_Bool (is_input a)) [
 asks_equal : {words : List (String Global)} {a b : Text} → ArePlainTwo words a b →
     AskFor words (jobs.Equal Two 4 200000 4096 a b)
 asks_equal {words} {a} {b} p =
-    ap job_of p.are ∙ ap (option_and_then (job_on equal_verb)) (two_names _ a b p.is_first p.is_second)
+    ap job_of p.are ∙ ap (option_and_then (job_on verbs.Equal)) (two_names _ a b p.is_first p.is_second)
     ∙ ap (λ x. cond x None (Some (jobs.Equal Two 4 200000 4096 a b))) (both_inputs a b p.not_both)
 
 -- the bytes of the file are those of the job's term

@@ -12,8 +12,7 @@ use Rattle.ol_translate.specs.Translation.{nodes_of, translation_of}
 use Rattle.ol_wire.specs.Closed.{ClosedTable}
 use Rattle.ol_words.specs.declared.jobs.Job.{Job}
 use Rattle.ol_cli.specs.declared.status.Status.{Status}
-use Rattle.ol_cli.specs.declared.status.Status.TheVariants.{Syntax}
-use Rattle.ol_cli.specs.declared.status.Status.TheVariants.{Limit}
+use Rattle.ol_cli.specs.declared.status.Status.TheVariants.{Syntax, Limit}
 use Rattle.ol_cli.specs.Jobs.{translation_in}
 use Rattle.ol_cli.specs.TermFiles.{IsTermFile}
 use Rattle.ol_cli.specs.Cases.{TermAnswer, FileAnswer}

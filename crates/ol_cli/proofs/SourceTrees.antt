@@ -1,6 +1,5 @@
 -- What `equal` and `certify` tell of the terms of their files.
-use Rattle.std.proofs.Common.{◌≡◌, ℕ, ◌*◌, true, List, Option, length, sym, ◌∙◌, subst, subst₂, inr}
-use Rattle.std.proofs.Common.{String, Global}
+use Rattle.std.proofs.Common.{◌≡◌, ℕ, ◌*◌, true, List, Option, length, sym, ◌∙◌, subst, subst₂, inr, String, Global}
 use Rattle.ol_term.specs.declared.translations.Translation.{Translation}
 use Rattle.ol_term.specs.Trees.{Tree}
 use Rattle.ol_rules.proofs.LeadRuns.{as_run}
@@ -31,16 +30,13 @@ use Rattle.ol_cli.specs.Texts.{line}
 use Rattle.ol_cli.specs.declared.status.Status.{Status}
 use Rattle.ol_cli.specs.declared.status.Status.TheVariants.{Done}
 use Rattle.ol_cli.specs.Equal.{HasTree}
-use Rattle.ol_cli.specs.Cases.{FileAnswer}
-use Rattle.ol_cli.specs.Cases.{JobAnswer, of_file, of_first, of_second}
-use Rattle.ol_cli.specs.Cases.{of_both}
+use Rattle.ol_cli.specs.Cases.{FileAnswer, JobAnswer, of_file, of_first, of_second, of_both}
 use Rattle.ol_cli.specs.Answers.{IsAnswer}
 use Rattle.ol_cli.specs.Jobs.{Files}
 use Rattle.ol_cli.specs.Run.{start_net_of_term, ReadsLast}
 use Rattle.ol_cli.specs.Certify.{Certifies}
 use Rattle.ol_cli.specs.SourceLaws.{TellsOfTwo, TellsSources, WritesOfSources, ComparisonTellsSources}
-use Rattle.ol_cli.specs.SourceLaws.{HeadBesideLostTellsSources}
-use Rattle.ol_cli.specs.SourceLaws.{CertifyNeverDiffers}
+use Rattle.ol_cli.specs.SourceLaws.{HeadBesideLostTellsSources, CertifyNeverDiffers}
 use Rattle.ol_cli.proofs.OneAnswer.{own_job, one_bytes}
 
 says : (tr : Translation) (t : Tree) (names : List (List ℕ)) (fuel heads : ℕ)

@@ -1,7 +1,6 @@
 -- What an answer says of the job's own term.
-use Rattle.std.proofs.Common.{◌≡◌, ◌≢◌, ℕ, ◌*◌, Bool, true, false, zero, suc, List, [], ◌∷◌, codes}
-use Rattle.std.proofs.Common.{slice_get, length, Option, Some, String, Global, ◌<◌, ◌≤◌, ◌⊎◌, inl}
-use Rattle.std.proofs.Common.{inr, sym, ap, ◌∙◌, subst, arith}
+use Rattle.std.proofs.Common.{◌≡◌, ◌≢◌, ℕ, ◌*◌, Bool, true, false, zero, suc, List, [], ◌∷◌, codes, slice_get, length}
+use Rattle.std.proofs.Common.{Option, Some, String, Global, ◌<◌, ◌≤◌, ◌⊎◌, inl, inr, sym, ap, ◌∙◌, subst, arith}
 use Rattle.std.proofs.lemmas.Bool.{cases_lt}
 use Rattle.std.proofs.lemmas.Option.{same_Some}
 use Rattle.ol_io.specs.Outside.{Appended, Rose}
@@ -40,16 +39,12 @@ use Rattle.ol_cli.specs.Jobs.{AskFor, Files, AreTold, TellsTerm, TellsFiles, ter
 use Rattle.ol_cli.specs.Run.{start_net_of_term, Prints}
 use Rattle.ol_cli.specs.Walk.{Walks}
 use Rattle.ol_cli.specs.Demand.{Demands}
-use Rattle.ol_cli.specs.Cases.{DemandRunsOut}
-use Rattle.ol_cli.specs.Cases.{Cause}
+use Rattle.ol_cli.specs.Cases.{DemandRunsOut, Cause, JobAnswer, of_file, made, TermAnswer, FileAnswer}
 use Rattle.ol_cli.specs.Answers.{Ends, IsAnswer}
-use Rattle.ol_cli.specs.Cases.{JobAnswer, of_file, made}
 use Rattle.ol_cli.specs.TermFiles.{IsTermFile}
-use Rattle.ol_cli.specs.Cases.{TermAnswer, FileAnswer}
 use Rattle.ol_cli.specs.Generate.{plain_run}
-use Rattle.ol_cli.specs.Sources.{PrintsTree, WalksTree, DemandsTree, TellsTree, WritesTree}
-use Rattle.ol_cli.specs.Sources.{RunTells, JobTells, FuelTells, IsLast}
-use Rattle.ol_cli.specs.Sources.{TermTells, EveryRunTells}
+use Rattle.ol_cli.specs.Sources.{PrintsTree, WalksTree, DemandsTree, TellsTree, WritesTree, RunTells, JobTells}
+use Rattle.ol_cli.specs.Sources.{FuelTells, IsLast, TermTells, EveryRunTells}
 use Rattle.ol_cli.specs.ReadAgain.{TextIsReadAgain, WritesReadable}
 use Rattle.ol_rules.proofs.LeadRuns.{as_run}
 use Rattle.ol_cli.proofs.DemandRuns.{demand_is_longer}

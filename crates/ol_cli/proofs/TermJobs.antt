@@ -15,16 +15,13 @@ use Rattle.ol_cli.specs.declared.answer.Answer.{Answer}
 use Rattle.ol_cli.specs.declared.ready.Ready.TheVariants as ready
 use Rattle.ol_cli.specs.declared.status.Status.{Status}
 use Rattle.ol_cli.specs.declared.status.Status.TheVariants.{Done, ReadFault, Limit}
-use Rattle.ol_cli.specs.Jobs.{file_name, translation_in}
-use Rattle.ol_cli.specs.Cases.{HasTermFile}
+use Rattle.ol_cli.specs.Jobs.{file_name, translation_in, TermHands}
+use Rattle.ol_cli.specs.Cases.{HasTermFile, FileCause, by_file, by_net_file, CauseOf, failed, past, given, FileAnswer}
+use Rattle.ol_cli.specs.Cases.{TermAnswer}
 use Rattle.ol_cli.specs.Answers.{Seen}
-use Rattle.ol_cli.specs.Cases.{FileCause, by_file, by_net_file, CauseOf, failed, past, given}
-use Rattle.ol_cli.specs.Cases.{FileAnswer}
 use Rattle.ol_cli.specs.Net.{NetFileAnswer}
 use Rattle.ol_limits.specs.Limits.{most_net_bytes}
 use Rattle.ol_cli.specs.RefusalTexts.{net_bytes_text}
-use Rattle.ol_cli.specs.Cases.{TermAnswer}
-use Rattle.ol_cli.specs.Jobs.{TermHands}
 use Rattle.ol_cli.specs.Handed.{ReadHands, JobHands, WhereEnded}
 use Rattle.ol_cli.specs.Inside.{ComesOf}
 use Rattle.ol_cli.specs.ReadAgain.{AnswerIsReadAgain}

@@ -22,10 +22,8 @@ use Rattle.ol_reduce.specs.Reduced.{IsDone, IsSpent}
 use Rattle.ol_view.specs.Forms.{text_of}
 use Rattle.ol_view.specs.declared.forms.Form.TheVariants as form
 use Rattle.ol_cli.specs.declared.status.Status.TheVariants as status
-use Rattle.ol_cli.specs.Run.{start_net_of_term}
-use Rattle.ol_cli.specs.Trace.{Traces, IsTraceOf}
-use Rattle.ol_cli.specs.Run.{journal_of}
-use Rattle.ol_cli.specs.Trace.{TraceHands}
+use Rattle.ol_cli.specs.Run.{start_net_of_term, journal_of}
+use Rattle.ol_cli.specs.Trace.{Traces, IsTraceOf, TraceHands}
 use Rattle.ol_cli.proofs.Evaluated.{own_run, words_run}
 use Rattle.ol_cli.proofs.WavesKept.{waves_kept}
 

@@ -1,20 +1,20 @@
 -- The numbers of a job are within the limits of their options.
-use Rattle.std.proofs.Common.{◌≡◌, ℕ, ◌≤◌, ◌==◌, Bool, true, false, ◌&&◌, if◌then◌else◌, List, []}
-use Rattle.std.proofs.Common.{◌∷◌, Option, None, Some, option_map, option_and_then, nat_le, refl}
-use Rattle.std.proofs.Common.{subst, arith}
+use Rattle.std.proofs.Common.{◌≡◌, ℕ, ◌≤◌, ◌==◌, Bool, true, false, ◌&&◌, if◌then◌else◌, List, [], ◌∷◌, Option, None}
+use Rattle.std.proofs.Common.{Some, option_map, option_and_then, nat_le, refl, subst, arith}
 use Rattle.std.proofs.lemmas.Bool.Decides.{nat_tests}
 use Rattle.std.specs.Str.Parse.{digits_value}
 use Rattle.ol_words.specs.Texts.{Text}
 use Rattle.ol_words.specs.Lines.{Line, line_of}
-use Rattle.ol_words.specs.Numbers.{Limits, from_to, number_within, is_number, setting}
+use Rattle.ol_words.specs.Settings.{from_to, number_within, is_number, setting, known_in, setting_row}
 use Rattle.ol_words.specs.declared.jobs.Job.{Job}
 use Rattle.ol_words.specs.declared.jobs.Job.TheVariants as jobs
-use Rattle.ol_words.specs.Asked.{Verb, run_verb, walk_verb, view_verb, trace_verb, check_verb}
-use Rattle.ol_words.specs.Asked.{gen_verb, demand_verb, certify_verb, net_verb, equal_verb}
-use Rattle.ol_words.specs.Asked.{numbered, is_input, asks}
-use Rattle.ol_words.specs.Jobs.{Setting, setting_row, verb_row, verb_named, known_of, values_of}
-use Rattle.ol_words.specs.Jobs.{number_on, numbers, job_on, job_behind, job_of}
-use Rattle.ol_words.specs.Jobs as set
+use Rattle.ol_words.specs.declared.numbers.Limits.{Limits}
+use Rattle.ol_words.specs.declared.settings.Setting.{Setting}
+use Rattle.ol_words.specs.declared.settings.Setting.TheVariants as set
+use Rattle.ol_words.specs.declared.verbs.Verb.{Verb}
+use Rattle.ol_words.specs.declared.verbs.Verb.TheVariants as verbs
+use Rattle.ol_words.specs.Asked.{asks, is_input, numbered, verb_named, verb_row}
+use Rattle.ol_words.specs.Jobs.{job_behind, job_of, job_on, number_on, numbers, values_of}
 use Rattle.ol_cli.specs.Jobs.{IsWithinLimits}
 use Rattle.ol_law_edges.proofs.Options.{mapped}
 
@@ -48,15 +48,15 @@ setting_within l (value ∷ again ∷ more) n d h = absurd (cc)
 
 -- what a setting is where it isn't given
 default_within : (s : Setting) → IsWithin (setting_row s).limits (setting_row s).limits.default
-default_within set.translation = (omega arith, omega arith)
-default_within set.workers = (omega arith, omega arith)
-default_within set.fuel = (omega arith, omega arith)
-default_within set.heads = (omega arith, omega arith)
-default_within set.edges = (omega arith, omega arith)
-default_within set.after = (omega arith, omega arith)
-default_within set.steps = (omega arith, omega arith)
-default_within set.runs = (omega arith, omega arith)
-default_within set.from_term = (omega arith, omega arith)
+default_within set.Translation = (omega arith, omega arith)
+default_within set.Workers = (omega arith, omega arith)
+default_within set.Fuel = (omega arith, omega arith)
+default_within set.Heads = (omega arith, omega arith)
+default_within set.Edges = (omega arith, omega arith)
+default_within set.After = (omega arith, omega arith)
+default_within set.Steps = (omega arith, omega arith)
+default_within set.Run = (omega arith, omega arith)
+default_within set.FromTerm = (omega arith, omega arith)
 
 -- ---- a line
 
@@ -110,28 +110,28 @@ doubled_within job text a each h =
 
 asked_within : (v : Verb) (ns : List ℕ) (names : List Text) (job : Job) →
     AreWithin (verb_row v).settings ns → asks v ns names ≡ Some job → IsWithinLimits job
-asked_within run_verb (t ∷ w ∷ f ∷ q ∷ []) (name ∷ []) job l h =
+asked_within verbs.Run (t ∷ w ∷ f ∷ q ∷ []) (name ∷ []) job l h =
     let is : jobs.Run (numbered t) w f q name ≡ job = cc in
     subst IsWithinLimits is (l.1.0.0, l.1.0.1, l.1.1.0.1, l.1.1.1.0.0)
-asked_within walk_verb (t ∷ e ∷ q ∷ []) (name ∷ []) job l h =
+asked_within verbs.Walk (t ∷ e ∷ q ∷ []) (name ∷ []) job l h =
     let is : jobs.Walk (numbered t) e q name ≡ job = cc in subst IsWithinLimits is l.1.1.0.0
-asked_within view_verb (t ∷ k ∷ []) (name ∷ []) job l h =
+asked_within verbs.View (t ∷ k ∷ []) (name ∷ []) job l h =
     let is : jobs.View (numbered t) k name ≡ job = cc in subst IsWithinLimits is l.1.0.1
-asked_within trace_verb (t ∷ w ∷ f ∷ []) (name ∷ []) job l h =
+asked_within verbs.Trace (t ∷ w ∷ f ∷ []) (name ∷ []) job l h =
     let is : jobs.Trace (numbered t) w f name ≡ job = cc in subst IsWithinLimits is (l.1.0.0, l.1.0.1, l.1.1.0.1)
-asked_within check_verb (t ∷ []) (a ∷ b ∷ []) job l h =
+asked_within verbs.Check (t ∷ []) (a ∷ b ∷ []) job l h =
     let is = two_files (is_input a && is_input b) (jobs.Check (numbered t) a b) job h in subst IsWithinLimits is tt
-asked_within gen_verb (t ∷ r ∷ []) (n ∷ []) job l h = doubled_within
+asked_within verbs.Gen (t ∷ r ∷ []) (n ∷ []) job l h = doubled_within
     (jobs.Gen (numbered t) (r == 1)) n job (λ k below. below) h
-asked_within demand_verb (t ∷ f ∷ q ∷ []) (name ∷ []) job l h =
+asked_within verbs.Demand (t ∷ f ∷ q ∷ []) (name ∷ []) job l h =
     let is : jobs.Demand (numbered t) f q name ≡ job = cc in subst IsWithinLimits is (l.1.0.1, l.1.1.0.0)
-asked_within certify_verb (t ∷ s ∷ w ∷ f ∷ q ∷ []) (name ∷ []) job l h =
+asked_within verbs.Certify (t ∷ s ∷ w ∷ f ∷ q ∷ []) (name ∷ []) job l h =
     let is : jobs.Certify (numbered t) s w f q name ≡ job = cc in
     subst IsWithinLimits is (l.1.1.0.0, l.1.1.0.1, l.1.1.1.0.1, l.1.1.1.1.0.0)
-asked_within net_verb (t ∷ r ∷ w ∷ f ∷ []) (name ∷ []) job l h =
+asked_within verbs.Net (t ∷ r ∷ w ∷ f ∷ []) (name ∷ []) job l h =
     let is : jobs.Net (numbered t) (r == 1) w f name ≡ job = cc in
     subst IsWithinLimits is (l.1.1.0.0, l.1.1.0.1, l.1.1.1.0.1)
-asked_within equal_verb (t ∷ w ∷ f ∷ q ∷ []) (a ∷ b ∷ []) job l h =
+asked_within verbs.Equal (t ∷ w ∷ f ∷ q ∷ []) (a ∷ b ∷ []) job l h =
     let is = two_files (is_input a && is_input b) (jobs.Equal (numbered t) w f q a b) job h in
     subst IsWithinLimits is (l.1.0.0, l.1.0.1, l.1.1.0.1, l.1.1.1.0.0)
 asked_within _ _ _ job l h = absurd (nothing job h)
@@ -144,7 +144,7 @@ job_within (program ∷ []) job h = absurd (cc)
 job_within (program ∷ word ∷ rest) job h =
     let named = and_then_some (job_behind rest) (verb_named word) job h in
     let v = named.0 in
-    let read = and_then_some (job_on v) (line_of (known_of v) rest) job named.2 in
+    let read = and_then_some (job_on v) (line_of (known_in (verb_row v).settings) rest) job named.2 in
     let line = read.0 in
     let told = and_then_some (λ ns. asks v ns line.names)
     (numbers (number_on line) (verb_row v).settings) job read.2 in

@@ -13,8 +13,7 @@ use Rattle.ol_reduce.specs.Reduced.{IsDone, IsSpent}
 use Rattle.ol_readback.specs.declared.answers.ReadNode.{ReadNode}
 use Rattle.ol_cli.specs.declared.status.Status.TheVariants as status
 use Rattle.ol_cli.specs.RefusalTexts.{spent_text}
-use Rattle.ol_cli.specs.Run.{RunsOut, Prints, start_net_of_term}
-use Rattle.ol_cli.specs.Run.{journal_of, RunHands}
+use Rattle.ol_cli.specs.Run.{RunsOut, Prints, start_net_of_term, journal_of, RunHands}
 use Rattle.ol_cli.proofs.Evaluated.{Told, runs_out, ports_kept, prints_work, prints_with}
 
 module _ (tr : Translation) (t : Tree) (names : List (List ℕ)) (start : Graph)

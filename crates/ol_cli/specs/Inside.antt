@@ -20,8 +20,7 @@ use Rattle.ol_cli.specs.declared.status.Status.TheVariants as status
 use Rattle.ol_cli.specs.Jobs.{TermHands, term_bytes}
 use Rattle.ol_cli.specs.Run.{RunsOut, ReadsLast, start_net_of_term}
 use Rattle.ol_cli.specs.Answers.{Seen}
-use Rattle.ol_cli.specs.Cases.{JobCause, Cause}
-use Rattle.ol_cli.specs.Cases.{TermAnswer}
+use Rattle.ol_cli.specs.Cases.{JobCause, Cause, TermAnswer}
 use Rattle.ol_cli.specs.Handed.{JobHands, WhereEnded, WordsHand}
 use Rattle.ol_cli.specs.ReadAgain.{AnswerIsReadAgain, FileIsReadAgain, WordsAreReadAgain}
 

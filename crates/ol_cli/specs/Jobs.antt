@@ -9,8 +9,7 @@ use Rattle.ol_term.specs.declared.translations.Translation.{Translation}
 use Rattle.ol_term.specs.Generated.{doubled_text}
 use Rattle.ol_term.specs.Trees.{Tree}
 use Rattle.ol_wire.specs.Closed.{ClosedTable}
-use Rattle.ol_words.specs.Texts.{Text}
-use Rattle.ol_words.specs.Texts.{texts_of}
+use Rattle.ol_words.specs.Texts.{Text, texts_of}
 use Rattle.ol_words.specs.declared.jobs.Job.{Job}
 use Rattle.ol_words.specs.declared.jobs.Job.TheVariants as jobs
 use Rattle.ol_words.specs.Jobs.{job_of}

@@ -1,7 +1,6 @@
 -- What the first line that is written says of the normal form of a job's term, and what the lines of
 -- counts say.
-use Rattle.std.specs.Prelude.{◌≡◌, ◌≤◌, ◌⊎◌, ℕ, ◌+◌, true, false, List, [], ◌∷◌, ◌++◌, Option, Some}
-use Rattle.std.specs.Prelude.{String, codes}
+use Rattle.std.specs.Prelude.{◌≡◌, ◌≤◌, ◌⊎◌, ℕ, ◌+◌, true, false, List, [], ◌∷◌, ◌++◌, Option, Some, String, codes}
 use Rattle.std.specs.declared.alloc.Global.{Global}
 use Rattle.ol_io.specs.Outside.{Appended}
 use Rattle.ol_term.specs.declared.translations.Translation.{Translation}
@@ -19,8 +18,7 @@ use Rattle.ol_law_optimality.specs.Reductions.{NoFamilyReductionIsShorter, Famil
 use Rattle.ol_readback.specs.Texts.{IsTextOf}
 use Rattle.ol_readback.specs.declared.answers.ReadNode.{ReadNode}
 use Rattle.ol_rules.specs.declared.journal.Counts.{Counts}
-use Rattle.ol_law_confluence.specs.NormalForms.{by_names_of, IsNormalFormOf, HasNoNormalForm}
-use Rattle.ol_law_confluence.specs.NormalForms.{AreConvertible}
+use Rattle.ol_law_confluence.specs.NormalForms.{by_names_of, IsNormalFormOf, HasNoNormalForm, AreConvertible}
 use Rattle.ol_words.specs.Texts.{Text, texts_of}
 use Rattle.ol_words.specs.Lines.{is_dashed}
 use Rattle.ol_words.specs.declared.jobs.Job.{Job}

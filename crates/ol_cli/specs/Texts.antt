@@ -1,6 +1,8 @@
 -- The texts that more than one command writes.
 use Rattle.std.specs.Fmt.{decimal}
-use Rattle.std.specs.Prelude.{List, [], codes, ℕ, ◌++◌, ◌<◌, ◌∷◌, ◌≡◌}
+use Rattle.std.specs.List.{join_with_byte}
+use Rattle.std.specs.Prelude.{List, [], codes, ℕ, ◌++◌, ◌<◌, ◌∷◌, ◌≡◌, map}
+use Rattle.ol_words.specs.Asked.{all_verbs, verb_row}
 use Rattle.ol_rules.specs.declared.journal.Counts.{Counts}
 
 -- the words and a line feed
@@ -11,8 +13,10 @@ line words = words ++ 10 ∷ []
 abbrev pub count_line : List ℕ → ℕ → List ℕ
 count_line name n = name ++ (32 ∷ decimal n ++ 10 ∷ [])
 
+-- the words of all commands, with `|` between them
 abbrev pub usage_text : List ℕ
-usage_text = line (codes "usage: ol run|walk|view|trace|check|gen|demand|certify|net|equal [options] NAME")
+usage_text = line (codes "usage: ol "
+    ++ (join_with_byte 124 (map (λ v. (verb_row v).word) all_verbs) ++ codes " [options] NAME"))
 
 -- this number is more than the limit, and the text names the limit
 abbrev pub Exceeds : (n most : ℕ) → (limit text : List ℕ) → Type 0

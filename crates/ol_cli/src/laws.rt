@@ -1,11 +1,23 @@
 //! The laws of answers.
 
 ghost use Rattle.ol_cli.specs.DemandFuel.{DemandHasFuel, HeadHasFuel};
-ghost use Rattle.ol_cli.specs.EveryRun.{EveryRunIsLonger, EveryRunPrints};
-ghost use Rattle.ol_cli.specs.EveryRun.{AnyRunEnds, AnyRunPrints, AnyRunRunsOut, OneThreadIsThere};
+ghost use Rattle.ol_cli.specs.EveryRun.{
+  EveryRunIsLonger,
+  EveryRunPrints,
+  AnyRunEnds,
+  AnyRunPrints,
+  AnyRunRunsOut,
+  OneThreadIsThere,
+};
 ghost use Rattle.ol_cli.specs.SourceLaws.{CertifyNeverDiffers, ComparisonTellsSources, HeadBesideLostTellsSources};
-ghost use Rattle.ol_cli.specs.Laws.{OneAnswer, OneNetIsLeft, OneTreeIsDemanded, OneTreeIsPrinted};
-ghost use Rattle.ol_cli.specs.Laws.{OneTreeIsWalked, WorkersAreNotSeen};
+ghost use Rattle.ol_cli.specs.Laws.{
+  OneAnswer,
+  OneNetIsLeft,
+  OneTreeIsDemanded,
+  OneTreeIsPrinted,
+  OneTreeIsWalked,
+  WorkersAreNotSeen,
+};
 ghost use Rattle.ol_cli.specs.StartNet.{StartNetIsFit};
 
 /// One job, whatever its number of workers, and the same bytes have one status and one text, but for

@@ -1,7 +1,6 @@
 //! The numbers of the jobs that rewrite a term's net and read it back.
 ghost use Rattle.std.specs.Prelude.{◌≡◌, ◌≤◌};
-ghost use Rattle.ol_limits.specs.Limits.{most_fuel, most_workers};
-ghost use Rattle.ol_limits.specs.Limits.{plain_fuel, plain_heads, plain_workers};
+ghost use Rattle.ol_limits.specs.Limits.{most_fuel, most_workers, plain_fuel, plain_heads, plain_workers};
 
 use ol_limits::{Fuel, Heads, Workers};
 use ol_term::Translation;

@@ -1,9 +1,8 @@
 //! The texts that the program writes.
 ghost use Rattle.std.specs.Prelude.{◌≡◌, ◌++◌, IfOk, OnOk};
 ghost use Rattle.ol_cli.specs.Texts.{line, count_line, counts_text, answer_text};
-ghost use Rattle.ol_cli.specs.RefusalTexts.{syntax_text, spent_text};
+ghost use Rattle.ol_cli.specs.RefusalTexts.{syntax_text, spent_text, view_text};
 ghost use Rattle.ol_cli.specs.Check.{found_text};
-ghost use Rattle.ol_cli.specs.RefusalTexts.{view_text};
 
 use ol_limits::NoMemory;
 use ol_rules::Counts;

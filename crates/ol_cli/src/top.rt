@@ -3,8 +3,15 @@ ghost use Rattle.std.specs.Prelude.{List, ◌++◌, ℕ, ◌≢◌, ◌≤◌, �
 ghost use Rattle.ol_io.specs.Outside.{Rose, Appended};
 ghost use Rattle.ol_io.specs.Readings.{Reading, handed};
 ghost use Rattle.ol_words.specs.declared.jobs.Job.{Job};
-ghost use Rattle.ol_cli.specs.Jobs.{AskFor, AskForNothing, EachName, IsKnownTo};
-ghost use Rattle.ol_cli.specs.Jobs.{IsWithinLimits, count_of_files, files_of};
+ghost use Rattle.ol_cli.specs.Jobs.{
+  AskFor,
+  AskForNothing,
+  EachName,
+  IsKnownTo,
+  IsWithinLimits,
+  count_of_files,
+  files_of,
+};
 ghost use Rattle.ol_cli.specs.Inside.{ComesOf, ComesOfWords, Writes};
 ghost use Rattle.ol_cli.specs.Answers.{Ends, HasCause, IsAnswer, RefusesFirst};
 ghost use Rattle.ol_cli.specs.Called.{ReadsAtMost, OfFilesRead, IfNoneFailed, WhereNoneFailed, seen_of};

@@ -1,8 +1,7 @@
 -- The job of the words, by what clap finds in them.
-use Rattle.std.proofs.Common.{ℕ, ◌≡◌, ◌∙◌, sym, ap, refl, true, false, true≢false, ◌&&◌, List, []}
-use Rattle.std.proofs.Common.{◌∷◌, Option, Some, None, option_map, if◌then◌else◌, inl, inr, length}
-use Rattle.std.proofs.Common.{map, nat_lt, nat_eq, subst}
-use Rattle.std.specs.Prelude.{option_and_then}
+use Rattle.std.proofs.Common.{ℕ, ◌≡◌, ◌∙◌, sym, ap, refl, true, false, true≢false, ◌&&◌, List, [], ◌∷◌, Option, Some}
+use Rattle.std.proofs.Common.{None, option_map, if◌then◌else◌, inl, inr, length, map, nat_lt, nat_eq, subst}
+use Rattle.std.specs.Prelude.{option_and_then, Result, Ok, Err, ◌↔◌}
 use Rattle.std.specs.Option.{option_map_or}
 use Rattle.std.specs.List.{list_all}
 use Rattle.clap.specs.Walk.{Row, first_of, nothing_held, rows_after}
@@ -10,7 +9,6 @@ use Rattle.clap.specs.Takes.{level_passes}
 use Rattle.clap.specs.Words.{first_value, rows_of, subcommand_of, takes}
 use Rattle.clap.specs.declared.parser.matches.Found.{Found}
 use Rattle.clap.proofs.WalkLemmas.{first_value-rows}
-use Rattle.std.specs.Prelude.{Result, Ok, Err, ◌↔◌}
 use Rattle.std.specs.Result.{IsErrAnd}
 use Rattle.clap.specs.declared.error.kind.ErrorKind.{ErrorKind}
 use Rattle.clap.specs.declared.error.kind.ErrorKind.TheVariants.{OutOfMemory}
@@ -18,15 +16,16 @@ use Rattle.ol_words.specs.declared.jobs.Job.{Job}
 use Rattle.ol_words.specs.declared.jobs.UsageFault.{UsageFault}
 use Rattle.ol_words.specs.declared.jobs.UsageFault.TheVariants.{NoMemory, Refused}
 use Rattle.ol_words.specs.Texts.{Text}
-use Rattle.ol_words.specs.Lines.{Line, line_of}
-use Rattle.ol_words.specs.Numbers.{Limits, setting}
-use Rattle.ol_words.specs.declared.jobs.Job.{Job}
-use Rattle.ol_words.specs.Asked.{Verb, asks}
-use Rattle.ol_words.specs.Jobs.{Setting, setting_row, verb_row, options_of, known_of, verb_named}
-use Rattle.ol_words.specs.Jobs.{values_of, number_on, numbers, job_on, job_behind, job_of}
-use Rattle.ol_words.specs.Once.{is_given_once, is_told_once, is_agreed, agreed_verb}
-use Rattle.ol_words.specs.Found.{job_by}
+use Rattle.ol_words.specs.Asked.{asks, verb_named, verb_row}
 use Rattle.ol_words.specs.Command.{app, ids_of}
+use Rattle.ol_words.specs.Found.{job_by}
+use Rattle.ol_words.specs.Jobs.{job_behind, job_of, job_on, number_on, numbers, values_of}
+use Rattle.ol_words.specs.Lines.{Line, line_of}
+use Rattle.ol_words.specs.Settings.{setting, setting_row}
+use Rattle.ol_words.specs.Once.{agreed_verb, is_agreed, is_given_once, is_told_once, known_of, options_of}
+use Rattle.ol_words.specs.declared.numbers.Limits.{Limits}
+use Rattle.ol_words.specs.declared.settings.Setting.{Setting}
+use Rattle.ol_words.specs.declared.verbs.Verb.{Verb}
 use Rattle.std.proofs.lemmas.Bool.{cases_Bool}
 use Rattle.ol_words.proofs.FixedRules.{shape_with}
 use Rattle.ol_words.proofs.AnyVerb.{rules_of}

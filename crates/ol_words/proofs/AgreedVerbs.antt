@@ -1,28 +1,15 @@
 -- The verb of words that are left to clap, by what was found of it.
-use Rattle.std.proofs.Common.{◌≡◌, ◌≤◌, ◌<◌, inl, inr, refl, ◌∙◌, sym, ap, arith, true, false, List}
-use Rattle.std.proofs.Common.{[], ◌∷◌, Option, Some, None, drop, get_or, if◌then◌else◌, length}
-use Rattle.std.proofs.Common.{String, string_bytes}
+use Rattle.std.proofs.Common.{◌≡◌, ◌≤◌, ◌<◌, refl, ◌∙◌, sym, ap, arith, true, false, List, [], ◌∷◌, Option, Some, None}
+use Rattle.std.proofs.Common.{drop, get_or, if◌then◌else◌, length, String, string_bytes}
 use Rattle.std.specs.declared.alloc.Global.{Global}
 use Rattle.std.specs.Prelude.{option_and_then}
 use Rattle.std.specs.Option.{option_map_or}
-use Rattle.std.specs.Str.{bytes_eq}
-use Rattle.std.proofs.lemmas.Bool.{cases_Bool}
-use Rattle.std.proofs.lemmas.Slice.Eq.{bytes_eq-Decides}
-use Rattle.ol_words.specs.Texts.{Text}
-use Rattle.ol_words.specs.Lines.{Line, line_of}
-use Rattle.ol_words.specs.Texts.{texts_of}
-use Rattle.ol_words.specs.Asked.{Verb}
-use Rattle.ol_words.specs.Jobs.{known_of, options_of, verb_named, verb_row}
+use Rattle.ol_words.specs.Texts.{Text, texts_of}
+use Rattle.ol_words.specs.Asked.{verb_named}
 use Rattle.ol_words.specs.Command.{ids_of}
-use Rattle.ol_words.specs.Once.{agreed_verb, is_agreed, is_told_once}
-
--- a word that isn't this verb's is another's or no verb's
-pub not_this : (v : Verb) (word : Text) (later : Option Verb) → (word ≡ (verb_row v).word → ⊥) →
-    None ≡ later → None ≡ (if bytes_eq (verb_row v).word word then Some v else later)
-not_this v word later differs e = elim (cases_Bool (bytes_eq (verb_row v).word word)) [
-  | inl same ↦ absurd (differs (sym ((bytes_eq-Decides (verb_row v).word word).0 same)))
-  | inr other ↦ e ∙ sym (ap (λ b. if b then Some v else later) other)
-]
+use Rattle.ol_words.specs.Lines.{Line, line_of}
+use Rattle.ol_words.specs.Once.{agreed_verb, is_agreed, is_told_once, known_of, options_of}
+use Rattle.ol_words.specs.declared.verbs.Verb.{Verb}
 
 pub few_words : (words : List (String Global)) → length words < 2 → None ≡ agreed_verb (texts_of words)
 few_words [] few = refl

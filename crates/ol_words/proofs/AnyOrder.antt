@@ -2,7 +2,7 @@
 use Rattle.std.proofs.Common.{ℕ, ◌≡◌, ◌∙◌, ◌+◌, ◌<◌, sym, ap, refl, arith, true, false, true≢false}
 use Rattle.std.proofs.Common.{Bool, ◌||◌, List, [], ◌∷◌, Option, Some, None, if◌then◌else◌, codes}
 use Rattle.std.proofs.Common.{inl, inr, length, map, min, nat_eq, nat_lt, subst, suc, zero, ◌≤◌}
-use Rattle.std.specs.Prelude.{filter}
+use Rattle.std.specs.Prelude.{filter, option_and_then, option_map}
 use Rattle.std.specs.List.{list_all}
 use Rattle.std.specs.Option.{option_map_or}
 use Rattle.std.specs.Str.{bytes_eq}
@@ -11,27 +11,25 @@ use Rattle.std.proofs.lemmas.Bool.{and_from, and_parts, cases_Bool, or_right}
 use Rattle.std.proofs.lemmas.Bool.Decides.{nat_tests}
 use Rattle.std.proofs.lemmas.Slice.Eq.{bytes_eq-Decides}
 use Rattle.clap.specs.Lexer.{long_of, usize_max}
-use Rattle.clap.specs.Walk.{Held, Row, Rule, Step, Walk, after_flag, after_step, arg_by_id}
-use Rattle.clap.specs.Walk.{arg_by_index, arg_by_long, first_of, idle, is_pending, long_met}
-use Rattle.clap.specs.Walk.{long_or_other, next, nothing_held, option, option_word, pushed, reacted}
-use Rattle.clap.specs.Walk.{settled, to_positional, trailing, used_as, used_by_id, value, walked}
-use Rattle.clap.specs.Walk.{word_met, reading_by}
+use Rattle.clap.specs.Walk.{Held, Row, Rule, Step, Walk, after_flag, after_step, arg_by_id, arg_by_index, arg_by_long}
+use Rattle.clap.specs.Walk.{first_of, idle, is_pending, long_met, long_or_other, next, nothing_held, option}
+use Rattle.clap.specs.Walk.{option_word, pushed, reacted, settled, to_positional, trailing, used_as, used_by_id, value}
+use Rattle.clap.specs.Walk.{walked, word_met, reading_by}
 use Rattle.clap.specs.Takes.{flag_word_passes, long_passes, other_passes, positional_passes}
 use Rattle.clap.specs.Takes.{settle_passes, step_passes, turn_passes, use_passes}
 use Rattle.clap.specs.Simple.{Shape, filled, with_index}
 use Rattle.clap.specs.declared.builder.value_parser.Reading.{Reading}
 use Rattle.clap.specs.declared.builder.action.ArgAction.TheVariants.{Set}
 use Rattle.ol_words.specs.Texts.{Text}
-use Rattle.ol_words.specs.Lines.{Known, Line, is_dashed, is_end, is_option, line_of, with_name, with_option}
-use Rattle.ol_words.specs.Jobs.{values_of}
-use Rattle.ol_words.specs.Once.{is_given_once, is_told_once}
-use Rattle.ol_words.specs.Found.{name_before, names_by}
 use Rattle.ol_words.specs.Command.{flag_rule, name_rule, option_rule}
+use Rattle.ol_words.specs.Found.{names_by}
+use Rattle.ol_words.specs.Jobs.{values_of}
+use Rattle.ol_words.specs.Lines.{Known, Line, is_dashed, is_end, is_option, line_of, with_name, with_option}
+use Rattle.ol_words.specs.Once.{is_given_once, is_told_once}
 use Rattle.ol_words.proofs.Rows.{first_same, found_in, itself, lacks, set_fresh, set_other}
 use Rattle.ol_words.proofs.Shapes.{Written, written_long}
-use Rattle.ol_words.proofs.FixedRules.{Goes, goes_on, idle_at, met_waiting, other_plain, pass_end}
-use Rattle.ol_words.proofs.FixedRules.{pass_plain, pass_trailing, shape_with, stays, step_end}
-use Rattle.ol_words.proofs.FixedRules.{step_plain, step_trailing}
+use Rattle.ol_words.proofs.FixedRules.{Goes, goes_on, idle_at, met_waiting, other_plain, pass_end, pass_plain}
+use Rattle.ol_words.proofs.FixedRules.{pass_trailing, shape_with, stays, step_end, step_plain, step_trailing}
 use Rattle.ol_words.proofs.Views.{View, view}
 use Rattle.ol_words.proofs.Views as views
 
@@ -710,13 +708,13 @@ module _ (known : Known) (rules : List Rule) (verb : Text) (f : Finds known rule
 -- ---- what the words of a verb tell
 
 pub names_told : (vals : Values) (ids names : List Text) → Named vals ids names →
-    length names ≡ length ids → names ≡ names_by vals ids
+    length names ≡ length ids → Some names ≡ names_by vals ids
 names_told vals [] [] n e = refl
 names_told vals [] (m ∷ names) n e = absurd (omega arith)
 names_told vals (id ∷ ids) [] n e = absurd (omega arith)
-names_told vals (id ∷ ids) (m ∷ names) n e = ap (λ l. m ∷ l)
+names_told vals (id ∷ ids) (m ∷ names) n e = ap (option_map (λ more. m ∷ more))
     (names_told vals ids names n.1 (omega arith))
-    ∙ ap (λ (o : Option Text). name_before o (names_by vals ids)) (sym n.0)
+    ∙ ap (option_and_then (λ name. option_map (λ more. name ∷ more) (names_by vals ids))) (sym n.0)
 
 module _ (known : Known) (ids : List Text) (end : Values) (line : Line)
     (t : Tells known ids nothing_given end line) (o : Text)

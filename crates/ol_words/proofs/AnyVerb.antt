@@ -1,8 +1,7 @@
 -- What clap makes of the words behind a verb.
-use Rattle.std.proofs.Common.{ℕ, ◌≡◌, ◌∙◌, ◌+◌, ◌<◌, sym, ap, ap₂, refl, arith, true, false}
-use Rattle.std.proofs.Common.{true≢false, Bool, ◌&&◌, ◌||◌, not, List, [], ◌∷◌, Option, Some, None}
-use Rattle.std.proofs.Common.{if◌then◌else◌, codes, inl, inr, ◌⊎◌, option_map, fold, length, map}
-use Rattle.std.proofs.Common.{nat_lt}
+use Rattle.std.proofs.Common.{ℕ, ◌≡◌, ◌∙◌, ◌+◌, ◌<◌, sym, ap, ap₂, refl, arith, true, false, true≢false, Bool, ◌&&◌}
+use Rattle.std.proofs.Common.{◌||◌, not, List, [], ◌∷◌, Option, Some, None, if◌then◌else◌, codes, inl, inr, option_map}
+use Rattle.std.proofs.Common.{fold, length, map, nat_lt}
 use Rattle.std.specs.Prelude.{is_some, option_and_then}
 use Rattle.std.specs.List.{list_all}
 use Rattle.std.specs.Str.{bytes_eq}
@@ -16,19 +15,21 @@ use Rattle.clap.specs.Takes.{default_passes, is_valid}
 use Rattle.clap.specs.declared.builder.value_parser.Reading.{Reading}
 use Rattle.clap.specs.declared.parser.matches.ValueSource.TheVariants.{DefaultValue}
 use Rattle.ol_words.specs.Texts.{Text}
-use Rattle.ol_words.specs.Lines.{Line, is_option, line_of}
-use Rattle.ol_words.specs.Numbers.{Limits, from_to, setting}
-use Rattle.ol_words.specs.Found.{flag_by, name_before, names_by, number_by, setting_by}
-use Rattle.ol_words.specs.Asked.{Verb, asks}
-use Rattle.ol_words.specs.Jobs.{Setting, flags_of, known_of, number_on, numbers, options_of}
-use Rattle.ol_words.specs.Jobs.{setting_row, values_of, verb_row}
+use Rattle.ol_words.specs.Asked.{asks, verb_row}
 use Rattle.ol_words.specs.Command.{ids_of}
-use Rattle.ol_words.specs.Once.{is_given_once, is_told_once}
+use Rattle.ol_words.specs.Found.{flag_by, names_by, number_by, setting_by}
+use Rattle.ol_words.specs.Jobs.{number_on, numbers, values_of}
+use Rattle.ol_words.specs.Lines.{Line, is_option, line_of}
+use Rattle.ol_words.specs.Settings.{from_to, setting, setting_row}
+use Rattle.ol_words.specs.Once.{flags_of, is_given_once, is_told_once, known_of, options_of}
+use Rattle.ol_words.specs.declared.numbers.Limits.{Limits}
+use Rattle.ol_words.specs.declared.settings.Setting.{Setting}
+use Rattle.ol_words.specs.declared.settings.Setting.TheVariants as set
+use Rattle.ol_words.specs.declared.verbs.Verb.{Verb}
 use Rattle.ol_words.proofs.Rows.{first_same, found_in, itself, lacks, with_values_other}
 use Rattle.ol_words.proofs.FixedRules.{Reads, idle_at, lands, shape_with}
-use Rattle.ol_words.proofs.AnyOrder.{Awaits, Finds, Tells, Values, come_all, few, given_once}
-use Rattle.ol_words.proofs.AnyOrder.{name_at, names_count, names_told, nothing_given, rule_as}
-use Rattle.ol_words.proofs.AnyOrder.{seen_as, value_told}
+use Rattle.ol_words.proofs.AnyOrder.{Awaits, Finds, Tells, Values, come_all, few, given_once, name_at, names_count}
+use Rattle.ol_words.proofs.AnyOrder.{names_told, nothing_given, rule_as, seen_as, value_told}
 
 -- ---- the rules
 
@@ -206,15 +207,23 @@ setting_given limits (v ∷ w ∷ vs) e = absurd (grind (arith, nat_tests))
 abbrev switch : Limits
 switch = from_to 0 1 0
 
--- each setting of a flag has the limits of one
-abbrev pub Sound : List Text → List Setting → Type 0
-Sound flags [] = Unit {0}
-Sound flags (s ∷ ss) = ((is_option flags (setting_row s).option ≡ false)
-    ⊎ ((is_option flags (setting_row s).option ≡ true) × ((setting_row s).limits ≡ switch))) × Sound flags ss
+flag_limits : (s : Setting) → (setting_row s).is_flag ≡ true → (setting_row s).limits ≡ switch
+flag_limits set.Run e = refl
+flag_limits set.FromTerm e = refl
+flag_limits _ e = absurd (true≢false (sym e))
 
-pub without_flags : (ss : List Setting) → Sound [] ss
-without_flags [] = tt
-without_flags (s ∷ ss) = (inl refl, without_flags ss)
+-- the option of a setting is among the flags just where it is one
+abbrev is_sound : List Text → Setting → Bool
+is_sound flags s = if (setting_row s).is_flag then is_option flags (setting_row s).option
+    else not (is_option flags (setting_row s).option)
+
+among_flags : (flag found : Bool) → (if flag then found else not found) ≡ true → found ≡ flag
+among_flags true found e = e
+among_flags false true e = absurd (true≢false (sym e))
+among_flags false false e = refl
+
+abbrev pub are_sound : Verb → Bool
+are_sound v = list_all (is_sound (flags_of v)) (verb_row v).settings
 
 module _ (v : Verb) (line : Line) (rows : List Row) (end : Values)
     (t : Tells (known_of v) (ids_of v) nothing_given end line)
@@ -236,34 +245,39 @@ module _ (v : Verb) (line : Line) (rows : List Row) (end : Values)
       ap (λ w. setting switch (w ∷ [])) (t.flag o u flag e) ∙ ap (λ w. Some (flag_by w)) (sym there)
   flag_told o flag is (u ∷ w ∷ vs) e below = absurd (omega arith)
 
-  number_told : (s : Setting) → (is_option (flags_of v) (setting_row s).option ≡ false)
-      ⊎ ((is_option (flags_of v) (setting_row s).option ≡ true)
-      × ((setting_row s).limits ≡ switch)) → is_option (options_of v) (setting_row s).option ≡ true
-      → is_given_once line (setting_row s).option ≡ true → number_on line s ≡ number_by (flags_of v) given s
-  number_told s (inl none) is once =
-      setting_given (setting_row s).limits (values_of (setting_row s).option line.options) once
-      ∙ ap (setting_by (setting_row s).limits)
-      (value_told (known_of v) (ids_of v) end line t (setting_row s).option is none once
-      ∙ sym (option_told (setting_row s).option none))
-      ∙ sym (ap (λ b. if b then Some (flag_by (given (setting_row s).option)) else setting_by
-      (setting_row s).limits (given (setting_row s).option)) none)
-  number_told s (inr (flag, limits)) is once =
-      ap (λ l. setting l (values_of (setting_row s).option line.options)) limits
-      ∙ flag_told (setting_row s).option flag is (values_of (setting_row s).option line.options) refl (few _ once)
-      ∙ sym (ap (λ b. if b then Some (flag_by (given (setting_row s).option)) else setting_by
-      (setting_row s).limits (given (setting_row s).option)) flag)
+  number_told : (s : Setting) → is_option (flags_of v) (setting_row s).option ≡ (setting_row s).is_flag →
+      is_option (options_of v) (setting_row s).option ≡ true
+      → is_given_once line (setting_row s).option ≡ true → number_on line s ≡ number_by given s
+  number_told s same is once =
+      let by_kind = λ (b : Bool). if b then Some (flag_by (given (setting_row s).option)) else setting_by
+      (setting_row s).limits (given (setting_row s).option) in
+      elim (cases_Bool (setting_row s).is_flag) [
+        | inl flagged ↦
+            let flag = same ∙ flagged in
+            ap (λ l. setting l (values_of (setting_row s).option line.options)) (flag_limits s flagged)
+            ∙ flag_told (setting_row s).option flag is (values_of (setting_row s).option line.options) refl (few _ once)
+            ∙ sym (ap by_kind flagged)
+        | inr plain ↦
+            let none = same ∙ plain in
+            setting_given (setting_row s).limits (values_of (setting_row s).option line.options) once
+            ∙ ap (setting_by (setting_row s).limits)
+            (value_told (known_of v) (ids_of v) end line t (setting_row s).option is none once
+            ∙ sym (option_told (setting_row s).option none)) ∙ sym (ap by_kind plain)
+      ]
 
-  numbers_told : (ss : List Setting) → Sound (flags_of v) ss →
+  numbers_told : (ss : List Setting) → list_all (is_sound (flags_of v)) ss ≡ true →
       ((o : Text) → is_option (map (λ s. (setting_row s).option) ss) o ≡ true → is_option (options_of v) o ≡ true)
       → list_all (is_given_once line) (map (λ s. (setting_row s).option) ss) ≡ true →
-      numbers (number_on line) ss ≡ numbers (number_by (flags_of v) given) ss
+      numbers (number_on line) ss ≡ numbers (number_by given) ss
   numbers_told [] sound known e = refl
   numbers_told (s ∷ rest) sound known e =
       let parts = and_parts _ _ e in
+      let sounds = and_parts _ _ sound in
       let first : is_option (map (λ (s : Setting). (setting_row s).option) (s ∷ rest))
       (setting_row s).option ≡ true = rw (itself (setting_row s).option) refl in
-      let here = number_told s sound.0 (known (setting_row s).option first) parts.0 in
-      let more = numbers_told rest sound.1
+      let here = number_told s (among_flags (setting_row s).is_flag _ sounds.0)
+      (known (setting_row s).option first) parts.0 in
+      let more = numbers_told rest sounds.1
       (λ o later. known o (or_right (bytes_eq (setting_row s).option o)
       (is_option (map (λ (s : Setting). (setting_row s).option) rest) o) later)) parts.1 in
       ap₂ (λ (ns : Option (List ℕ)) (number : Option ℕ).
@@ -279,7 +293,7 @@ module _ (v : Verb) (line : Line) (rows : List Row) (end : Values)
     names_same : (p : ℕ) (ids : List Text) → Awaits (known_of v) (rules_of v) p ids →
         names_by end ids ≡ names_by given ids
     names_same p [] a = refl
-    names_same p (id ∷ ids) a = ap₂ (λ (n : Option Text) (ns : List Text). name_before n ns)
+    names_same p (id ∷ ids) a = ap₂ (λ (n : Option Text) (ns : Option (List Text)). option_and_then (λ name. option_map (λ more. name ∷ more) ns) n)
         (sym (option_told id (no_flag id a.2))) (names_same (p + 1) ids a.5)
 
 all_options : (os flags : List Text) → list_all (is_option os) flags ≡ true → (o : Text) →
@@ -294,7 +308,7 @@ all_options os (x ∷ flags) e o is =
 
 -- where clap knows the names of a verb, the job of agreed words is that of the rows that clap finds
 pub verb_reads : (v : Verb) → Awaits (known_of v) (rules_of v) 1 (ids_of v) →
-    list_all (is_option (options_of v)) (flags_of v) ≡ true → Sound (flags_of v) (verb_row v).settings
+    list_all (is_option (options_of v)) (flags_of v) ≡ true → are_sound v ≡ true
     → ((rows : List Row) → (list_all default_passes (rules_of v) && is_valid
     (shape_with (verb_row v).word (rules_of v)) rows false) ≡ true)
     → (rest : List Text) (line : Line) → line_of (known_of v) rest ≡ Some line →
@@ -307,7 +321,7 @@ verb_reads v awaits options sound valid rest line is e =
     (verb_row v).settings sound (λ o known. known) (and_parts _ _ e).0 in
     let names = names_told c.1.end (ids_of v) line.names c.1.tells.names (names_count (options_of v) (ids_of v) line e)
     ∙ names_same v line rows c.1.end c.1.tells c.1.stands.value c.1.stands.fresh within 1 (ids_of v) awaits in
-    let job = ap₂ (λ (ns : Option (List ℕ)) (names : List Text).
-    option_and_then (λ ns. asks v ns names) ns) numbers names in
+    let job = ap₂ (λ (ns : Option (List ℕ)) (names : Option (List Text)).
+    option_and_then (λ ns. option_and_then (asks v ns) names) ns) numbers names in
     lands v (rules_of v) rest line (idle_at c.1.held c.1.position c.0) c.1.goes job
     (and_from _ _ c.1.stands.settles (valid (finished (rules_of v) c.1.held)))

@@ -5,19 +5,18 @@ use Rattle.std.specs.List.{list_all}
 use Rattle.std.specs.Option.{option_map_or}
 use Rattle.std.proofs.lemmas.Bool.{and_from, or_right}
 use Rattle.clap.specs.Lexer.{long_of}
-use Rattle.clap.specs.Walk.{Held, Rule, Step, Walk, after_step, arg_by_index, finished, first_of}
-use Rattle.clap.specs.Walk.{idle, long_or_other, nothing_held, option, plain_word, rows_after}
-use Rattle.clap.specs.Walk.{short_or_plain, to_positional, trailing, value, walk_from, walked}
-use Rattle.clap.specs.Walk.{word_met}
+use Rattle.clap.specs.Walk.{Held, Rule, Step, Walk, after_step, arg_by_index, finished, first_of, idle, long_or_other}
+use Rattle.clap.specs.Walk.{nothing_held, option, plain_word, rows_after, short_or_plain, to_positional, trailing}
+use Rattle.clap.specs.Walk.{value, walk_from, walked, word_met}
 use Rattle.clap.specs.Simple.{Shape, new_shape}
-use Rattle.clap.specs.Takes.{bundle_passes, default_passes, flag_word_passes, is_valid}
-use Rattle.clap.specs.Takes.{level_passes, other_passes, settle_passes, step_passes, turn_passes}
-use Rattle.clap.specs.Takes.{walk_passes}
+use Rattle.clap.specs.Takes.{bundle_passes, default_passes, flag_word_passes, is_valid, level_passes, other_passes}
+use Rattle.clap.specs.Takes.{settle_passes, step_passes, turn_passes, walk_passes}
 use Rattle.ol_words.specs.Texts.{Text}
-use Rattle.ol_words.specs.Lines.{Line, is_dashed}
-use Rattle.ol_words.specs.Asked.{Verb}
-use Rattle.ol_words.specs.Jobs.{job_on, verb_row}
+use Rattle.ol_words.specs.Asked.{verb_row}
 use Rattle.ol_words.specs.Found.{job_by}
+use Rattle.ol_words.specs.Jobs.{job_on}
+use Rattle.ol_words.specs.Lines.{Line, is_dashed}
+use Rattle.ol_words.specs.declared.verbs.Verb.{Verb}
 use Rattle.ol_words.proofs.Shapes.{not_end, plain_long, plain_short}
 
 -- a subcommand of the command line, as clap builds it

@@ -1,5 +1,6 @@
 mod SoFar
 mod Folds
+mod Taken
 mod Digits
 mod Rows
 pub mod Shapes

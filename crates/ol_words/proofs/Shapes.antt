@@ -1,16 +1,13 @@
 -- How clap sees the words.
-use Rattle.std.proofs.Common.{ℕ, suc, ◌≡◌, ◌∙◌, ◌+◌, ◌==◌, ◌&&◌, not, sym, ap, refl, arith, true}
-use Rattle.std.proofs.Common.{false, true≢false, [], ◌∷◌, Option, Some, None, if◌then◌else◌, inl}
-use Rattle.std.proofs.Common.{inr, ◌⊎◌, codes, length, nat_lt, lt-ltb, ap₂}
+use Rattle.std.proofs.Common.{ℕ, suc, ◌≡◌, ◌∙◌, ◌+◌, ◌==◌, ◌&&◌, not, sym, ap, refl, arith, true, false, true≢false, []}
+use Rattle.std.proofs.Common.{◌∷◌, Option, Some, None, if◌then◌else◌, inl, inr, ◌⊎◌, codes, length, nat_lt, lt-ltb, ap₂}
 use Rattle.std.specs.Prelude.{option_and_then}
-use Rattle.std.proofs.lemmas.Bool.{cases_lt}
+use Rattle.std.proofs.lemmas.Bool.{cases_lt, cases_Bool}
 use Rattle.std.proofs.lemmas.Bool.Decides.{nat_tests}
 use Rattle.std.specs.List.{position_or_len, before_first, after_first}
 use Rattle.clap.specs.Lexer.{long_of, short_of, has_byte}
 use Rattle.ol_words.specs.Texts.{Text}
-use Rattle.ol_words.specs.Lines.{Known, is_dashed, is_end, is_option, is_equals, flag_alone}
-use Rattle.ol_words.specs.Lines.{option_of, name_and_value, value_in}
-use Rattle.std.proofs.lemmas.Bool.{cases_Bool}
+use Rattle.ol_words.specs.Lines.{Known, flag_alone, is_dashed, is_end, is_equals, is_option, name_and_value, option_of, value_in}
 use Rattle.std.proofs.lemmas.Slice.Eq.{bytes_eq-Decides}
 
 some_left : (rest : Text) → (suc (length rest) == 0) ≡ false

@@ -1,16 +1,12 @@
 -- Words read one after another: what was read so far, joined to what the rest says.
-use Rattle.std.proofs.Common.{ℕ, ◌≡◌, ◌∙◌, sym, ap, refl, arith, true, false, List, [], ◌∷◌, ◌++◌}
-use Rattle.std.proofs.Common.{Option, Some, None, map, option_map, if◌then◌else◌, ◌<◌, ◌≤◌, ◌+◌}
-use Rattle.std.proofs.Common.{◌-◌, length, drop, slice_index_or, String, string_bytes, append-nil}
-use Rattle.std.proofs.Common.{append_assoc}
+use Rattle.std.proofs.Common.{ℕ, ◌≡◌, ◌∙◌, sym, ap, refl, arith, true, false, List, [], ◌∷◌, ◌++◌, Option, Some, None}
+use Rattle.std.proofs.Common.{map, option_map, if◌then◌else◌, ◌<◌, ◌≤◌, ◌+◌, ◌-◌, length, drop, slice_index_or, String}
+use Rattle.std.proofs.Common.{string_bytes, append-nil, append_assoc}
 use Rattle.std.specs.declared.alloc.Global.{Global}
-use Rattle.std.proofs.lemmas.List.{drop_more, drop_all, length-drop}
-use Rattle.std.proofs.lemmas.List.{map_push}
-use Rattle.ol_words.specs.Texts.{texts_of}
+use Rattle.std.proofs.lemmas.List.{drop_more, drop_all, length-drop, map_push}
+use Rattle.ol_words.specs.Texts.{texts_of, Text}
 use Rattle.std.specs.Borrow.{Bor}
-use Rattle.ol_words.specs.Texts.{Text}
-use Rattle.ol_words.specs.Lines.{Line, Known, line_from, is_dashed, is_end, option_of, after_option}
-use Rattle.ol_words.specs.Lines.{with_option, with_name}
+use Rattle.ol_words.specs.Lines.{Known, Line, after_option, is_dashed, is_end, line_from, option_of, with_name, with_option}
 
 abbrev pub seen : List (Bor Text × Bor Text) → List (Text × Text)
 seen options = map (λ p. (p.0.now, p.1.now)) options

@@ -1,25 +1,26 @@
 -- The verbs, as clap is told of them.
-use Rattle.std.proofs.Common.{ℕ, ◌≡◌, ◌∙◌, ap, append-nil, append_assoc, refl, true, false, List}
-use Rattle.std.proofs.Common.{[], ◌∷◌, ◌++◌, Option, Some, None, if◌then◌else◌, inl, inr}
-use Rattle.std.proofs.Common.{true≢false, sym, fold, find}
+use Rattle.std.proofs.Common.{ℕ, ◌≡◌, ◌∙◌, ap, append-nil, append_assoc, refl, true, false, List, ◌&&◌, [], ◌∷◌, ◌++◌}
+use Rattle.std.proofs.Common.{Option, Some, None, if◌then◌else◌, inl, inr, true≢false, sym, fold, find}
 use Rattle.std.specs.Option.{option_map_or}
 use Rattle.std.specs.Prelude.{option_map, nat_eq, length}
+use Rattle.std.specs.List.{list_all}
 use Rattle.std.specs.Str.{bytes_eq}
 use Rattle.std.proofs.lemmas.Slice.Eq.{bytes_eq-Decides}
-use Rattle.clap.specs.Walk.{Held, Names, Rule, Walk, answers_to, rows_after, walked, walk_from, nothing_held}
-use Rattle.clap.specs.Takes.{entered_passes, level_passes, settle_passes, turn_passes, walk_passes}
+use Rattle.clap.specs.Walk.{Held, Names, Row, Rule, Walk, answers_to, rows_after, walked, walk_from, nothing_held}
+use Rattle.clap.specs.Takes.{default_passes, entered_passes, is_valid, level_passes, settle_passes, turn_passes, walk_passes}
 use Rattle.clap.specs.Simple.{Shape, names_of, entered, label_of, rows_at}
 use Rattle.clap.specs.Words.{is_simple, built, subcommand_of, takes}
 use Rattle.ol_words.specs.Texts.{Text}
-use Rattle.ol_words.specs.Lines.{Line, line_of}
-use Rattle.ol_words.specs.Asked.{Verb, asks, certify_verb, check_verb, demand_verb, equal_verb}
-use Rattle.ol_words.specs.Asked.{gen_verb, net_verb, run_verb, trace_verb, view_verb, walk_verb}
-use Rattle.ol_words.specs.Jobs.{known_of, options_of, verb_named, verb_row, verbs}
-use Rattle.ol_words.specs.Once.{is_told_once}
+use Rattle.ol_words.specs.Asked.{all_verbs, asks, verb_named, verb_row}
 use Rattle.ol_words.specs.Command.{app, ids_of}
+use Rattle.ol_words.specs.Lines.{Line, is_option, line_of}
+use Rattle.ol_words.specs.Once.{flags_of, is_told_once, known_of, options_of}
+use Rattle.ol_words.specs.declared.verbs.Verb.{Verb}
+use Rattle.ol_words.specs.declared.verbs.Verb.TheVariants as verbs
 use Rattle.std.proofs.lemmas.Bool.{and_from, cases_Bool}
 use Rattle.ol_words.proofs.FixedRules.{Reads, shape_with}
-use Rattle.ol_words.proofs.AnyVerb.{without_flags, rules_of, verb_reads}
+use Rattle.ol_words.proofs.AnyOrder.{Awaits}
+use Rattle.ol_words.proofs.AnyVerb.{are_sound, rules_of, verb_reads}
 
 pub is_simple_app : is_simple app ≡ true
 is_simple_app = refl
@@ -40,16 +41,16 @@ pub record IsVerb (v : Verb) : Type 0 where
 -- there is a job only for as many names as a verb has
 pub no_job : (v : Verb) (ns : List ℕ) (names : List Text) →
     nat_eq (length names) (length (ids_of v)) ≡ false → asks v ns names ≡ None
-no_job run_verb (t ∷ workers ∷ fuel ∷ heads ∷ []) (name ∷ []) e = absurd (true≢false e)
-no_job walk_verb (t ∷ edges ∷ heads ∷ []) (name ∷ []) e = absurd (true≢false e)
-no_job view_verb (t ∷ after ∷ []) (name ∷ []) e = absurd (true≢false e)
-no_job trace_verb (t ∷ workers ∷ fuel ∷ []) (name ∷ []) e = absurd (true≢false e)
-no_job check_verb (t ∷ []) (term ∷ journal ∷ []) e = absurd (true≢false e)
-no_job gen_verb (t ∷ runs ∷ []) (number ∷ []) e = absurd (true≢false e)
-no_job demand_verb (t ∷ fuel ∷ heads ∷ []) (name ∷ []) e = absurd (true≢false e)
-no_job certify_verb (t ∷ steps ∷ workers ∷ fuel ∷ heads ∷ []) (name ∷ []) e = absurd (true≢false e)
-no_job net_verb (t ∷ from_term ∷ workers ∷ fuel ∷ []) (name ∷ []) e = absurd (true≢false e)
-no_job equal_verb (t ∷ workers ∷ fuel ∷ heads ∷ []) (first ∷ second ∷ []) e = absurd (true≢false e)
+no_job verbs.Run (t ∷ workers ∷ fuel ∷ heads ∷ []) (name ∷ []) e = absurd (true≢false e)
+no_job verbs.Walk (t ∷ edges ∷ heads ∷ []) (name ∷ []) e = absurd (true≢false e)
+no_job verbs.View (t ∷ after ∷ []) (name ∷ []) e = absurd (true≢false e)
+no_job verbs.Trace (t ∷ workers ∷ fuel ∷ []) (name ∷ []) e = absurd (true≢false e)
+no_job verbs.Check (t ∷ []) (term ∷ journal ∷ []) e = absurd (true≢false e)
+no_job verbs.Gen (t ∷ runs ∷ []) (number ∷ []) e = absurd (true≢false e)
+no_job verbs.Demand (t ∷ fuel ∷ heads ∷ []) (name ∷ []) e = absurd (true≢false e)
+no_job verbs.Certify (t ∷ steps ∷ workers ∷ fuel ∷ heads ∷ []) (name ∷ []) e = absurd (true≢false e)
+no_job verbs.Net (t ∷ from_term ∷ workers ∷ fuel ∷ []) (name ∷ []) e = absurd (true≢false e)
+no_job verbs.Equal (t ∷ workers ∷ fuel ∷ heads ∷ []) (first ∷ second ∷ []) e = absurd (true≢false e)
 no_job _ _ _ e = refl
 
 -- behind a subcommand the words are left to it
@@ -117,118 +118,34 @@ module _ (word : Text) (rules : List Rule)
       ∙ ap (λ (s : Option Shape). option_map_or
       (λ s. level_passes s [] nothing_held rest false) s true) finds ∙ below) above
 
-is_run : IsVerb run_verb
-unfolding walked top_shape
-is_run = record {
-  rows = rows_behind (verb_row run_verb).word (rules_of run_verb) refl refl refl;
-  taken = taken_behind (verb_row run_verb).word (rules_of run_verb) refl refl refl;
-  reads = verb_reads run_verb (refl, refl, refl, tt, refl, tt) refl
-      (without_flags (verb_row run_verb).settings) (λ rows. refl);
-}
-
-is_walk : IsVerb walk_verb
-unfolding walked top_shape
-is_walk = record {
-  rows = rows_behind (verb_row walk_verb).word (rules_of walk_verb) refl refl refl;
-  taken = taken_behind (verb_row walk_verb).word (rules_of walk_verb) refl refl refl;
-  reads = verb_reads walk_verb (refl, refl, refl, tt, refl, tt) refl
-      (without_flags (verb_row walk_verb).settings) (λ rows. refl);
-}
-
-is_view : IsVerb view_verb
-unfolding walked top_shape
-is_view = record {
-  rows = rows_behind (verb_row view_verb).word (rules_of view_verb) refl refl refl;
-  taken = taken_behind (verb_row view_verb).word (rules_of view_verb) refl refl refl;
-  reads = verb_reads view_verb (refl, refl, refl, tt, refl, tt) refl
-      (without_flags (verb_row view_verb).settings) (λ rows. refl);
-}
-
-is_trace : IsVerb trace_verb
-unfolding walked top_shape
-is_trace = record {
-  rows = rows_behind (verb_row trace_verb).word (rules_of trace_verb) refl refl refl;
-  taken = taken_behind (verb_row trace_verb).word (rules_of trace_verb) refl refl refl;
-  reads = verb_reads trace_verb (refl, refl, refl, tt, refl, tt) refl
-      (without_flags (verb_row trace_verb).settings) (λ rows. refl);
-}
-
-is_check : IsVerb check_verb
-unfolding walked top_shape
-is_check = record {
-  rows = rows_behind (verb_row check_verb).word (rules_of check_verb) refl refl refl;
-  taken = taken_behind (verb_row check_verb).word (rules_of check_verb) refl refl refl;
-  reads = verb_reads check_verb (
-    refl,
-    refl,
-    refl,
-    (refl, tt),
-    refl,
-    (refl, refl, refl, tt, refl, tt),
-  ) refl (without_flags (verb_row check_verb).settings) (λ rows. refl);
-}
-
-is_gen : IsVerb gen_verb
-unfolding walked top_shape
-is_gen = record {
-  rows = rows_behind (verb_row gen_verb).word (rules_of gen_verb) refl refl refl;
-  taken = taken_behind (verb_row gen_verb).word (rules_of gen_verb) refl refl refl;
-  reads = verb_reads gen_verb (refl, refl, refl, tt, refl, tt) refl (inl refl, (inr (refl, refl), tt)) (λ rows. refl);
-}
-
-is_demand : IsVerb demand_verb
-unfolding walked top_shape
-is_demand = record {
-  rows = rows_behind (verb_row demand_verb).word (rules_of demand_verb) refl refl refl;
-  taken = taken_behind (verb_row demand_verb).word (rules_of demand_verb) refl refl refl;
-  reads = verb_reads demand_verb (refl, refl, refl, tt, refl, tt) refl
-      (without_flags (verb_row demand_verb).settings) (λ rows. refl);
-}
-
-is_certify : IsVerb certify_verb
-unfolding walked top_shape
-is_certify = record {
-  rows = rows_behind (verb_row certify_verb).word (rules_of certify_verb) refl refl refl;
-  taken = taken_behind (verb_row certify_verb).word (rules_of certify_verb) refl refl refl;
-  reads = verb_reads certify_verb (refl, refl, refl, tt, refl, tt) refl
-      (without_flags (verb_row certify_verb).settings) (λ rows. refl);
-}
-
-is_net : IsVerb net_verb
-unfolding walked top_shape
-is_net = record {
-  rows = rows_behind (verb_row net_verb).word (rules_of net_verb) refl refl refl;
-  taken = taken_behind (verb_row net_verb).word (rules_of net_verb) refl refl refl;
-  reads = verb_reads net_verb (refl, refl, refl, tt, refl, tt) refl
-      (inl refl, (inr (refl, refl), (inl refl, (inl refl, tt)))) (λ rows. refl);
-}
-
-is_equal : IsVerb equal_verb
-unfolding walked top_shape
-is_equal = record {
-  rows = rows_behind (verb_row equal_verb).word (rules_of equal_verb) refl refl refl;
-  taken = taken_behind (verb_row equal_verb).word (rules_of equal_verb) refl refl refl;
-  reads = verb_reads equal_verb (
-    refl,
-    refl,
-    refl,
-    (refl, tt),
-    refl,
-    (refl, refl, refl, tt, refl, tt),
-  ) refl (without_flags (verb_row equal_verb).settings) (λ rows. refl);
-}
+module _ (v : Verb) where
+  -- by what is computed of the verb
+  verb_by : walked top_shape.rules (names_of (built app)) (walk_from nothing_held) (verb_row v).word ≡ record
+      (walk_from nothing_held) { stopped = Some ((verb_row v).word, []) }
+      → turn_passes top_shape (names_of (built app)) (walk_from nothing_held) (verb_row v).word ≡ true
+      → find (λ s. answers_to (verb_row v).word (label_of s)) (built app).subs
+      ≡ Some (shape_with (verb_row v).word (rules_of v))
+      → Awaits (known_of v) (rules_of v) 1 (ids_of v) → list_all (is_option (options_of v)) (flags_of v) ≡ true → are_sound v ≡ true
+      → ((rows : List Row) → (list_all default_passes (rules_of v) && is_valid
+      (shape_with (verb_row v).word (rules_of v)) rows false) ≡ true) → IsVerb v
+  verb_by starts passes finds awaits options sound valid = record {
+    rows = rows_behind (verb_row v).word (rules_of v) starts passes finds;
+    taken = taken_behind (verb_row v).word (rules_of v) starts passes finds;
+    reads = verb_reads v awaits options sound valid;
+  }
 
 is_verb : (v : Verb) → IsVerb v
-is_verb run_verb = is_run
-is_verb walk_verb = is_walk
-is_verb view_verb = is_view
-is_verb trace_verb = is_trace
-is_verb check_verb = is_check
-is_verb gen_verb = is_gen
-is_verb demand_verb = is_demand
-is_verb certify_verb = is_certify
-is_verb net_verb = is_net
-is_verb equal_verb = is_equal
+unfolding walked top_shape
+is_verb verbs.Run = verb_by verbs.Run refl refl refl (refl, refl, refl, tt, refl, tt) refl refl (λ rows. refl)
+is_verb verbs.Walk = verb_by verbs.Walk refl refl refl (refl, refl, refl, tt, refl, tt) refl refl (λ rows. refl)
+is_verb verbs.View = verb_by verbs.View refl refl refl (refl, refl, refl, tt, refl, tt) refl refl (λ rows. refl)
+is_verb verbs.Trace = verb_by verbs.Trace refl refl refl (refl, refl, refl, tt, refl, tt) refl refl (λ rows. refl)
+is_verb verbs.Check = verb_by verbs.Check refl refl refl (refl, refl, refl, (refl, tt), refl, (refl, refl, refl, tt, refl, tt)) refl refl (λ rows. refl)
+is_verb verbs.Gen = verb_by verbs.Gen refl refl refl (refl, refl, refl, tt, refl, tt) refl refl (λ rows. refl)
+is_verb verbs.Demand = verb_by verbs.Demand refl refl refl (refl, refl, refl, tt, refl, tt) refl refl (λ rows. refl)
+is_verb verbs.Certify = verb_by verbs.Certify refl refl refl (refl, refl, refl, tt, refl, tt) refl refl (λ rows. refl)
+is_verb verbs.Net = verb_by verbs.Net refl refl refl (refl, refl, refl, tt, refl, tt) refl refl (λ rows. refl)
+is_verb verbs.Equal = verb_by verbs.Equal refl refl refl (refl, refl, refl, (refl, tt), refl, (refl, refl, refl, tt, refl, tt)) refl refl (λ rows. refl)
 
 -- a verb that is found among some by a word is written so
 found_word : (word : Text) (v : Verb) (vs : List Verb) →
@@ -248,4 +165,4 @@ found_word word v (x ∷ vs) e = elim (cases_Bool (bytes_eq (verb_row x).word wo
 
 -- each verb that a word names is one of the command line's, and is written so
 pub named_is : (word : Text) (v : Verb) → verb_named word ≡ Some v → IsVerb v × (word ≡ (verb_row v).word)
-named_is word v e = (is_verb v, found_word word v verbs e)
+named_is word v e = (is_verb v, found_word word v all_verbs e)

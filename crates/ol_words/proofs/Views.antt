@@ -3,8 +3,7 @@ use Rattle.std.proofs.Common.{◌≡◌, ◌∙◌, sym, ap, refl, false, Bool, 
 use Rattle.std.proofs.Common.{None, option_map, if◌then◌else◌, codes, inl, inr, subst}
 use Rattle.std.proofs.lemmas.Slice.Eq.{bytes_eq-Decides}
 use Rattle.ol_words.specs.Texts.{Text}
-use Rattle.ol_words.specs.Lines.{Known, Line, line_from, is_dashed, is_end, option_of, after_option}
-use Rattle.ol_words.specs.Lines.{with_option, with_name}
+use Rattle.ol_words.specs.Lines.{Known, Line, after_option, is_dashed, is_end, line_from, option_of, with_name, with_option}
 use Rattle.std.proofs.lemmas.Bool.{cases_Bool}
 
 mapped : (f : Line → Line) (r : Option Line) (line : Line) → option_map f r ≡ Some line →

@@ -1,8 +1,8 @@
 -- What clauses of public functions rest on.
 pub mod Texts
-pub mod Asked
 pub mod Lines
-pub mod Numbers
+pub mod Settings
+pub mod Asked
 pub mod Jobs
 -- What only contracts of private functions and proofs cite.
 pub mod Views

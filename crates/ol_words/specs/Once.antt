@@ -5,9 +5,11 @@ use Rattle.std.specs.Prelude.{nat_eq, Bool, false, option_and_then}
 use Rattle.std.specs.Option.{option_map_or}
 use Rattle.std.specs.List.{list_all}
 use Rattle.ol_words.specs.Texts.{Text}
-use Rattle.ol_words.specs.Lines.{Line, line_of}
-use Rattle.ol_words.specs.Asked.{Verb}
-use Rattle.ol_words.specs.Jobs.{verb_named, options_of, known_of, values_of}
+use Rattle.ol_words.specs.Lines.{Known, Line, line_of}
+use Rattle.ol_words.specs.declared.verbs.Verb.{Verb}
+use Rattle.ol_words.specs.Asked.{verb_named, verb_row}
+use Rattle.ol_words.specs.Settings.{flags_in, known_in, options_in}
+use Rattle.ol_words.specs.Jobs.{values_of}
 use Rattle.ol_words.specs.Command.{ids_of}
 
 abbrev pub is_given_once : Line → Text → Bool
@@ -16,6 +18,15 @@ is_given_once line option = nat_lt (length (values_of option line.options)) 2
 -- each option is given once at most, and there are so many names
 abbrev pub is_told_once : List Text → ℕ → Line → Bool
 is_told_once options names line = list_all (is_given_once line) options && nat_eq (length line.names) names
+
+abbrev pub options_of : Verb → List Text
+options_of v = options_in (verb_row v).settings
+
+abbrev pub flags_of : Verb → List Text
+flags_of v = flags_in (verb_row v).settings
+
+abbrev pub known_of : Verb → Known
+known_of v = known_in (verb_row v).settings
 
 abbrev pub is_agreed : Verb → List Text → Bool
 is_agreed v rest = option_map_or (is_told_once (options_of v) (length (ids_of v))) (line_of (known_of v) rest) false

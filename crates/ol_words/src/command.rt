@@ -3,13 +3,10 @@
 ghost use Rattle.std.specs.Prelude.{◌≡◌, false, true, if◌then◌else◌, IfOk, IfErr};
 ghost use Rattle.clap.specs.Words.{app_of, kind_of, rule_of, subcommand_of, subcommand_rows_of, takes};
 ghost use Rattle.clap.specs.declared.builder.command.Command.TheViews.{out-Command};
-ghost use Rattle.ol_words.specs.Command.{app, flag_rule, name_rule, option_rule, quiet_app, sub_app};
+ghost use Rattle.ol_words.specs.Command.{app, flag_rule, name_rule, option_rule, quiet_app, setting_rule, sub_app};
 ghost use Rattle.ol_words.specs.Texts.{texts_of};
-ghost use Rattle.ol_words.specs.Views.{verb_of};
-ghost use Rattle.ol_words.specs.Lines.{is_option};
-ghost use Rattle.ol_words.specs.Views.{texts};
 
-use crate::lines::is_option;
+use crate::settings::Setting;
 use crate::verbs::Verb;
 use clap::error::ErrorKind;
 use clap::{Arg, ArgAction, ArgMatches, Command, Error};
@@ -43,13 +40,13 @@ fn flag<'a>(alloc: Global, name: &'a str) -> Arg<'a>
     Arg::new(alloc, name).long(name).action(ArgAction::SetTrue)
 }
 
-// An option, which is a flag where it is one of these.
-fn option_or_flag<'a>(alloc: Global, flags: &[&str], name: &'a str) -> Arg<'a>
-    ensures rule { rule_of result ≡ (if is_option (texts flags.now) name.entry.now
-        then flag_rule name.entry.now else option_rule name.entry.now) }
+// The option of a setting.
+fn option_or_flag<'a>(alloc: Global, setting: Setting) -> Arg<'a>
+    ensures rule { rule_of result ≡ setting_rule setting }
     ensures own { result.global ≡ false }
 {
-    if is_option(flags, name.as_bytes()) {
+    let name: &'a str = setting.option();
+    if setting.is_flag() {
         flag(alloc, name)
     } else {
         option(alloc, name)
@@ -64,16 +61,15 @@ fn positional<'a>(alloc: Global, name: &'a str) -> Arg<'a>
     Arg::new(alloc, name).action(ArgAction::Set)
 }
 
-// The subcommand of a verb: its options, and then its names.
+// The subcommand of a verb: its settings, and then its names.
 fn subcommand<'a>(alloc: Global, verb: Verb) -> Result<Command<'a>, AllocError>
-    ensures app { IfOk result (λ c. app_of c ≡ sub_app (verb_of verb)) }
+    ensures app { IfOk result (λ c. app_of c ≡ sub_app verb) }
     ensures local { IfOk result (λ c. (out-Command c).has_globals ≡ false) }
 {
     let word: &'a str = verb.word();
     let mut command: Command<'a> = Command::new(alloc, word);
-    for option in verb.options() {
-        let option: &'a str = option;
-        command = command.arg(option_or_flag(alloc, verb.flags(), option))?;
+    for setting in verb.settings() {
+        command = command.arg(option_or_flag(alloc, *setting))?;
     }
     for name in verb.names() {
         let name: &'a str = name;

@@ -2,7 +2,8 @@
 //!
 //! - `reading`: the job of a list of arguments
 //! - `command`: the definition of the command line for clap
-//! - `verbs`: the commands, with the options, flags and names of each
+//! - `verbs`: the commands, with the settings and names of each, and what each asks for
+//! - `settings`: the settings, with the option and the limits of each
 //! - `lines`: the meaning of the arguments after the command
 //! - `numbers`: the numbers of a command line
 //! - `jobs`: jobs, and why there is none
@@ -15,7 +16,11 @@ mod jobs;
 mod lines;
 mod numbers;
 mod reading;
+mod settings;
 mod verbs;
 
 pub use jobs::{Job, UsageFault, Word};
+pub use numbers::Limits;
 pub use reading::job;
+pub use settings::Setting;
+pub use verbs::Verb;

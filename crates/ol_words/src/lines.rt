@@ -2,12 +2,14 @@
 
 ghost use Rattle.std.specs.Prelude.{◌≡◌, ◌++◌, ◌∷◌, [], Some, None, IfOk, MatchOption, option_map, length, map, true, false, if◌then◌else◌};
 ghost use Rattle.ol_words.specs.Lines.{Line, line_of, is_dashed, is_end, option_of, after_hyphens, name_and_value, flag_alone, value_in, is_equals, is_option};
-ghost use Rattle.ol_words.specs.Views.{known_by, texts};
+ghost use Rattle.ol_words.specs.Settings.{flags_in, known_in, options_in};
+ghost use Rattle.ol_words.specs.Views.{texts};
 ghost use Rattle.std.specs.List.{position_or_len};
 ghost use Rattle.ol_words.specs.Texts.{texts_of};
 ghost use Rattle.ol_words.specs.Jobs.{values_of};
 ghost use Rattle.ol_words.specs.Once.{is_given_once, is_told_once};
 
+use crate::settings::Setting;
 use std::alloc::{AllocError, Global};
 use std::marker::Model;
 
@@ -37,12 +39,24 @@ fn is_dashed(word: &[u8]) -> bool
     matches!(word, [b'-', _, ..])
 }
 
-/// The name is that of one of the options.
-pub(crate) fn is_option(options: &[&str], name: &[u8]) -> bool
-    ensures { result ≡ is_option (texts options.now) name.now }
+// The name is the option of one of the settings.
+fn is_option(settings: &[Setting], name: &[u8]) -> bool
+    ensures { result ≡ is_option (options_in settings.now) name.now }
 {
-    for option in options {
-        if option.as_bytes() == name {
+    for setting in settings {
+        if setting.option().as_bytes() == name {
+            return true;
+        }
+    }
+    false
+}
+
+// The name is the option of one of the settings, and is a flag.
+fn is_flag(settings: &[Setting], name: &[u8]) -> bool
+    ensures { result ≡ is_option (flags_in settings.now) name.now }
+{
+    for setting in settings {
+        if setting.is_flag() && setting.option().as_bytes() == name {
             return true;
         }
     }
@@ -85,18 +99,14 @@ fn flag_alone<'a>(flag: &'a [u8], value: Option<&'a [u8]>) -> Option<(&'a [u8], 
 }
 
 // An option, with its value where that is attached by `=`.
-fn name_and_value<'a>(
-    options: &[&str],
-    flags: &[&str],
-    text: &'a [u8],
-) -> Option<(&'a [u8], Option<&'a [u8]>)>
+fn name_and_value<'a>(settings: &[Setting], text: &'a [u8]) -> Option<(&'a [u8], Option<&'a [u8]>)>
     ensures { option_map (λ p. (p.0.now, option_map (λ v. v.now) p.1)) result
-        ≡ name_and_value (known_by options.now flags.now) text.now }
+        ≡ name_and_value (known_in settings.now) text.now }
 {
     let name = &text[..place_of_equals(text)];
-    if is_option(flags, name) {
+    if is_flag(settings, name) {
         flag_alone(name, value_in(text))
-    } else if is_option(options, name) {
+    } else if is_option(settings, name) {
         Some((name, value_in(text)))
     } else {
         None
@@ -104,16 +114,12 @@ fn name_and_value<'a>(
 }
 
 // The option that a word writes out, with its value where that is attached.
-fn option_of<'a>(
-    options: &[&str],
-    flags: &[&str],
-    word: &'a [u8],
-) -> Option<(&'a [u8], Option<&'a [u8]>)>
+fn option_of<'a>(settings: &[Setting], word: &'a [u8]) -> Option<(&'a [u8], Option<&'a [u8]>)>
     ensures { option_map (λ p. (p.0.now, option_map (λ v. v.now) p.1)) result
-        ≡ option_of (known_by options.now flags.now) word.now }
+        ≡ option_of (known_in settings.now) word.now }
 {
     match word {
-        [b'-', b'-', text @ ..] => name_and_value(options, flags, text),
+        [b'-', b'-', text @ ..] => name_and_value(settings, text),
         _ => None,
     }
 }
@@ -129,16 +135,14 @@ fn push_all<'a>(names: &mut Vec<&'a str>, words: &'a [String]) -> Result<(), All
     Ok(())
 }
 
-/// What the words behind a verb with these options, some of which are flags, say, or None where
-/// they aren't read.
+/// What the words after a verb with these settings say, or None if they aren't read.
 pub(crate) fn line_of<'a>(
     alloc: Global,
-    known: &[&str],
-    flags: &[&str],
+    settings: &[Setting],
     words: &'a [String],
 ) -> Result<Option<Line<'a>>, AllocError>
     ensures { IfOk result (λ line. line
-        ≡ line_of (known_by known.now flags.now) (texts_of words.now)) }
+        ≡ line_of (known_in settings.now) (texts_of words.now)) }
 {
     let mut options: Vec<(&'a [u8], &'a [u8])> = Vec::new(alloc);
     let mut names: Vec<&'a str> = Vec::new(alloc);
@@ -162,7 +166,7 @@ pub(crate) fn line_of<'a>(
                 if !is_dashed(bytes) {
                     names.push(word)?;
                 } else {
-                    match option_of(known, flags, bytes) {
+                    match option_of(settings, bytes) {
                         None => return Ok(None),
                         Some((option, Some(value))) => options.push((option, value))?,
                         Some((option, None)) => waiting = Some(option),
@@ -179,11 +183,11 @@ pub(crate) fn line_of<'a>(
 
 impl<'a> Line<'a> {
     /// Each option is given once at most, and there are so many names.
-    pub(crate) fn is_told_once(&self, options: &[&str], names: usize) -> bool
-        ensures { result ≡ is_told_once (texts options.now) names self.now }
+    pub(crate) fn is_told_once(&self, settings: &[Setting], names: usize) -> bool
+        ensures { result ≡ is_told_once (options_in settings.now) names self.now }
     {
-        for option in options {
-            if count_of(&self.options, option.as_bytes()) >= 2 {
+        for setting in settings {
+            if count_of(&self.options, setting.option().as_bytes()) >= 2 {
                 return false;
             }
         }

@@ -1,38 +1,30 @@
 //! The job of a list of arguments.
 
-ghost use Rattle.std.specs.Prelude.{◌≡◌, ◌==◌, ◌&&◌, ◌∷◌, [], IfOk, Err, Some, None, codes, option_map, option_and_then};
+ghost use Rattle.std.specs.Prelude.{◌≡◌, ◌≤◌, ◌==◌, IfOk, Err, Some, None, length, option_map, take};
 ghost use Rattle.clap.specs.Words.{first_value, found_of};
 ghost use Rattle.ol_words.specs.Texts.{texts_of};
-ghost use Rattle.ol_words.specs.Asked.{certify_verb, check_verb, demand_verb, equal_verb, gen_verb};
-ghost use Rattle.ol_words.specs.Asked.{is_input, net_verb, run_verb, trace_verb, view_verb, walk_verb};
-ghost use Rattle.ol_words.specs.Jobs.{fuel, heads, job_of, numbers, workers};
-ghost use Rattle.ol_words.specs.Views.{limits_of, verb_of};
+ghost use Rattle.ol_words.specs.Jobs.{job_of, numbers};
+ghost use Rattle.ol_words.specs.Views.{first_texts, texts};
 ghost use Rattle.ol_words.specs.Once.{agreed_verb};
-ghost use Rattle.ol_words.specs.Found.{flag_by, job_found, number_by, setting_by, translation_given};
+ghost use Rattle.ol_words.specs.Found.{flag_by, job_found, names_by, number_by};
 
 use crate::command::matches_of;
-use crate::jobs::{Job, UsageFault, Word};
+use crate::jobs::{Job, UsageFault};
 use crate::lines::line_of;
-use crate::numbers::{
-    AFTER, DOUBLINGS, EDGES, FUEL, HEADS, Limits, STEPS, TRANSLATION, WORKERS, number_within,
-    setting_by,
-};
+use crate::numbers::setting_by;
+use crate::settings::Setting;
 use crate::verbs::Verb;
 use clap::ArgMatches;
-use ol_term::Translation;
 use std::alloc::{AllocError, Global};
 
 /// The job of the arguments of a command line: the name of the program, which is ignored, followed
-/// by the command `run`, `walk`, `view`, `trace`, `check`, `gen`, `demand`, `certify`, `net` or
-/// `equal`, followed by its options and its names in any order.
+/// by a command, followed by the options and the names of the command in any order.
 ///
-/// `run` and `equal` have the options `--workers`, `--fuel` and `--heads`, `walk` has `--edges` and
-/// `--heads`, `view` has `--after`, `trace` has `--workers` and `--fuel`, `gen` has `--run`,
-/// `demand` has `--fuel` and `--heads`, `certify` has `--steps` and the options of `run`, and `net`
-/// has `--from-term` and the options of `trace`. `--run` and `--from-term` take no value. All
-/// commands have `--translation`, 1 or 2. `check` and `equal` take the names of two files, at most
-/// one of which is `-`, `gen` takes a number instead of a name, and every other command takes the
-/// name of a file.
+/// A command is the name of a variant of `Job` in lower case. The fields of the variant that have
+/// the type `Word`, which are the names of files, and the field `k` are the names of the command,
+/// in the order of the fields. At most one of two names is `-`. The other fields are the options of
+/// the command. An option whose field is a `bool` takes no value. `from_term` is written
+/// `--from-term`.
 ///
 /// An option is written in full, as `--name value` or `--name=value`, at most once. A number is 1
 /// to 8 ASCII digits, within the range that `Job` gives. The defaults are translation 2, 4 workers,
@@ -62,8 +54,7 @@ pub fn job(alloc: Global, words: &Vec<String>) -> Result<Job, UsageFault>
 // The verb of words that give each of its options once at most and as many names as it has, or None
 // where they don't.
 fn agreed_verb(alloc: Global, words: &Vec<String>) -> Result<Option<Verb>, AllocError>
-    ensures { IfOk result (λ verb.
-        option_map verb_of verb ≡ agreed_verb (texts_of words.now.items)) }
+    ensures { IfOk result (λ verb. verb ≡ agreed_verb (texts_of words.now.items)) }
 {
     let [_, word, rest @ ..] = words.as_slice() else {
         return Ok(None);
@@ -71,340 +62,70 @@ fn agreed_verb(alloc: Global, words: &Vec<String>) -> Result<Option<Verb>, Alloc
     let Some(verb) = Verb::named(word.as_str()) else {
         return Ok(None);
     };
-    let Some(line) = line_of(alloc, verb.options(), verb.flags(), rest)? else {
+    let Some(line) = line_of(alloc, verb.settings(), rest)? else {
         return Ok(None);
     };
-    if !line.is_told_once(verb.options(), verb.names().len()) {
+    if !line.is_told_once(verb.settings(), verb.names().len()) {
         return Ok(None);
     }
     Ok(Some(verb))
 }
 
-// The job by what was given behind a verb.
+// The job by what was given after a verb.
 fn job_by(alloc: Global, verb: Verb, found: &ArgMatches) -> Result<Job, UsageFault>
-    ensures job { IfOk result (λ job. job_found (verb_of verb) found.now ≡ Some job) }
-    ensures refused { result ≡ Err UsageFault.Refused → job_found (verb_of verb) found.now ≡ None }
+    ensures job { IfOk result (λ job. job_found verb found.now ≡ Some job) }
+    ensures refused { result ≡ Err UsageFault.Refused → job_found verb found.now ≡ None }
 {
-    match verb {
-        Verb::Run => run_by(alloc, found),
-        Verb::Walk => walk_by(alloc, found),
-        Verb::View => view_by(alloc, found),
-        Verb::Trace => trace_by(alloc, found),
-        Verb::Check => check_by(alloc, found),
-        Verb::Gen => gen_by(found),
-        Verb::Demand => demand_by(alloc, found),
-        Verb::Certify => certify_by(alloc, found),
-        Verb::Net => net_by(alloc, found),
-        Verb::Equal => equal_by(alloc, found),
+    let Some(numbers) = numbers_of(verb.settings(), found) else {
+        return Err(UsageFault::Refused);
+    };
+    let Some(names) = names_of(verb.names(), found) else {
+        return Err(UsageFault::Refused);
+    };
+    match verb.asks(alloc, numbers, names)? {
+        Some(job) => Ok(job),
+        None => Err(UsageFault::Refused),
     }
 }
 
-// The job by what was given behind `run`.
-fn run_by(alloc: Global, found: &ArgMatches) -> Result<Job, UsageFault>
-    ensures job { IfOk result (λ job. job_found run_verb found.now ≡ Some job) }
-    ensures refused { result ≡ Err UsageFault.Refused → job_found run_verb found.now ≡ None }
+// The numbers of settings by what was given to their options, followed by zeros, or None if a
+// number is outside its limits.
+fn numbers_of(settings: &[Setting], found: &ArgMatches) -> Option<[u32; 5]>
+    requires few { length settings.now ≤ 5 }
+    ensures { option_map (λ ns. take (length settings.now) ns) result
+        ≡ numbers (number_by (first_value (found_of found.now))) settings.now }
 {
-    let Some(translation) = translation_of(found) else {
-        return Err(UsageFault::Refused);
-    };
-    let Some(numbers) = run_numbers(found) else {
-        return Err(UsageFault::Refused);
-    };
-    let Some(name) = found.get_str("name") else {
-        return Err(UsageFault::Refused);
-    };
-    let name = Word::of(alloc, name)?;
-    Ok(Job::Run {
-        translation,
-        workers: numbers.workers,
-        fuel: numbers.fuel,
-        heads: numbers.heads,
-        name,
-    })
-}
-
-// The job by what was given behind `walk`.
-fn walk_by(alloc: Global, found: &ArgMatches) -> Result<Job, UsageFault>
-    ensures job { IfOk result (λ job. job_found walk_verb found.now ≡ Some job) }
-    ensures refused { result ≡ Err UsageFault.Refused → job_found walk_verb found.now ≡ None }
-{
-    let Some(translation) = translation_of(found) else {
-        return Err(UsageFault::Refused);
-    };
-    let Some(edges) = number_of(found, "edges", EDGES) else {
-        return Err(UsageFault::Refused);
-    };
-    let Some(heads) = number_of(found, "heads", HEADS) else {
-        return Err(UsageFault::Refused);
-    };
-    let Some(name) = found.get_str("name") else {
-        return Err(UsageFault::Refused);
-    };
-    let name = Word::of(alloc, name)?;
-    Ok(Job::Walk {
-        translation,
-        edges: u64::from(edges),
-        heads,
-        name,
-    })
-}
-
-// The job by what was given behind `view`.
-fn view_by(alloc: Global, found: &ArgMatches) -> Result<Job, UsageFault>
-    ensures job { IfOk result (λ job. job_found view_verb found.now ≡ Some job) }
-    ensures refused { result ≡ Err UsageFault.Refused → job_found view_verb found.now ≡ None }
-{
-    let Some(translation) = translation_of(found) else {
-        return Err(UsageFault::Refused);
-    };
-    let Some(after) = number_of(found, "after", AFTER) else {
-        return Err(UsageFault::Refused);
-    };
-    let Some(name) = found.get_str("name") else {
-        return Err(UsageFault::Refused);
-    };
-    let name = Word::of(alloc, name)?;
-    Ok(Job::View {
-        translation,
-        after,
-        name,
-    })
-}
-
-// The job by what was given behind `trace`.
-fn trace_by(alloc: Global, found: &ArgMatches) -> Result<Job, UsageFault>
-    ensures job { IfOk result (λ job. job_found trace_verb found.now ≡ Some job) }
-    ensures refused { result ≡ Err UsageFault.Refused → job_found trace_verb found.now ≡ None }
-{
-    let Some(translation) = translation_of(found) else {
-        return Err(UsageFault::Refused);
-    };
-    let Some(workers) = number_of(found, "workers", WORKERS) else {
-        return Err(UsageFault::Refused);
-    };
-    let Some(fuel) = number_of(found, "fuel", FUEL) else {
-        return Err(UsageFault::Refused);
-    };
-    let Some(name) = found.get_str("name") else {
-        return Err(UsageFault::Refused);
-    };
-    let name = Word::of(alloc, name)?;
-    Ok(Job::Trace {
-        translation,
-        workers,
-        fuel,
-        name,
-    })
-}
-
-// The job by what was given behind `check`.
-fn check_by(alloc: Global, found: &ArgMatches) -> Result<Job, UsageFault>
-    ensures job { IfOk result (λ job. job_found check_verb found.now ≡ Some job) }
-    ensures refused { result ≡ Err UsageFault.Refused → job_found check_verb found.now ≡ None }
-{
-    let Some(translation) = translation_of(found) else {
-        return Err(UsageFault::Refused);
-    };
-    let Some(term) = found.get_str("term") else {
-        return Err(UsageFault::Refused);
-    };
-    let Some(journal) = found.get_str("journal") else {
-        return Err(UsageFault::Refused);
-    };
-    if are_input(term, journal) {
-        return Err(UsageFault::Refused);
+    let mut numbers = [0; 5];
+    for place in 0..settings.len() {
+        numbers[place] = number_of(found, settings[place])?;
     }
-    let term = Word::of(alloc, term)?;
-    let journal = Word::of(alloc, journal)?;
-    Ok(Job::Check {
-        translation,
-        term,
-        journal,
-    })
-}
-
-// The job by what was given behind `gen`.
-fn gen_by(found: &ArgMatches) -> Result<Job, UsageFault>
-    ensures job { IfOk result (λ job. job_found gen_verb found.now ≡ Some job) }
-    ensures refused { result ≡ Err UsageFault.Refused → job_found gen_verb found.now ≡ None }
-{
-    let Some(translation) = translation_of(found) else {
-        return Err(UsageFault::Refused);
-    };
-    let Some(number) = found.get_str("number") else {
-        return Err(UsageFault::Refused);
-    };
-    let Some(k) = number_within(number.as_bytes(), DOUBLINGS) else {
-        return Err(UsageFault::Refused);
-    };
-    let run = is_true(found.get_str("run"));
-    Ok(Job::Gen {
-        translation,
-        run,
-        k,
-    })
-}
-
-// The job by what was given behind `demand`.
-fn demand_by(alloc: Global, found: &ArgMatches) -> Result<Job, UsageFault>
-    ensures job { IfOk result (λ job. job_found demand_verb found.now ≡ Some job) }
-    ensures refused { result ≡ Err UsageFault.Refused → job_found demand_verb found.now ≡ None }
-{
-    let Some(translation) = translation_of(found) else {
-        return Err(UsageFault::Refused);
-    };
-    let Some(fuel) = number_of(found, "fuel", FUEL) else {
-        return Err(UsageFault::Refused);
-    };
-    let Some(heads) = number_of(found, "heads", HEADS) else {
-        return Err(UsageFault::Refused);
-    };
-    let Some(name) = found.get_str("name") else {
-        return Err(UsageFault::Refused);
-    };
-    let name = Word::of(alloc, name)?;
-    Ok(Job::Demand {
-        translation,
-        fuel,
-        heads,
-        name,
-    })
-}
-
-// The job by what was given behind `certify`.
-fn certify_by(alloc: Global, found: &ArgMatches) -> Result<Job, UsageFault>
-    ensures job { IfOk result (λ job. job_found certify_verb found.now ≡ Some job) }
-    ensures refused { result ≡ Err UsageFault.Refused → job_found certify_verb found.now ≡ None }
-{
-    let Some(translation) = translation_of(found) else {
-        return Err(UsageFault::Refused);
-    };
-    let Some(steps) = number_of(found, "steps", STEPS) else {
-        return Err(UsageFault::Refused);
-    };
-    let Some(numbers) = run_numbers(found) else {
-        return Err(UsageFault::Refused);
-    };
-    let Some(name) = found.get_str("name") else {
-        return Err(UsageFault::Refused);
-    };
-    let name = Word::of(alloc, name)?;
-    Ok(Job::Certify {
-        translation,
-        steps,
-        workers: numbers.workers,
-        fuel: numbers.fuel,
-        heads: numbers.heads,
-        name,
-    })
-}
-
-// The job by what was given behind `net`.
-fn net_by(alloc: Global, found: &ArgMatches) -> Result<Job, UsageFault>
-    ensures job { IfOk result (λ job. job_found net_verb found.now ≡ Some job) }
-    ensures refused { result ≡ Err UsageFault.Refused → job_found net_verb found.now ≡ None }
-{
-    let Some(translation) = translation_of(found) else {
-        return Err(UsageFault::Refused);
-    };
-    let from_term = is_true(found.get_str("from-term"));
-    let Some(workers) = number_of(found, "workers", WORKERS) else {
-        return Err(UsageFault::Refused);
-    };
-    let Some(fuel) = number_of(found, "fuel", FUEL) else {
-        return Err(UsageFault::Refused);
-    };
-    let Some(name) = found.get_str("name") else {
-        return Err(UsageFault::Refused);
-    };
-    let name = Word::of(alloc, name)?;
-    Ok(Job::Net {
-        translation,
-        from_term,
-        workers,
-        fuel,
-        name,
-    })
-}
-
-// The job by what was given behind `equal`.
-fn equal_by(alloc: Global, found: &ArgMatches) -> Result<Job, UsageFault>
-    ensures job { IfOk result (λ job. job_found equal_verb found.now ≡ Some job) }
-    ensures refused { result ≡ Err UsageFault.Refused → job_found equal_verb found.now ≡ None }
-{
-    let Some(translation) = translation_of(found) else {
-        return Err(UsageFault::Refused);
-    };
-    let Some(numbers) = run_numbers(found) else {
-        return Err(UsageFault::Refused);
-    };
-    let Some(first) = found.get_str("first") else {
-        return Err(UsageFault::Refused);
-    };
-    let Some(second) = found.get_str("second") else {
-        return Err(UsageFault::Refused);
-    };
-    if are_input(first, second) {
-        return Err(UsageFault::Refused);
-    }
-    let first = Word::of(alloc, first)?;
-    let second = Word::of(alloc, second)?;
-    Ok(Job::Equal {
-        translation,
-        workers: numbers.workers,
-        fuel: numbers.fuel,
-        heads: numbers.heads,
-        first,
-        second,
-    })
-}
-
-// The translation by the number that was given, which is 2 by itself.
-fn translation_of(found: &ArgMatches) -> Option<Translation>
-    ensures { result ≡ translation_given (first_value (found_of found.now) (codes "translation")) }
-{
-    let number = number_of(found, "translation", TRANSLATION)?;
-    if number == 1 {
-        Some(Translation::One)
-    } else {
-        Some(Translation::Two)
-    }
-}
-
-// The numbers that end the settings of `run`, `certify` and `equal`.
-#[derive(Clone, Copy)]
-struct RunNumbers {
-    workers: u32,
-    fuel: u32,
-    heads: u32,
-}
-
-fn run_numbers(found: &ArgMatches) -> Option<RunNumbers>
-    ensures { option_map (λ n. n.workers ∷ n.fuel ∷ n.heads ∷ []) result
-        ≡ numbers (number_by [] (first_value (found_of found.now))) (workers ∷ fuel ∷ heads ∷ []) }
-{
-    let workers = number_of(found, "workers", WORKERS)?;
-    let fuel = number_of(found, "fuel", FUEL)?;
-    let heads = number_of(found, "heads", HEADS)?;
-    Some(RunNumbers {
-        workers,
-        fuel,
-        heads,
-    })
+    Some(numbers)
 }
 
 // The number of a setting by what was given to its option.
-fn number_of(found: &ArgMatches, option: &str, limits: Limits) -> Option<u32>
-    ensures { result ≡ setting_by (limits_of limits) (first_value (found_of found.now) option.now) }
+fn number_of(found: &ArgMatches, setting: Setting) -> Option<u32>
+    ensures { result ≡ number_by (first_value (found_of found.now)) setting }
 {
-    setting_by(found.get_str(option), limits)
+    let value = found.get_str(setting.option());
+    if setting.is_flag() {
+        Some(u32::from(is_true(value)))
+    } else {
+        setting_by(value, setting.limits())
+    }
 }
 
-// Both names are that of standard input.
-fn are_input(first: &str, second: &str) -> bool
-    ensures { result ≡ (is_input first.now && is_input second.now) }
+// The names that were given, followed by empty texts, or None if a name is missing.
+fn names_of<'a>(ids: &[&str], found: &'a ArgMatches) -> Option<(&'a str, &'a str)>
+    requires few { length ids.now ≤ 2 }
+    ensures { option_map (first_texts (length ids.now)) result
+        ≡ names_by (first_value (found_of found.now)) (texts ids.now) }
 {
-    first == "-" && second == "-"
+    let mut names = [""; 2];
+    for place in 0..ids.len() {
+        names[place] = found.get_str(ids[place])?;
+    }
+    let [first, second] = names;
+    Some((first, second))
 }
 
 // Whether clap has given a flag the value `true`.

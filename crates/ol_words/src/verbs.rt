@@ -1,32 +1,50 @@
-//! The commands of the command line, with the options, flags and names of each.
+//! The commands of the command line, with the settings and the names of each, and what each asks
+//! for.
 
-ghost use Rattle.std.specs.Prelude.{◌≡◌, map, option_map};
-ghost use Rattle.ol_words.specs.Jobs.{flags_of, options_of, verb_named, verb_row, verbs};
+ghost use Rattle.std.specs.Prelude.{◌≡◌, ◌≤◌, ◌&&◌, IfOk, length};
+ghost use Rattle.ol_words.specs.Asked.{asks, is_input, numbered, all_verbs, verb_named, verb_row};
 ghost use Rattle.ol_words.specs.Command.{ids_of};
-ghost use Rattle.ol_words.specs.Views.{verb_of};
-ghost use Rattle.ol_words.specs.Views.{texts};
+ghost use Rattle.ol_words.specs.Views.{first_texts, firsts, texts};
 
-static RUN_OPTIONS: [&str; 4] = ["translation", "workers", "fuel", "heads"];
+use crate::jobs::{Job, Word};
+use crate::numbers::{Limits, number_within};
+use crate::settings::Setting;
+use ol_term::Translation;
+use std::alloc::{AllocError, Global};
 
-static WALK_OPTIONS: [&str; 3] = ["translation", "edges", "heads"];
+static RUN_SETTINGS: [Setting; 4] = [
+    Setting::Translation,
+    Setting::Workers,
+    Setting::Fuel,
+    Setting::Heads,
+];
 
-static VIEW_OPTIONS: [&str; 2] = ["translation", "after"];
+static WALK_SETTINGS: [Setting; 3] = [Setting::Translation, Setting::Edges, Setting::Heads];
 
-static TRACE_OPTIONS: [&str; 3] = ["translation", "workers", "fuel"];
+static VIEW_SETTINGS: [Setting; 2] = [Setting::Translation, Setting::After];
 
-static CHECK_OPTIONS: [&str; 1] = ["translation"];
+static TRACE_SETTINGS: [Setting; 3] = [Setting::Translation, Setting::Workers, Setting::Fuel];
 
-static GEN_OPTIONS: [&str; 2] = ["translation", "run"];
+static CHECK_SETTINGS: [Setting; 1] = [Setting::Translation];
 
-static GEN_FLAGS: [&str; 1] = ["run"];
+static GEN_SETTINGS: [Setting; 2] = [Setting::Translation, Setting::Run];
 
-static DEMAND_OPTIONS: [&str; 3] = ["translation", "fuel", "heads"];
+static DEMAND_SETTINGS: [Setting; 3] = [Setting::Translation, Setting::Fuel, Setting::Heads];
 
-static CERTIFY_OPTIONS: [&str; 5] = ["translation", "steps", "workers", "fuel", "heads"];
+static CERTIFY_SETTINGS: [Setting; 5] = [
+    Setting::Translation,
+    Setting::Steps,
+    Setting::Workers,
+    Setting::Fuel,
+    Setting::Heads,
+];
 
-static NET_OPTIONS: [&str; 4] = ["translation", "from-term", "workers", "fuel"];
-
-static NET_FLAGS: [&str; 1] = ["from-term"];
+static NET_SETTINGS: [Setting; 4] = [
+    Setting::Translation,
+    Setting::FromTerm,
+    Setting::Workers,
+    Setting::Fuel,
+];
 
 static FILE_NAMES: [&str; 1] = ["name"];
 
@@ -36,11 +54,9 @@ static GEN_NAMES: [&str; 1] = ["number"];
 
 static EQUAL_NAMES: [&str; 2] = ["first", "second"];
 
-static NOTHING: [&str; 0] = [];
-
-/// What stands first behind the program's name.
+/// The commands, in the order of the usage.
 #[derive(Clone, Copy)]
-pub(crate) enum Verb {
+pub enum Verb {
     Run,
     Walk,
     View,
@@ -69,33 +85,26 @@ static VERBS: [Verb; 10] = [
 impl Verb {
     /// All verbs, in their order.
     pub(crate) fn all() -> &'static [Verb]
-        ensures { map verb_of result.now ≡ verbs }
+        ensures { result.now ≡ all_verbs }
     {
         VERBS.as_slice()
     }
 
     /// The verb that is written so, if there is one.
     pub(crate) fn named(word: &str) -> Option<Verb>
-        ensures { option_map verb_of result ≡ verb_named word.now }
+        ensures { result ≡ verb_named word.now }
     {
-        match word {
-            "run" => Some(Verb::Run),
-            "walk" => Some(Verb::Walk),
-            "view" => Some(Verb::View),
-            "trace" => Some(Verb::Trace),
-            "check" => Some(Verb::Check),
-            "gen" => Some(Verb::Gen),
-            "demand" => Some(Verb::Demand),
-            "certify" => Some(Verb::Certify),
-            "net" => Some(Verb::Net),
-            "equal" => Some(Verb::Equal),
-            _ => None,
+        for verb in Verb::all() {
+            if verb.word() == word {
+                return Some(*verb);
+            }
         }
+        None
     }
 
     /// How the verb is written.
     pub(crate) fn word(self) -> &'static str
-        ensures { result.now ≡ (verb_row (verb_of self)).word }
+        ensures { result.now ≡ (verb_row self).word }
     {
         match self {
             Verb::Run => "run",
@@ -111,44 +120,28 @@ impl Verb {
         }
     }
 
-    /// The options that may be given to the verb.
-    pub(crate) fn options(self) -> &'static [&'static str]
-        ensures { texts result.now ≡ options_of (verb_of self) }
+    /// The settings of the verb, in the order of their numbers.
+    pub(crate) fn settings(self) -> &'static [Setting]
+        ensures settings { result.now ≡ (verb_row self).settings }
+        ensures few { length result.now ≤ 5 }
     {
         match self {
-            Verb::Run | Verb::Equal => RUN_OPTIONS.as_slice(),
-            Verb::Walk => WALK_OPTIONS.as_slice(),
-            Verb::View => VIEW_OPTIONS.as_slice(),
-            Verb::Trace => TRACE_OPTIONS.as_slice(),
-            Verb::Check => CHECK_OPTIONS.as_slice(),
-            Verb::Gen => GEN_OPTIONS.as_slice(),
-            Verb::Demand => DEMAND_OPTIONS.as_slice(),
-            Verb::Certify => CERTIFY_OPTIONS.as_slice(),
-            Verb::Net => NET_OPTIONS.as_slice(),
+            Verb::Run | Verb::Equal => RUN_SETTINGS.as_slice(),
+            Verb::Walk => WALK_SETTINGS.as_slice(),
+            Verb::View => VIEW_SETTINGS.as_slice(),
+            Verb::Trace => TRACE_SETTINGS.as_slice(),
+            Verb::Check => CHECK_SETTINGS.as_slice(),
+            Verb::Gen => GEN_SETTINGS.as_slice(),
+            Verb::Demand => DEMAND_SETTINGS.as_slice(),
+            Verb::Certify => CERTIFY_SETTINGS.as_slice(),
+            Verb::Net => NET_SETTINGS.as_slice(),
         }
     }
 
-    /// Those of the options that take no value.
-    pub(crate) fn flags(self) -> &'static [&'static str]
-        ensures { texts result.now ≡ flags_of (verb_of self) }
-    {
-        match self {
-            Verb::Gen => GEN_FLAGS.as_slice(),
-            Verb::Net => NET_FLAGS.as_slice(),
-            Verb::Run
-            | Verb::Walk
-            | Verb::View
-            | Verb::Trace
-            | Verb::Check
-            | Verb::Demand
-            | Verb::Certify
-            | Verb::Equal => NOTHING.as_slice(),
-        }
-    }
-
-    /// What the names are called that stand behind the verb, in their order.
+    /// What the names of the verb are called, in their order.
     pub(crate) fn names(self) -> &'static [&'static str]
-        ensures { texts result.now ≡ ids_of (verb_of self) }
+        ensures names { texts result.now ≡ ids_of self }
+        ensures few { length result.now ≤ 2 }
     {
         match self {
             Verb::Run
@@ -163,4 +156,118 @@ impl Verb {
             Verb::Equal => EQUAL_NAMES.as_slice(),
         }
     }
+
+    /// What the verb asks for by the numbers of its settings and by its names, both in their order.
+    /// Elements that the verb has no setting or name for aren't read. `None`: the number of `gen`
+    /// isn't 0 to 10, or both names are that of standard input.
+    pub(crate) fn asks(
+        self,
+        alloc: Global,
+        numbers: [u32; 5],
+        names: (&str, &str),
+    ) -> Result<Option<Job>, AllocError>
+        ensures { IfOk result (λ job. job ≡ asks self
+            (firsts (length (verb_row self).settings) numbers)
+            (first_texts (length (ids_of self)) names.entry)) }
+    {
+        let job = match (self, numbers, names) {
+            (Verb::Run, [t, workers, fuel, heads, _], (name, _)) => Job::Run {
+                translation: numbered(t),
+                workers,
+                fuel,
+                heads,
+                name: Word::of(alloc, name)?,
+            },
+            (Verb::Walk, [t, edges, heads, ..], (name, _)) => Job::Walk {
+                translation: numbered(t),
+                edges: u64::from(edges),
+                heads,
+                name: Word::of(alloc, name)?,
+            },
+            (Verb::View, [t, after, ..], (name, _)) => Job::View {
+                translation: numbered(t),
+                after,
+                name: Word::of(alloc, name)?,
+            },
+            (Verb::Trace, [t, workers, fuel, ..], (name, _)) => Job::Trace {
+                translation: numbered(t),
+                workers,
+                fuel,
+                name: Word::of(alloc, name)?,
+            },
+            (Verb::Check, [t, ..], (term, journal)) => {
+                if are_input(term, journal) {
+                    return Ok(None);
+                }
+                Job::Check {
+                    translation: numbered(t),
+                    term: Word::of(alloc, term)?,
+                    journal: Word::of(alloc, journal)?,
+                }
+            }
+            (Verb::Gen, [t, run, ..], (number, _)) => {
+                let Some(k) = number_within(number.as_bytes(), Limits::new(0, 10, 0)) else {
+                    return Ok(None);
+                };
+                Job::Gen {
+                    translation: numbered(t),
+                    run: run == 1,
+                    k,
+                }
+            }
+            (Verb::Demand, [t, fuel, heads, ..], (name, _)) => Job::Demand {
+                translation: numbered(t),
+                fuel,
+                heads,
+                name: Word::of(alloc, name)?,
+            },
+            (Verb::Certify, [t, steps, workers, fuel, heads], (name, _)) => Job::Certify {
+                translation: numbered(t),
+                steps,
+                workers,
+                fuel,
+                heads,
+                name: Word::of(alloc, name)?,
+            },
+            (Verb::Net, [t, from_term, workers, fuel, _], (name, _)) => Job::Net {
+                translation: numbered(t),
+                from_term: from_term == 1,
+                workers,
+                fuel,
+                name: Word::of(alloc, name)?,
+            },
+            (Verb::Equal, [t, workers, fuel, heads, _], (first, second)) => {
+                if are_input(first, second) {
+                    return Ok(None);
+                }
+                Job::Equal {
+                    translation: numbered(t),
+                    workers,
+                    fuel,
+                    heads,
+                    first: Word::of(alloc, first)?,
+                    second: Word::of(alloc, second)?,
+                }
+            }
+        };
+        Ok(Some(job))
+    }
+}
+
+// The translation of a number: 1 or 2.
+fn numbered(number: u32) -> Translation
+    ensures { result ≡ numbered number }
+{
+    if number == 1 {
+        Translation::One
+    } else {
+        Translation::Two
+    }
+}
+
+// Both names are that of standard input.
+fn are_input(first: &str, second: &str) -> bool
+    ensures { result ≡ (is_input first.now && is_input second.now) }
+{
+    first == "-" && second == "-"
 }

@@ -4,8 +4,7 @@ use Rattle.ol_io.proofs.Readings.{handed-over, handed-told}
 use Rattle.ol_io.specs.Readings.{handed}
 use Rattle.ol_cli.proofs.Called.{call_ends, call_hands}
 use Rattle.ol_cli.proofs.Causing.{ends_by}
-use Rattle.ol_cli.proofs.Exact.{ends_asked, ends_done, ends_fault, ends_risen}
-use Rattle.ol_cli.proofs.Exact.{ends_usage, ends_write, ends_write_told}
+use Rattle.ol_cli.proofs.Exact.{ends_asked, ends_done, ends_fault, ends_risen, ends_usage, ends_write, ends_write_told}
 use Rattle.ol_cli.proofs.Saying.{says_of_answer, says_when_done}
 use Rattle.ol_cli.proofs.top.ol.Goals as goal
 
