@@ -1,7 +1,7 @@
 //! The words of a command line, read by clap.
 
 ghost use Rattle.std.specs.Prelude.{◌≤◌, length, IfOk, IfSome};
-ghost use Rattle.ol_bench.specs.Commands.{IsOneWithin, IsTwoWithin, IsWithinBounds, most_students};
+ghost use Rattle.ol_bench.specs.Commands.{IsTwoWithin, IsWithinBounds, most_students};
 
 use crate::command::matches_of;
 use crate::rows::{MOST_LINES, MOST_MOVES, MOST_STUDENTS};
@@ -151,9 +151,7 @@ fn order_of(found: &ArgMatches) -> Order {
 }
 
 // The command `where`: with a byte or without.
-fn place_of(found: &ArgMatches) -> OnOne
-    ensures { IsOneWithin result }
-{
+fn place_of(found: &ArgMatches) -> OnOne {
     match found.get_one::<u32>("byte") {
         None => OnOne::Stop,
         Some(_) => OnOne::Where {
@@ -163,9 +161,7 @@ fn place_of(found: &ArgMatches) -> OnOne
 }
 
 // The command on one file of this name, with its numbers.
-fn on_one(name: &str, found: &ArgMatches) -> OnOne
-    ensures { IsOneWithin result }
-{
+fn on_one(name: &str, found: &ArgMatches) -> OnOne {
     let subject = subject_of(found);
     let fuel = fuel_of(found);
     let heads = heads_of(found);
@@ -231,7 +227,6 @@ fn asked_of_one(
     found: &ArgMatches,
     term: Option<Given>,
 ) -> Result<Asked, Error>
-    requires within { IsOneWithin command }
     ensures { IfOk result IsWithinBounds }
 {
     let file = match term {
