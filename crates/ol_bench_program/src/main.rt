@@ -1,24 +1,24 @@
 //! The program `ol-bench` over files, standard input, standard output and standard error.
 //!
-//! - `words`: what the words of a command line ask
-//! - `command`: the command line as clap is told of it
-//! - `rows`: the commands, and the arguments of each
-//! - `help`: what the help has below the arguments
+//! - `command`: the command line as clap is told of it, and what its words ask
+//! - `verbs`: the commands: the arguments of each, its help, and what it asks
+//! - `arguments`: how an argument is written down as a row
+//! - `words`: what clap found of the arguments, as the types of what is asked
 #![tactic(auto)]
 
 ghost use Rattle.ol_bench.specs.Commands.{IsWithinBounds};
 
+mod arguments;
 mod command;
-mod help;
-mod rows;
+mod verbs;
 mod words;
 
 use clap::Error;
+use command::asked_by;
 use ol_bench::{Asked, Status, bench};
 use ol_io::{StdSink, StdSource, WriterSink};
 use std::io::ErrorKind;
 use std::process::ExitCode;
-use words::asked_by;
 
 /// The exit status of words that ask for nothing.
 const WRONG_WORDS: u8 = 2;
