@@ -62,20 +62,6 @@ content_of (one.Story s fuel) = Subject s
 content_of (one.Show translation fuel heads) = Subject (subject.Term translation)
 content_of (one.Tree translation depth fuel heads) = Subject (subject.Term translation)
 
--- its numbers are within their bounds
-abbrev pub IsOneWithin : OnOne → Type 0
-IsOneWithin (one.Where byte) = Unit {0}
-IsOneWithin one.Stop = Unit {0}
-IsOneWithin one.Derivation = Unit {0}
-IsOneWithin (one.Steps how most) = Unit {0}
-IsOneWithin (one.Counts s bounds columns layout) = Unit {0}
-IsOneWithin (one.Journal s order fuel heads) = Unit {0}
-IsOneWithin one.Free = Unit {0}
-IsOneWithin (one.Waves s fuel) = Unit {0}
-IsOneWithin (one.Story s fuel) = Unit {0}
-IsOneWithin (one.Show translation fuel heads) = Unit {0}
-IsOneWithin (one.Tree translation depth fuel heads) = Unit {0}
-
 -- the answer to the bytes of the file
 abbrev pub IsAnswerToOne : OnOne → List ℕ → List ℕ → End → Type 0
 IsAnswerToOne (one.Where byte) bytes text e = IsWhere bytes byte text e
@@ -187,7 +173,7 @@ IsCauseOfGrade bounds inputs solution students files faults faults' text e =
 
 -- the numbers are within their bounds
 abbrev pub IsWithinBounds : Asked → Type 0
-IsWithinBounds (asked.One file command) = IsOneWithin command
+IsWithinBounds (asked.One file command) = Unit {0}
 IsWithinBounds (asked.Two file other command) = IsTwoWithin command
 IsWithinBounds (asked.Walk file wanted) = Unit {0}
 IsWithinBounds (asked.Grade inputs solution students bounds) = length students.items ≤ most_students

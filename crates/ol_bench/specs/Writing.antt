@@ -1,5 +1,5 @@
 -- What is written of an answer, to which sink, and with which status.
-use Rattle.std.specs.Prelude.{◌≡◌, ℕ, ◌<◌, Bool, true, false, List, length, take, Option, ◌⊎◌}
+use Rattle.std.specs.Prelude.{◌≡◌, ℕ, ◌<◌, Bool, true, false, List, [], length, take, Option, Some, ◌⊎◌}
 use Rattle.ol_io.specs.Outside.{Rose, Appended}
 use Rattle.ol_subjects.specs.declared.answers.End.{End}
 use Rattle.ol_subjects.specs.declared.answers.End.TheVariants as end
@@ -23,6 +23,10 @@ change_of faults taken old new = record {
   taken = taken old;
   taken' = taken new;
 }
+
+-- the same of a sink that was never written to before
+abbrev pub first_change : (faults' : ℕ) → (taken' : Option (List ℕ)) → Change
+first_change faults' taken' = record { faults = 0; faults' = faults'; taken = Some []; taken' = taken' }
 
 -- it was left alone
 abbrev pub IsLeft : Change → Type 0

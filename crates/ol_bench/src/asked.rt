@@ -5,7 +5,7 @@
 
 ghost use Rattle.std.specs.Prelude.{◌≡◌, ◌≤◌, length, IfOk};
 ghost use Rattle.ol_bench.specs.Inputs.{most_of};
-ghost use Rattle.ol_bench.specs.Commands.{IsOneWithin, IsTwoWithin, IsAnswerToOne, IsAnswerToTwo, IsExplainedIn, IsJudgedIn, content_of, contents_of};
+ghost use Rattle.ol_bench.specs.Commands.{IsTwoWithin, IsAnswerToOne, IsAnswerToTwo, IsExplainedIn, IsJudgedIn, content_of, contents_of};
 
 use ol_counts::{Bounds, Columns, counted, wave_table};
 use ol_decoding::{Wanted, show, tree};
@@ -136,7 +136,6 @@ impl OnOne {
     /// The answer to the bytes of the file.
     pub fn answer(self, alloc: Global, bytes: &[u8]) -> Result<Answer, NoMemory>
         requires short { length bytes.now ≤ most_of (content_of self) }
-        requires within { IsOneWithin self }
         ensures { IfOk result (λ a. IsAnswerToOne self bytes.now a.text.items a.end) }
     {
         match self {

@@ -3,7 +3,7 @@
 ghost use Rattle.std.specs.Prelude.{◌≡◌, ℕ, List, [], ◌∷◌, ◌++◌, Option, ◌≤◌, length, drop, true, IfOk};
 ghost use Rattle.ol_io.specs.Readings.{AreOfSince};
 ghost use Rattle.ol_bench.specs.Inputs.{IsNamed, most_of};
-ghost use Rattle.ol_bench.specs.Commands.{IsCause, IsCauseOfOne, IsCauseOfTwo, IsCauseOfWalk, IsCauseOnward, IsOneWithin, IsTwoWithin, IsWithinBounds, Names, contents_of};
+ghost use Rattle.ol_bench.specs.Commands.{IsCause, IsCauseOfOne, IsCauseOfTwo, IsCauseOfWalk, IsCauseOnward, IsTwoWithin, IsWithinBounds, Names, contents_of};
 ghost use Rattle.ol_bench.specs.Commands.{HaveName, IsCauseOfGrade, IsCauseOfSolution, IsCauseOfStudents, student_name};
 ghost use Rattle.ol_bench.specs.Taking.{IsWorkOf};
 ghost use Rattle.ol_bench.specs.Statuses.{status_number};
@@ -75,7 +75,6 @@ fn of_one<S: Source>(
     command: OnOne,
 ) -> Result<Answer, NoMemory>
     requires known { (name : List ℕ) → IsNamed file.now name → S.knows src.old name ≡ true }
-    requires within { IsOneWithin command }
     ensures caused { (files : ℕ → List ℕ → Option (List ℕ))
         → AreOfSince files (S.readings src.old) (S.readings src.new)
         → IfOk result (λ a. IsCauseOfOne command file.now files

@@ -1,9 +1,19 @@
-//! The command line as clap is told of it.
+//! The command line as clap is told of it, and what its words ask.
 
-use crate::help;
-use crate::rows::{Form, Row, VERBS, Value, Verb, verb_at};
+ghost use Rattle.std.specs.Prelude.{IfOk};
+ghost use Rattle.ol_bench.specs.Commands.{IsWithinBounds};
+
+use crate::arguments::{Form, Row, Value};
+use crate::verbs::{Usage, Verb, asked_of};
+use clap::error::ErrorKind;
 use clap::{Arg, ArgAction, ArgMatches, Command, Error};
+use ol_bench::Asked;
 use std::alloc::{AllocError, Global};
+
+// What the help of the program has after the commands.
+const PROGRAM: &str =
+    "`ol-bench COMMAND --help` has the options with their ranges and defaults, the limits, the exit
+statuses and an example.";
 
 // The argument, written as its row says.
 fn formed<'a>(arg: Arg<'a>, row: Row) -> Arg<'a> {
@@ -61,23 +71,23 @@ fn with_row<'a>(alloc: Global, command: Command<'a>, row: Row) -> Result<Command
 }
 
 // The command of a verb: its arguments, one after another.
-fn command_of<'a>(alloc: Global, verb: Verb) -> Result<Command<'a>, AllocError> {
-    let mut command: Command<'a> = Command::new(alloc, verb.word)
-        .about(verb.about)
-        .after_help(verb.below);
-    for row in verb.rows {
+fn command_of<'a>(alloc: Global, usage: Usage) -> Result<Command<'a>, AllocError> {
+    let mut command: Command<'a> = Command::new(alloc, usage.word)
+        .about(usage.about)
+        .after_help(usage.below);
+    for row in usage.rows {
         command = with_row(alloc, command, *row)?;
     }
     Ok(command)
 }
 
-// The program's command with that of a verb behind those that it has.
+// The program's command with that of a verb after those that it has.
 fn with_verb<'a>(
     alloc: Global,
     program: Command<'a>,
     verb: Verb,
 ) -> Result<Command<'a>, AllocError> {
-    let command = command_of(alloc, verb)?;
+    let command = command_of(alloc, verb.usage())?;
     program.subcommand(command)
 }
 
@@ -85,7 +95,7 @@ fn with_verb<'a>(
 fn program<'a>(alloc: Global) -> Result<Command<'a>, AllocError> {
     Command::new(alloc, "ol-bench")
         .about("Tools for teachers of reduction and authors of runtimes, beside `ol`")
-        .after_help(help::PROGRAM)
+        .after_help(PROGRAM)
         .subcommand_required(true)
         .bin_name("ol-bench")
 }
@@ -93,16 +103,32 @@ fn program<'a>(alloc: Global) -> Result<Command<'a>, AllocError> {
 // The command line: a command for each verb.
 fn command<'a>(alloc: Global) -> Result<Command<'a>, AllocError> {
     let mut command: Command<'a> = program(alloc)?;
-    for number in 0..VERBS {
-        command = with_verb(alloc, command, verb_at(number))?;
+    for verb in Verb::all() {
+        command = with_verb(alloc, command, *verb)?;
     }
     Ok(command)
 }
 
-/// What clap finds in the words of a command line.
-pub(crate) fn matches_of<'a>(
-    alloc: Global,
-    words: &'a Vec<String>,
-) -> Result<ArgMatches<'a>, Error> {
-    command(alloc)?.try_get_matches_from(words.as_slice())
+// The command that clap found, and what it found of the command's arguments.
+fn chosen<'m, 'a>(matches: &'m ArgMatches<'a>) -> Option<(Verb, &'m ArgMatches<'a>)> {
+    let (name, found) = matches.subcommand()?;
+    let verb = Verb::named(name)?;
+    Some((verb, found))
+}
+
+// The error of words without a command. Clap finds it before anything else.
+fn no_command(alloc: Global) -> Result<Error, AllocError> {
+    program(alloc)?.error(ErrorKind::MissingSubcommand, "there is no command")
+}
+
+/// What the words ask, with numbers that are within their bounds. An error is what clap says of the
+/// words, or the help that they ask for.
+pub(crate) fn asked_by(alloc: Global, words: &Vec<String>) -> Result<Asked, Error>
+    ensures { IfOk result IsWithinBounds }
+{
+    let matches = command(alloc)?.try_get_matches_from(words.as_slice())?;
+    let Some((verb, found)) = chosen(&matches) else {
+        return Err(no_command(alloc)?);
+    };
+    asked_of(alloc, verb, found)
 }

@@ -1,24 +1,29 @@
 //! The program `ol-bench` over files, standard input, standard output and standard error.
 //!
-//! - `words`: what the words of a command line ask
-//! - `command`: the command line as clap is told of it
-//! - `rows`: the commands, and the arguments of each
-//! - `help`: what the help has below the arguments
+//! - `command`: the command line as clap is told of it, and what its words ask
+//! - `verbs`: the commands: the arguments of each, its help, and what it asks
+//! - `arguments`: how an argument is written down as a row
+//! - `words`: what clap found of the arguments, as the types of what is asked
 #![tactic(auto)]
 
-ghost use Rattle.ol_bench.specs.Commands.{IsWithinBounds};
+ghost use Rattle.std.specs.Prelude.{ℕ, List, [], Option};
+ghost use Rattle.ol_io.specs.Readings.{AreOfSince};
+ghost use Rattle.ol_bench.specs.Commands.{IsCause, IsWithinBounds};
+ghost use Rattle.ol_bench.specs.Writing.{WritesAnswer, first_change};
 
+mod arguments;
 mod command;
-mod help;
-mod rows;
+mod verbs;
 mod words;
 
 use clap::Error;
+use command::asked_by;
 use ol_bench::{Asked, Status, bench};
-use ol_io::{StdSink, StdSource, WriterSink};
-use std::io::ErrorKind;
+use ol_io::{Sink, Source, StdSink, StdSource, WriterSink};
+use std::alloc::Global;
+use std::io::{ErrorKind, Write};
 use std::process::ExitCode;
-use words::asked_by;
+use std::rt::Files;
 
 /// The exit status of words that ask for nothing.
 const WRONG_WORDS: u8 = 2;
@@ -26,14 +31,53 @@ const WRONG_WORDS: u8 = 2;
 /// The exit status where memory ran out.
 const NO_MEMORY: u8 = 6;
 
-// What is asked, done over the files of the system.
-fn run(rt: &HostRuntime, asked: &Asked) -> Status
+/// How the call ended, and the adapters, which tell what passed through them.
+#[derive(Drop)]
+struct Passed<'a, R: Files + Input + Print, E: Write + Drop> {
+    status: Status,
+    src: StdSource<'a, R>,
+    out: StdSink<'a, R>,
+    errors: WriterSink<E>,
+}
+
+/// `bench` over files, standard input, standard output and a writer of errors.
+fn run<'a, R: Files + Input + Print, E: Write + Drop>(
+    rt: &'a R,
+    alloc: Global,
+    asked: &Asked,
+    errors: E,
+) -> Passed<'a, R, E>
     requires bounds { IsWithinBounds asked.now }
+
+    // The text is the answer to the files, or the line that refuses them. Standard output or the
+    // writer of errors, to which the text goes, accepted the whole text, and the status says how the
+    // command ended; or a prefix of the text, and failed. The other accepted nothing, and neither
+    // accepted anything where memory ran out. This holds of any files that the readings of this call
+    // are of.
+    ensures answered { (files : ℕ → List ℕ → Option (List ℕ))
+        → AreOfSince files [] (⟦<StdSource<'a, R> as Source>⟧.readings result.src)
+        → WritesAnswer
+        (IsCause asked.now files 0 (⟦<StdSource<'a, R> as Source>⟧.faults result.src))
+        (first_change (⟦<StdSink<'a, R> as Sink>⟧.faults result.out)
+        (⟦<StdSink<'a, R> as Sink>⟧.taken result.out))
+        (first_change (⟦<WriterSink<E> as Sink>⟧.faults result.errors)
+        (⟦<WriterSink<E> as Sink>⟧.taken result.errors))
+        result.status }
+
+    // There are files that its readings are of.
+    ensures told { (files : ℕ → List ℕ → Option (List ℕ))
+        × AreOfSince files [] (⟦<StdSource<'a, R> as Source>⟧.readings result.src) }
 {
     let mut src = StdSource::new(rt);
     let mut out = StdSink::new(rt);
-    let mut errors = WriterSink::new(rt.stderr());
-    bench(rt.alloc(), asked, &mut src, &mut out, &mut errors)
+    let mut errors = WriterSink::new(errors);
+    let status = bench(alloc, asked, &mut src, &mut out, &mut errors);
+    Passed {
+        status,
+        src,
+        out,
+        errors,
+    }
 }
 
 // The exit status of words that clap refuses, or of which help is asked.
@@ -61,7 +105,10 @@ fn main(rt: HostRuntime) -> ExitCode {
         return ExitCode::from(NO_MEMORY);
     };
     match asked_by(rt.alloc(), &words) {
-        Ok(asked) => ExitCode::from(run(&rt, &asked).number()),
+        Ok(asked) => {
+            let passed = run(&rt, rt.alloc(), &asked, rt.stderr());
+            ExitCode::from(passed.status.number())
+        }
         Err(error) => ExitCode::from(refused(&rt, &error)),
     }
 }

@@ -1,10 +1,9 @@
-//! The words of a command line, read by clap.
+//! What clap found of the arguments of a command, as the types of what is asked.
 
-ghost use Rattle.std.specs.Prelude.{◌≤◌, length, IfOk, IfSome};
-ghost use Rattle.ol_bench.specs.Commands.{IsOneWithin, IsTwoWithin, IsWithinBounds, most_students};
+ghost use Rattle.std.specs.Prelude.{◌≤◌, length, IfOk};
+ghost use Rattle.ol_bench.specs.Commands.{IsTwoWithin, IsWithinBounds, most_students};
 
-use crate::command::matches_of;
-use crate::rows::{MOST_LINES, MOST_MOVES, MOST_STUDENTS};
+use crate::arguments::{MOST_LINES, MOST_MOVES, MOST_STUDENTS};
 use clap::{ArgMatches, Error};
 use ol_bench::{Asked, Given, OnOne, OnTwo};
 use ol_counts::{Bounds, Columns};
@@ -20,8 +19,8 @@ use ol_subjects::{Layout, Subject};
 use ol_term::Translation;
 use std::alloc::Global;
 
-// The number of an option, between these ends. An option that has no number has the lower end.
-fn number_of(found: &ArgMatches, id: &str, least: u32, most: u32) -> u32
+/// The number of an option, between these ends. An option that has no number has the lower end.
+pub(crate) fn number_of(found: &ArgMatches, id: &str, least: u32, most: u32) -> u32
     requires ends { least ≤ most }
     ensures least { least ≤ result }
     ensures most { result ≤ most }
@@ -40,7 +39,7 @@ fn number_of(found: &ArgMatches, id: &str, least: u32, most: u32) -> u32
     }
 }
 
-fn translation_of(found: &ArgMatches) -> Translation {
+pub(crate) fn translation_of(found: &ArgMatches) -> Translation {
     if number_of(found, "translation", 1, 2) == 1 {
         Translation::One
     } else {
@@ -48,7 +47,7 @@ fn translation_of(found: &ArgMatches) -> Translation {
     }
 }
 
-fn subject_of(found: &ArgMatches) -> Subject {
+pub(crate) fn subject_of(found: &ArgMatches) -> Subject {
     if found.get_flag("net") {
         Subject::Net
     } else {
@@ -56,18 +55,18 @@ fn subject_of(found: &ArgMatches) -> Subject {
     }
 }
 
-// The greatest number of interactions of a run.
-fn fuel_of(found: &ArgMatches) -> Fuel {
+/// The greatest number of interactions of a run.
+pub(crate) fn fuel_of(found: &ArgMatches) -> Fuel {
     Fuel::of(number_of(found, "fuel", 0, MOST_FUEL))
 }
 
-// The greatest number of places that are read.
-fn heads_of(found: &ArgMatches) -> Heads {
+/// The greatest number of places that are read.
+pub(crate) fn heads_of(found: &ArgMatches) -> Heads {
     Heads::of(number_of(found, "heads", 1, MOST_HEADS))
 }
 
-// How the answer is written.
-fn layout_of(found: &ArgMatches) -> Layout {
+/// How the answer is written.
+pub(crate) fn layout_of(found: &ArgMatches) -> Layout {
     if found.get_flag("json") {
         Layout::Object
     } else {
@@ -75,8 +74,8 @@ fn layout_of(found: &ArgMatches) -> Layout {
     }
 }
 
-// How far each way of reducing is followed.
-fn bounds_of(found: &ArgMatches, fuel: Fuel, heads: Heads) -> Bounds {
+/// How far each way of reducing is followed.
+pub(crate) fn bounds_of(found: &ArgMatches, fuel: Fuel, heads: Heads) -> Bounds {
     Bounds {
         fuel,
         heads,
@@ -85,8 +84,8 @@ fn bounds_of(found: &ArgMatches, fuel: Fuel, heads: Heads) -> Bounds {
     }
 }
 
-// Which ways of reducing have a column.
-fn columns_of(found: &ArgMatches) -> Columns {
+/// Which ways of reducing have a column.
+pub(crate) fn columns_of(found: &ArgMatches) -> Columns {
     Columns {
         run: !found.get_flag("no-run"),
         demand: !found.get_flag("no-demand"),
@@ -132,8 +131,8 @@ fn reduction_of(found: &ArgMatches) -> Reduction {
     }
 }
 
-// How steps are shown.
-fn shown_of(found: &ArgMatches) -> Shown {
+/// How steps are shown.
+pub(crate) fn shown_of(found: &ArgMatches) -> Shown {
     Shown {
         order: reduction_of(found),
         marked: found.get_flag("mark"),
@@ -142,7 +141,7 @@ fn shown_of(found: &ArgMatches) -> Shown {
     }
 }
 
-fn order_of(found: &ArgMatches) -> Order {
+pub(crate) fn order_of(found: &ArgMatches) -> Order {
     match found.get_str("order") {
         Some("demand") => Order::Demand,
         Some("rounds") => Order::Rounds,
@@ -150,10 +149,8 @@ fn order_of(found: &ArgMatches) -> Order {
     }
 }
 
-// The command `where`: with a byte or without.
-fn place_of(found: &ArgMatches) -> OnOne
-    ensures { IsOneWithin result }
-{
+/// The command `where`: with a byte or without.
+pub(crate) fn place_of(found: &ArgMatches) -> OnOne {
     match found.get_one::<u32>("byte") {
         None => OnOne::Stop,
         Some(_) => OnOne::Where {
@@ -162,95 +159,32 @@ fn place_of(found: &ArgMatches) -> OnOne
     }
 }
 
-// The command on one file of this name, with its numbers.
-fn on_one(name: &str, found: &ArgMatches) -> OnOne
-    ensures { IsOneWithin result }
-{
-    let subject = subject_of(found);
-    let fuel = fuel_of(found);
-    let heads = heads_of(found);
-    match name {
-        "steps" => OnOne::Steps {
-            how: shown_of(found),
-            most: number_of(found, "most", 0, MOST_STEPS),
-        },
-        "counts" => OnOne::Counts {
-            subject,
-            bounds: bounds_of(found, fuel, heads),
-            columns: columns_of(found),
-            layout: layout_of(found),
-        },
-        "journal" => OnOne::Journal {
-            subject,
-            order: order_of(found),
-            fuel,
-            heads,
-        },
-        "derivation" => OnOne::Derivation,
-        "free" => OnOne::Free,
-        "waves" => OnOne::Waves { subject, fuel },
-        "story" => OnOne::Story { subject, fuel },
-        "show" => OnOne::Show {
-            translation: translation_of(found),
-            fuel,
-            heads,
-        },
-        "tree" => OnOne::Tree {
-            translation: translation_of(found),
-            depth: number_of(found, "depth", 0, MOST_HEADS),
-            fuel,
-            heads,
-        },
-        _ => place_of(found),
-    }
-}
-
-// The command on two files of this name, with its numbers, if there is one.
-fn on_two(name: &str, found: &ArgMatches) -> Option<OnTwo>
-    ensures { IfSome result IsTwoWithin }
-{
-    let subject = subject_of(found);
-    let layout = layout_of(found);
-    match name {
-        "after" => Some(OnTwo::After {
-            subject,
-            lines: number_of(found, "lines", 1, MOST_FUEL + 1),
-            weights: found.get_flag("weights"),
-        }),
-        "check" => Some(OnTwo::Check { subject, layout }),
-        "explain" => Some(OnTwo::Explain { subject, layout }),
-        "same" => Some(OnTwo::Same),
-        _ => None,
-    }
-}
-
-// A command on one file: that of the name, or the term behind `-e`.
-fn asked_of_one(
+/// What a command on one file asks: the file of the name, or the term after `-e`.
+pub(crate) fn asked_of_one(
     alloc: Global,
     command: OnOne,
     found: &ArgMatches,
-    term: Option<Given>,
 ) -> Result<Asked, Error>
-    requires within { IsOneWithin command }
     ensures { IfOk result IsWithinBounds }
 {
-    let file = match term {
+    let file = match term_of(alloc, found)? {
         Some(term) => term,
         None => file_of(alloc, found, "name")?,
     };
     Ok(Asked::One { file, command })
 }
 
-// A command on two files: those of the names, or the term behind `-e` and the file of the one name.
-fn asked_of_two(
+/// What a command on two files asks: the files of the names, or the term after `-e` and the file of
+/// the first name.
+pub(crate) fn asked_of_two(
     alloc: Global,
     command: OnTwo,
     found: &ArgMatches,
-    term: Option<Given>,
 ) -> Result<Asked, Error>
     requires within { IsTwoWithin command }
     ensures { IfOk result IsWithinBounds }
 {
+    let term = term_of(alloc, found)?;
     let name = file_of(alloc, found, "name")?;
     let (file, other) = match term {
         Some(term) => (term, name),
@@ -279,8 +213,8 @@ fn files_of(alloc: Global, found: &ArgMatches, id: &str) -> Result<Vec<Given>, E
     Ok(files)
 }
 
-// The command `grade`.
-fn grading_of(alloc: Global, found: &ArgMatches) -> Result<Asked, Error>
+/// The command `grade`.
+pub(crate) fn grading_of(alloc: Global, found: &ArgMatches) -> Result<Asked, Error>
     ensures { IfOk result IsWithinBounds }
 {
     let inputs = file_of(alloc, found, "on")?;
@@ -321,8 +255,8 @@ fn path_of(alloc: Global, word: &str) -> Result<Vec<u32>, Error> {
     Ok(path)
 }
 
-// The command `walk`: on the file of the name, or the term behind `-e`.
-fn walk_of(alloc: Global, found: &ArgMatches) -> Result<Asked, Error>
+/// The command `walk`: on the file of the name, or the term behind `-e`.
+pub(crate) fn walk_of(alloc: Global, found: &ArgMatches) -> Result<Asked, Error>
     ensures { IfOk result IsWithinBounds }
 {
     let file = match term_of(alloc, found)? {
@@ -346,38 +280,4 @@ fn walk_of(alloc: Global, found: &ArgMatches) -> Result<Asked, Error>
         lines: number_of(found, "lines", 0, MOST_LINES),
     };
     Ok(Asked::Walk { file, wanted })
-}
-
-// What is asked by what was given behind the name of a command.
-fn asked_of(alloc: Global, name: &str, found: &ArgMatches) -> Result<Asked, Error>
-    ensures { IfOk result IsWithinBounds }
-{
-    if name == "grade" {
-        return grading_of(alloc, found);
-    }
-    if name == "walk" {
-        return walk_of(alloc, found);
-    }
-    let term = term_of(alloc, found)?;
-    match on_two(name, found) {
-        Some(command) => asked_of_two(alloc, command, found, term),
-        None => asked_of_one(alloc, on_one(name, found), found, term),
-    }
-}
-
-/// What the words ask, with numbers that are within their bounds. An error is what clap says of the
-/// words, or the help that they ask for.
-pub fn asked_by(alloc: Global, words: &Vec<String>) -> Result<Asked, Error>
-    ensures { IfOk result IsWithinBounds }
-{
-    let matches = matches_of(alloc, words)?;
-    match matches.subcommand() {
-        Some((name, found)) => asked_of(alloc, name, found),
-        // clap takes no words without a command.
-        None => {
-            let file = Given::Name(String::new(alloc));
-            let command = OnOne::Where { byte: 0 };
-            Ok(Asked::One { file, command })
-        }
-    }
 }

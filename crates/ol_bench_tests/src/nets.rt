@@ -1,5 +1,4 @@
 //! Commands on a net, journals of orders, and fuel that is used up at once.
-ghost use Rattle.ol_bench.specs.Commands.{IsOneWithin};
 ghost use Rattle.std.specs.Prelude.{◌≤◌};
 ghost use Rattle.ol_limits.specs.Limits.{most_fuel};
 
@@ -15,9 +14,7 @@ use std::test::Fail;
 const TERM: Subject = Subject::Term(Translation::Two);
 
 // All columns, or none, as an object.
-fn counts(shown: bool) -> OnOne
-    ensures { IsOneWithin result }
-{
+fn counts(shown: bool) -> OnOne {
     let bounds = Bounds {
         fuel: Fuel::of(9),
         heads: Heads::of(9),
@@ -55,7 +52,6 @@ fn a_net_is_counted(rt: HostRuntime) -> Result<(), Fail> {
 
 fn journal(subject: Subject, order: Order, fuel: u32) -> OnOne
     requires { fuel ≤ most_fuel }
-    ensures { IsOneWithin result }
 {
     OnOne::Journal {
         subject,

@@ -1,5 +1,4 @@
 //! `steps` and `derivation`.
-ghost use Rattle.ol_bench.specs.Commands.{IsOneWithin};
 
 use crate::rows::{assert_one, one};
 use ol_bench::OnOne;
@@ -10,9 +9,7 @@ use std::process::Abort;
 use std::test::Fail;
 
 /// At most nine steps in an order, with own names or with letters, and folded or not.
-pub fn steps(order: Order, named: bool, folded: bool) -> OnOne
-    ensures { IsOneWithin result }
-{
+pub fn steps(order: Order, named: bool, folded: bool) -> OnOne {
     let how = Shown {
         order,
         marked: false,

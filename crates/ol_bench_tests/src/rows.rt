@@ -1,7 +1,7 @@
 //! Rows of commands on one text and on two.
 //!
 //! Rows are parted by `%`, and a bar stands before what a call comes to, as `fakes::ran` tells it.
-ghost use Rattle.ol_bench.specs.Commands.{IsOneWithin, IsTwoWithin};
+ghost use Rattle.ol_bench.specs.Commands.{IsTwoWithin};
 
 use crate::fakes::{NONE, ran, shown, written};
 use ol_bench::{Asked, OnOne, OnTwo};
@@ -10,9 +10,7 @@ use std::process::Abort;
 use std::test::Fail;
 
 /// What a command on a text comes to.
-pub fn one(alloc: Global, command: OnOne, text: &str) -> Result<String, Fail>
-    requires within { IsOneWithin command }
-{
+pub fn one(alloc: Global, command: OnOne, text: &str) -> Result<String, Fail> {
     let file = written(alloc, text)?;
     let asked = Asked::One { file, command };
     ran(alloc, &asked, Vec::new(alloc), (NONE, NONE))
@@ -33,9 +31,7 @@ fn two(alloc: Global, command: OnTwo, text: &str, other: &str) -> Result<String,
 }
 
 /// Asserts of each row what the command on its text comes to.
-pub fn assert_one(rt: &impl Abort, alloc: Global, command: OnOne, rows: &[u8]) -> Result<(), Fail>
-    requires within { IsOneWithin command }
-{
+pub fn assert_one(rt: &impl Abort, alloc: Global, command: OnOne, rows: &[u8]) -> Result<(), Fail> {
     for row in shown(rows).split('%') {
         let (text, wanted) = row.split_once('|').ok_or("no row")?;
         let told = one(alloc, command, text)?;

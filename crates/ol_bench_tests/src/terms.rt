@@ -1,6 +1,5 @@
 //! Commands on a text with a term: where a byte stands, where a text stops being a term, which names
 //! are free, what a normal form encodes, and the tree of a term.
-ghost use Rattle.ol_bench.specs.Commands.{IsOneWithin};
 
 use crate::rows::assert_one;
 use ol_bench::OnOne;
@@ -61,9 +60,7 @@ fn a_normal_form_is_decoded(rt: HostRuntime) -> Result<(), Fail> {
     assert_one(&rt, rt.alloc(), command, rows)
 }
 
-fn tree(depth: u32) -> OnOne
-    ensures { IsOneWithin result }
-{
+fn tree(depth: u32) -> OnOne {
     OnOne::Tree {
         translation: Translation::Two,
         depth,

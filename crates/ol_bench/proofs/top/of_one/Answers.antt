@@ -4,13 +4,15 @@ use Rattle.ol_bench.specs.Commands.{content_of}
 use Rattle.ol_bench.proofs.Onward.{one_not_read, one_read}
 use Rattle.ol_bench.proofs.top.of_one.Goals as goal
 
-pub answer-requires-clause-short : goal.answer-requires-clause-short
-answer-requires-clause-short g c =
+pub answer-requires : goal.answer-requires
+answer-requires g c =
     let e = c.in-Ok.ensures in
     let short = (e.whole (λ n. g.S.Source.contents c.args.src.now) e.told).1 in
-    subst (λ (bytes : List ℕ). length bytes ≤ most_of (content_of c.args.command))
-    (sym c.deref.ensures.value)
-    (subst (λ content. length c.in-Ok.bytes.items ≤ most_of content) c.content-content.ensures short)
+    record {
+      short = subst (λ (bytes : List ℕ). length bytes ≤ most_of (content_of c.args.command))
+          (sym c.deref.ensures.value)
+          (subst (λ content. length c.in-Ok.bytes.items ≤ most_of content) c.content-content.ensures short);
+    }
 
 pub returns-in_ok-answer-in-Err-clause-caused : goal.returns-in_ok-answer-in-Err-clause-caused
 returns-in_ok-answer-in-Err-clause-caused g c = λ files of.
