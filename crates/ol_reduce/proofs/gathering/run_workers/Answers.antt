@@ -10,5 +10,5 @@ gather-seat-requires-clause-workers g c =
     let rest = drop (length back) c.in_ok-hired.hired.items in
     let all : length back ≡ c.in_ok-hired.hired.len = search in
     let same : take c.in_ok-hired.hired.len (back ++ rest) ≡ back =
-        ap (λ n. take n (back ++ rest)) (sym all) ∙ take-append_seam back rest in
+    ap (λ n. take n (back ++ rest)) (sym all) ∙ take-append_seam back rest in
     subst (All (IsPadded (IsEnded c.in_ok-shared.shared))) (sym same) c.run.ensures.ended
