@@ -1,6 +1,6 @@
 """Refuses each allocation of the program in turn, one a run, and looks at what it writes and how it ends.
 
-    tests/run refused-memory [--program PATH] [--jobs N]
+    tests/run refused-memory [--jobs N]
 
 Each command below is run once for its first allocation, once for its second, and so on until a run has none left to refuse. Every run has
 to write its whole text and end with its status, or to write nothing and end with status 6. A table says for each command how many
@@ -104,10 +104,9 @@ def try_command(runner, jobs, words, given, text, status):
 
 def main(words):
     asked = asking.parser(__doc__)
-    asked.add_argument("--program", metavar="PATH", help="a built program")
     asked.add_argument("--jobs", type=asking.positive, default=os.cpu_count(), metavar="N", help="how many runs side by side")
     asked = asked.parse_args(words)
-    program = which_ol.found(named=asked.program)
+    program = which_ol.found()
     if not shutil.which("cc"):
         sys.exit("tests/run refused-memory wants a C compiler, `cc`, and finds none")
     failed = refused_all = 0

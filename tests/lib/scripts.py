@@ -5,7 +5,7 @@
 Each Python file has to compile, to use each name that it imports, and to have each name that it uses. `shellcheck`, where it is on this
 machine, has to find nothing in a shell script. Each script is called with a word that it doesn't know, `--no-such-word`: its status has to
 be another than 0, and its answer no error of Python's. And `vectors/check` is called with right and wrong runtimes: status and last lines
-have to be as they are here. The last line is 'N passed, M failed'.
+have to be as they are here. All scripts outside crates/ together may have 6,000 lines. The last line is 'N passed, M failed'.
 """
 import ast
 import builtins
@@ -19,7 +19,7 @@ import progress
 import summing
 from which_ol import TOP
 
-FOLDERS = ("", ".ci", "scripts", "tests", "tests/lib", "tests/vectors", "tests/faults", "docs/audit", "examples")
+MOST_LINES = 6_000
 # These hand their words on, or take any.
 TAKE_ALL = ("ol", "ol-bench", ".ci/run", "scripts/start", "scripts/build-unproved")
 BAD_WORD = "--no-such-word"
@@ -53,17 +53,17 @@ CALLS = [
 
 
 def scripts():
-    """The scripts, each as its path from the top and its first line."""
-    for folder in FOLDERS:
-        for name in sorted(os.listdir(os.path.join(TOP, folder))):
-            path = os.path.join(folder, name)
-            whole = os.path.join(TOP, path)
-            if not os.path.isfile(whole):
-                continue
-            with open(whole, "rb") as file:
-                first = file.readline().decode("utf-8", "replace")
-            if name.endswith(".py") or first.startswith("#!"):
-                yield path, first
+    """The scripts outside crates/, each as its path from the top and its lines."""
+    listed = subprocess.run(["git", "ls-files", "-co", "--exclude-standard", ":!crates"], cwd=TOP, stdout=subprocess.PIPE, check=True, text=True)
+    for path in filter(lambda path: os.path.isfile(os.path.join(TOP, path)), listed.stdout.splitlines()):
+        with open(os.path.join(TOP, path), encoding="utf-8", errors="replace") as file:
+            lines = file.readlines()
+        if path.endswith(".py") or lines and lines[0].startswith("#!"):
+            yield path, lines
+
+
+def size_faults(count):
+    return [f"the scripts outside crates/ have {count} lines, and may have {MOST_LINES}"] * (count > MOST_LINES)
 
 
 def names_in(tree):
@@ -121,8 +121,10 @@ def told_faults(call):
 
 def cases():
     """Each thing to look at: a function, and the path or the call that it is given."""
-    for path, first in scripts():
-        yield (python_faults if "python" in first or path.endswith(".py") else shell_faults), path
+    found = dict(scripts())
+    yield size_faults, sum(map(len, found.values()))
+    for path, lines in found.items():
+        yield (python_faults if "python" in lines[0] or path.endswith(".py") else shell_faults), path
         if os.access(os.path.join(TOP, path), os.X_OK) and path not in TAKE_ALL:
             yield call_faults, [path]
     for name in subprocess.run([RUN], stderr=subprocess.PIPE, text=True).stderr.splitlines()[1].split():
