@@ -118,9 +118,9 @@ def translated(term):
     return netfiles.write(READER["Translation"](READER["Reader"](term).whole()).file())
 
 
-def in_table():
-    """The rows of hostile.txt."""
-    with open(os.path.join(which_ol.TOP, "tests", "lib", "hostile.txt"), encoding="utf-8") as file:
+def in_table(name):
+    """The rows of a text beside this script."""
+    with open(os.path.join(which_ol.TOP, "tests", "lib", name), encoding="utf-8") as file:
         lines = [line for line in file.read().splitlines() if line and line[0] != "#"]
     for line in lines:
         status, words, given, text, name = (part.strip(" ") for part in (line + " ").split("| "))
@@ -378,7 +378,7 @@ def main(words):
     asked.add_argument("--only", default="", metavar="WORD", help="only the rows that have this word")
     only = asked.parse_args(words).only
     programs = [which_ol.found(), which_ol.found("ol-bench")]
-    groups = [in_table(), of_options(), terms_at_limits(), deep_terms(), deep_terms(stack=1 << 20), nets(), comparisons(), certificates(),
+    groups = [in_table("hostile.txt"), of_options(), terms_at_limits(), deep_terms(), deep_terms(stack=1 << 20), nets(), comparisons(), certificates(),
               bad_files_and_words()]
     told = []
     with tempfile.TemporaryDirectory() as name:
