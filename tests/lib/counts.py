@@ -23,8 +23,7 @@ import random_terms
 
 # How many steps are counted by substitution, how large a term and a label may become, and how far the machine goes.
 MOST_STEPS, MOST_SIZE, MOST_LETTERS, MOST_PLACES = 150, 2_000, 20_000, 1_000
-ORDERS = ["leftmost", "applicative", "need", "families"]
-COLUMNS = ["counts", "--no-run", "--no-demand", "--applicative", "--need", "--families", "--most", MOST_STEPS, "--moves", 100_000]
+COLUMNS = ["counts", "--no-run", "--no-demand", "--need", "--most", MOST_STEPS, "--moves", 100_000]
 
 
 class TooMany(Exception):
@@ -216,14 +215,15 @@ class Machine:
 
 
 def counted(term):
-    """What the program's columns have to be: None for a hyphen. A column isn't there where this script gives up."""
+    """What the program's columns have to be: None for a hyphen. A column isn't there where this script gives up, and families only where
+    the leftmost reduction ends."""
     found = {}
     for titles, count in ((["leftmost", "families"], leftmost), (["applicative"], lambda term: [applicative(term)]),
                           (["need"], lambda term: [Machine(True, MOST_PLACES).normal(term)])):
         try:
             found.update(zip(titles, count(term)))
         except TooMany:
-            found.update(dict.fromkeys(titles))
+            found[titles[0]] = None
         except TooLarge:
             pass
     return found
@@ -245,8 +245,9 @@ def main(words):
     def faults(term, chance):
         tree = random_terms.read(term.text)
         own = counted(tree)
-        steps, families = own.get("leftmost"), own.get("families")
-        told = []
+        if "leftmost" not in own:
+            return None
+        steps, families, told = own["leftmost"], own.get("families"), []
         if steps is not None:
             sums.update(terms=1, steps=steps, families=families, fewer=families < steps)
             if Machine(False, MOST_SIZE).normal(tree) != steps:
@@ -255,13 +256,14 @@ def main(words):
                 status, text = term.ol("demand", "--translation", translation, "--heads", 100_000, term.file)
                 if (status, text.split("\n")[1:2]) != (0, [f"beta {families}"]):
                     told.append(f"translation {translation}: {text.split()[1:3]} with status {status}, and {families} families")
-        status, table = term.bench(*COLUMNS, term.file)
+        shown = [f"--{title}" for title in ("applicative", "families") if title in own]
+        status, table = term.bench(*COLUMNS, *shown, term.file)
         found = columns(table)
         told += [f"{title}: {found.get(title)}, and {number} is counted" for title, number in own.items()
                  if title not in found or found[title] != number]
-        if set(found) != set(ORDERS) or status != (1 if None in found.values() else 0):
+        if set(found) != {*own, "need"} or status != (1 if None in found.values() else 0):
             told.append(f"columns {' '.join(found)} with status {status}")
-        return told if own else None
+        return told
 
     def told_last():
         print("{terms} terms whose leftmost reduction is short: {steps} steps of {families} families; {fewer} have fewer".format_map(sums))
