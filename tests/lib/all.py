@@ -12,7 +12,8 @@ import summing
 from which_ol import TOP
 
 RANDOM = ["counts", "journals", "explains", "sames", "objects"]
-SHORT = ["scripts", "first-answer", "pages", "examples", "vectors/check", "bench", "library", *(f"{it} --terms 60" for it in RANDOM)]
+SHORT = ["scripts", "first-answer", "pages", "examples", "vectors/check", "bench", "library", "counts --terms 120",
+         *(f"{it} --terms 60" for it in RANDOM[1:])]
 LONG = ["hostile", "refused-memory", "workers", *RANDOM, "faults/many", "speed"]
 
 

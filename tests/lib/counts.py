@@ -268,4 +268,4 @@ def main(words):
     def told_last():
         print("{terms} terms whose leftmost reduction is short: {steps} steps of {families} families; {fewer} have fewer".format_map(sums))
 
-    return random_terms.try_terms(__doc__, words, faults, draw, told_last, 5_000)
+    return random_terms.try_terms(__doc__, words, faults, draw, told_last, 5_200)

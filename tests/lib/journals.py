@@ -50,7 +50,7 @@ def played(view, fuel):
 def round_faults(term, view, fuel):
     got = term.bench("journal", "--order", "rounds", "--fuel", fuel, term.file)
     rounds, ended = played(view, fuel)
-    COUNTS.update(pairs=sum(map(len, rounds)), rounds=len(rounds), spent=not ended)
+    COUNTS.update(pairs=sum(map(len, rounds)), rounds=len(rounds), spent=int(not ended))
     wanted = "ol trace 2\n" + "".join(line + "\n" for lines in rounds for line in lines)
     if got != (0 if ended else 1, wanted):
         yield f"{got!r}, not {wanted!r}"
