@@ -296,25 +296,15 @@ CLAUSE = re.compile(r"(?:\s|//[^\n]*\n)*(ghost|requires|ensures)\b\*?\s*(\w+)?\s
 
 
 def clauses_of(text, at):
-    """The clauses that begin at this place: name -> text. A clause without a name has a number."""
-    clauses = {}
-    while True:
-        found = CLAUSE.match(text, at)
-        if not found:
-            return clauses
+    """The clauses that begin at this place, name -> text, where a clause without a name has a number; and the names that only a `requires`
+    has: what a caller has to keep, and no clause."""
+    clauses, kinds = {}, collections.defaultdict(set)
+    while found := CLAUSE.match(text, at):
         at = balanced(text, found.end() - 1)
-        clauses[found.group(2) or str(len(clauses))] = text[found.end():at - 1]
-
-
-def premises_of(text, at):
-    """The names that only a `requires` has which begins at this place: what a caller has to keep, and no clause."""
-    names = collections.defaultdict(set)
-    while True:
-        found = CLAUSE.match(text, at)
-        if not found:
-            return names['requires'] - names['ensures']
-        at = balanced(text, found.end() - 1)
-        names[found.group(1)].add(found.group(2))
+        name = found.group(2) or str(len(clauses))
+        clauses[name] = text[found.end():at - 1]
+        kinds[found.group(1)].add(name)
+    return clauses, kinds['requires'] - kinds['ensures']
 
 
 Function = collections.namedtuple('Function', 'name public signature clauses premises')
@@ -399,7 +389,7 @@ class Source:
                 public = bool(start.group(1)) and start.group(2) in handed
             signature = around[-1][2] + head if around else head
             at = first.start()
-            found.append(Function(start.group(2), public, signature, clauses_of(self.text, at), premises_of(self.text, at)))
+            found.append(Function(start.group(2), public, signature, *clauses_of(self.text, at)))
         return found
 
 

@@ -11,8 +11,9 @@ import asking
 import summing
 from which_ol import TOP
 
-RANDOM = ["families", "strategies", "afters", "explains", "sames", "objects", "rounds"]
-SHORT = ["scripts", "first-answer", "pages", "examples", "vectors/check", "bench", "library", "bugs", *(f"{it} --terms 60" for it in RANDOM)]
+RANDOM = ["counts", "journals", "explains", "sames", "objects"]
+SHORT = ["scripts", "first-answer", "pages", "examples", "vectors/check", "bench", "library", "counts --terms 120",
+         *(f"{it} --terms 60" for it in RANDOM[1:])]
 LONG = ["hostile", "refused-memory", "workers", *RANDOM, "faults/many", "speed"]
 
 

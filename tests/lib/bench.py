@@ -42,7 +42,7 @@ def helps(program):
 
 
 def main(words):
-    asked = pages.words_for(__doc__, words)
+    asked = pages.words_for(__doc__, words, "SESSION")
     programs = {name: which_ol.found(name) for name in which_ol.VARIABLES}
     named = asked.pages or sorted(glob.glob(os.path.join(TOP, "tests", "sessions", "*.session")))
     found = [pages.read(os.path.realpath(it), commands) for it in named]

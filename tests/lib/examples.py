@@ -1,52 +1,35 @@
 """Runs each term file of examples/ and compares what is printed with the file beside it.
 
-    tests/run examples [--write] [NAME ..]
+    tests/run examples [--write] [FILE ..]
 
 A term file NAME.lam says in its first lines how it is run, as `# ol run NAME.lam`. NAME.out has what that prints, and a line `[status N]`
 where the status isn't 0. With --write the files NAME.out are made. The last line is 'N passed, M failed'.
 """
+import glob
+import itertools
 import os
 
-import asking
 import pages
-import progress
-import summing
 import which_ol
 
-FOLDER = os.path.join(which_ol.TOP, "examples")
+
+def commands(term):
+    """The commands at the head of a term file, as a single one. Without a command it fails."""
+    with open(term, encoding="utf-8") as file:
+        lines = list(itertools.takewhile(lambda line: line.startswith("# ol "), file))
+    return "cd examples\n" + ("\n".join(f"{line[2:].strip()} || echo [status $?]" for line in lines) or "false")
 
 
-def printed(environment, path):
-    """What the commands at the head of a term file print."""
-    found = []
-    with open(path, encoding="utf-8") as file:
-        for line in file:
-            if not line.startswith("# ol "):
-                break
-            found += pages.printed(line[2:], FOLDER, environment)
-    return "".join(line + "\n" for line in found)
+def page(term, is_new):
+    """The file beside a term file, as a page."""
+    path = os.path.realpath(term).removesuffix(".lam") + ".out"
+    if is_new and not os.path.exists(path):
+        open(path, "x", encoding="utf-8").close()
+    text = commands(term)
+    return pages.read(path, lambda lines: [[pages.Command(0, text, 0, len(lines) - 1, "")]])
 
 
 def main(words):
-    asked = asking.parser(__doc__)
-    asked.add_argument("--write", action="store_true", help="make the files NAME.out")
-    asked.add_argument("names", nargs="*", metavar="NAME")
-    asked = asked.parse_args(words)
-    names = [name.removesuffix(".lam") for name in asked.names]
-    names = names or sorted(name.removesuffix(".lam") for name in os.listdir(FOLDER) if name.endswith(".lam"))
-    failed = 0
-    with pages.place_for({"ol": which_ol.found()}) as (_, environment):
-        answers = progress.in_pool(lambda name: printed(environment, os.path.join(FOLDER, name + ".lam")), names)
-    for name, got in zip(names, answers):
-        beside = os.path.join(FOLDER, name + ".out")
-        if asked.write:
-            with open(beside, "w", encoding="utf-8") as file:
-                file.write(got)
-        wanted = ""
-        if os.path.exists(beside):
-            with open(beside, encoding="utf-8") as file:
-                wanted = file.read()
-        if not got or got != wanted:
-            failed += 1
-            print(f"{name}: wanted\n{wanted}{name}: got\n{got}", end="")
-    return summing.told(summing.Sum(len(names) - failed, failed))
+    asked = pages.words_for(__doc__, words, "FILE")
+    named = asked.pages or sorted(glob.glob(os.path.join(which_ol.TOP, "examples", "*.lam")))
+    return pages.try_pages(asked, [page(it, asked.write) for it in named], {"ol": which_ol.found()})

@@ -1,57 +1,41 @@
-"""The runtime beside this script, with one of eight faults (docs/runtimes/DIAGNOSE.md).
+"""A script of tests/faults with a fault (docs/runtimes/DIAGNOSE.md).
 
     tests/run faults/broken FAULT [--seed S] [--net | --after L] < NET
+    tests/run faults/broken FAULT [--start] < TERM
     tests/run faults/broken --show FAULT
 
-A fault is another line in the place of one line of the runtime; --show writes the two.
+tests/faults/faults.txt has the faults and their scripts. A fault is another line in the place of a line; --show writes the two.
 """
 import os
 import sys
 
 from made_from import TOP
 
-RUNTIME = os.path.join(TOP, "tests", "faults", "runtime")
-
-FAULTS = {
-    "claim": ("taken = self.waiting.pop(pair, False)",
-              "taken = self.waiting.get(pair, False); yield; self.waiting.pop(pair, False)"),
-    "order": ("lines = [line for _, line in sorted(self.lines)]",
-              "lines = [line for _, line in self.lines]"),
-    "name": ("self.names.append(name)",
-             "self.names.append((-1, len(self.names)))"),
-    "partner": ("if one[1] == other[1] == 0 and one[0] >= 0 and other[0] >= 0:",
-                "if one[1] == 0:"),
-    "equal": ('if i < j and k in SHIFT and l != "eraser":',
-              'if i <= j and k in SHIFT and l != "eraser":'),
-    "index": ("if i == j and k == l and k in SHIFT:",
-              "if k == l and k in SHIFT:"),
-    "wave": ("weight = max([wave] + [self.weights[port] for port in (one, other) if port[0] in pair])",
-             "weight = max(wave, self.weights[other])"),
-    "wires": ("self.link((of_f[q], p), (of_g[p], q), wave)",
-              "self.link((of_f[q], SLOTS[k] - p), (of_g[p], q), wave)"),
-}
+FOLDER = os.path.join(TOP, "tests", "faults")
 
 
-def planted(path, edits):
-    """The text of a script with other lines in place of some: pairs of a line that stands there once, and the other one."""
-    with open(path, encoding="utf-8") as file:
-        lines = file.read().split("\n")
-    for right, wrong in edits:
-        place, = (number for number, line in enumerate(lines) if line.strip() == right)
-        lines[place] = lines[place].replace(right, wrong)
-    return "\n".join(lines)
+def read(name):
+    with open(os.path.join(FOLDER, name), encoding="utf-8") as file:
+        return file.read()
 
 
-def names_in(path, edits=(), main="planted"):
-    """The functions and classes of a script with these lines in it."""
+# By the name of a fault its script, and its lines, a right one and the wrong one after it.
+FAULTS = {}
+for _head, *_lines in (section.splitlines() for section in read("faults.txt").strip().split("\n\n")[1:]):
+    _name, _script = _head.split(":")[0].split()
+    FAULTS[_name] = _script, _lines
+
+
+def names_in(script, lines=(), main="planted"):
+    """The functions and classes of a script with these lines, each of which the script has once."""
+    text = read(script).split("\n")
+    for right, wrong in zip(lines[::2], lines[1::2]):
+        place, = (number for number, line in enumerate(text) if line.strip() == right[2:])
+        text[place] = text[place].replace(right[2:], wrong[2:])
+    path = os.path.join(FOLDER, script)
     names = {"__name__": main, "__file__": path}
-    exec(compile(planted(path, edits), path, "exec"), names)
+    exec(compile("\n".join(text), path, "exec"), names)
     return names
-
-
-def names_of(fault, main="planted"):
-    """Those of the runtime, with this fault, or with none where it is None."""
-    return names_in(RUNTIME, [FAULTS[fault]] if fault else [], main)
 
 
 def main(words):
@@ -60,8 +44,8 @@ def main(words):
         print(f"{__doc__}\nFAULT is one of: {' '.join(FAULTS)}", file=sys.stderr)
         return 2
     if words[0] == "--show":
-        print("- {}\n+ {}".format(*FAULTS[fault]))
+        print("\n".join(FAULTS[fault][1]))
         return 0
     sys.argv[1:] = words[1:]
-    names_of(fault, "__main__")
+    names_in(*FAULTS[fault], "__main__")
     return 0

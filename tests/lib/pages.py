@@ -157,10 +157,10 @@ def try_pages(asked, found, programs):
     return summing.told(summing.Sum(passed, failed))
 
 
-def words_for(text, words):
+def words_for(text, words, kind="PAGE"):
     asked = asking.parser(text)
     asked.add_argument("--write", action="store_true", help="put what is printed into the files")
-    asked.add_argument("pages", nargs="*", metavar="PAGE")
+    asked.add_argument("pages", nargs="*", metavar=kind)
     return asked.parse_args(words)
 
 

@@ -2,7 +2,7 @@
 import faults_broken
 import netfiles
 
-NAMES = faults_broken.names_of(None)
+NAMES = faults_broken.names_in("runtime")
 Runtime = NAMES["Runtime"]
 
 

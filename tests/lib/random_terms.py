@@ -1,25 +1,81 @@
-"""The frame of the scripts that compare the programs with code of their own on random terms: the words, the terms, the calls, the sums."""
+"""The frame of the scripts that compare the programs with code of their own on random terms: the words, the terms, the calls, the sums.
+
+A term is a tuple: ("name", text), a name that nothing binds; ("variable", k), bound by the k-th abstraction outwards,
+counted from 0; ("abstraction", body); or ("application", function, argument).
+"""
 import contextlib
 import os
 import random
 import subprocess
+import sys
 import tempfile
 
 import asking
+import faults_broken
 import progress
 import summing
-import terms
 import which_ol
+
+READER = faults_broken.names_in("reader")
+sys.setrecursionlimit(20_000)
+
+
+def nameless(term, scope=()):
+    """A term of tests/faults/reader with its variables counted."""
+    if term[0] == "variable":
+        return ("variable", scope.index(term[1])) if term[1] in scope else ("name", term[1])
+    if term[0] == "abstraction":
+        return ("abstraction", nameless(term[2], (term[1], *scope)))
+    return ("application", *(nameless(part, scope) for part in term[1:]))
+
+
+def read(text):
+    return nameless(READER["Reader"](text).whole())
+
+
+def text_of(term, depth=0):
+    """A text of the term: the variable of the abstraction at depth d is named xd."""
+    if term[0] == "name":
+        return term[1]
+    if term[0] == "variable":
+        return f"x{depth - 1 - term[1]}"
+    if term[0] == "abstraction":
+        return f"(\\x{depth}. {text_of(term[1], depth + 1)})"
+    return f"({text_of(term[1], depth)} {text_of(term[2], depth)})"
+
+
+def drawn(chance, size, depth=0):
+    """A random term of about this many constructors, under so many abstractions."""
+    if size <= 1:
+        is_bound = depth and chance.random() < 0.9
+        return ("variable", chance.randrange(depth)) if is_bound else ("name", chance.choice("fgh"))
+    if size == 2 or chance.random() < 0.4:
+        return ("abstraction", drawn(chance, size - 1, depth + 1))
+    first = chance.randint(1, size - 2)
+    return ("application", drawn(chance, first, depth), drawn(chance, size - 1 - first, depth))
+
+
+COMBINATORS = [read(text) for text in (
+    r"\x. x", r"\x y. x", r"\x y z. x z (y z)", r"\x y z. x (y z)", r"\x y z. x z y", r"\x. x x", r"\f x. f (f x)",
+    r"\f x. f (f (f x))", r"\a b s. s a b", r"\n f x. f (n f x)", r"\m n f x. m f (n f x)", r"\f. f a (f b)", "c")]
+
+
+def combined(chance, leaves):
+    """Random applications of so many combinators, in which more is shared than in a term of `drawn`."""
+    if leaves == 1:
+        return chance.choice(COMBINATORS)
+    first = chance.randint(1, leaves - 1)
+    return ("application", combined(chance, first), combined(chance, leaves - first))
 
 
 def kind_of(chance, largest=12):
     """A way to draw a term, and the greatest size by it."""
-    return chance.choice([(terms.drawn, largest), (terms.combined, 5)])
+    return chance.choice([(drawn, largest), (combined, 5)])
 
 
 def written(chance, draw, size):
     """The text of a term that is drawn in that way."""
-    return terms.written(draw(chance, chance.randint(2, size)))
+    return text_of(draw(chance, chance.randint(2, size)))
 
 
 @contextlib.contextmanager

@@ -1,6 +1,6 @@
 """Refuses each allocation of the program in turn, one a run, and looks at what it writes and how it ends.
 
-    tests/run refused-memory [--program PATH] [--jobs N]
+    tests/run refused-memory [--jobs N]
 
 Each command below is run once for its first allocation, once for its second, and so on until a run has none left to refuse. Every run has
 to write its whole text and end with its status, or to write nothing and end with status 6. A table says for each command how many
@@ -23,37 +23,11 @@ import tempfile
 import asking
 import summing
 import which_ol
-from hostile import USAGE, counted, lines_of
+from hostile import LIMIT, TOO_DEEP, Row, in_table
 
+TERM = r"(\x. x) (\y. y)"
 TRACE = "ol trace 2\nbeta 1 0 1\ncross-croissant 2 2 3\ncross-croissant 3 4 1.1\ncroissant 4 1.0 2.0\n"
-NET = "ol net 1\nfree 2\nnode lam 0\nnode app 0\nnode croissant 0\nlink f0 0.0\nlink f1 2.0\nlink 0.1 1.1\nlink 0.2 1.2\nlink 1.0 2.1\n"
-
-
-# Each command: its words, what it reads from standard input, the text that it is to write, and its status.
-COMMANDS = [
-    (["run", "--workers", "2", "-"], r"(\x. x x) (\y. y)", counted(r"\a. a", [2, 1, 2, 0, 2, 4, 0, 0, 0]), 0),
-    (["run", "--translation", "1", "-"], r"(\x. x x) (\y. y)", counted(r"\a. a", [2, 1, 3, 1, 2, 6, 2, 0, 0]), 0),
-    (["run", "--fuel", "3", "-"], r"(\x. x x) (\y. y)", "fuel 3\n", 3),
-    (["run", "term"], "", counted(r"\a. a", [1, 0, 1, 0, 0, 2, 0, 0, 0]), 0),
-    (["walk", "-"], r"(\x. x x) (\y. y)", "\\a. a\n", 0),
-    (["view", "--after", "1", "-"], r"(\x. x) (\y. y)",
-     "step 1\nnodes 3\nf0 2.1\n2 croissant 0 3.0 f0\n3 lam 1 2.0 4.1 4.0\n4 croissant 1 3.2 3.1\n", 0),
-    (["trace", "--workers", "2", "-"], r"(\x. x) (\y. y)", TRACE, 0),
-    (["check", "term", "journal"], "", "complete\n", 0),
-    (["check", "term", "-"], TRACE[:TRACE.rindex("croissant")], "run 3\n", 0),
-    (["gen", "1"], "", "(((\\x. x x) (\\y. y)) ((\\x. x x) (\\y. y)))\n", 0),
-    (["gen", "--run", "0"], "", counted(r"\a. a", [2, 1, 2, 0, 2, 4, 0, 0, 0]), 0),
-    (["demand", "-"], r"(\x y. x) (\z. z) ((\x. x x) (\x. x x))", counted(r"\a. a", [2, 0, 1, 0, 0, 2, 0, 0, 0]), 0),
-    (["certify", "-"], r"(\x. x x) (\y. y)", "agreed\nsteps 2\n.\n.\n", 0),
-    (["net", "--from-term", "-"], r"\x. f x", NET, 0),
-    (["net", "-"], NET, lines_of() + NET, 0),
-    (["equal", "term", "-"], r"\z. z", "equal\n", 0),
-    (["run", "-"], "x $ y", "syntax at byte 2\n", 2),
-    (["run", "-"], r"\x. " * 1000 + "x", "limit depth 1000\n", 7),
-    (["run", "no such file"], "", "read fault\n", 4),
-    (["run", "a", "b"], "", USAGE, 1),
-    (["gen", "--run", "10"], "", counted(r"\a. a", [3071, 1024, 3071, 0, 2048, 6142, 0, 0, 0]), 0),
-]
+COMMANDS = [Row("1,001 deep", ["run", "-"], TOO_DEEP, LIMIT, r"\x. " * 1000 + "x"), *in_table("refused.txt")]
 
 # Of the last command, how many refusals at least have to leave the whole text: the deque of each of four hands has to grow.
 GROWTHS = 4
@@ -104,23 +78,23 @@ def try_command(runner, jobs, words, given, text, status):
 
 def main(words):
     asked = asking.parser(__doc__)
-    asked.add_argument("--program", metavar="PATH", help="a built program")
     asked.add_argument("--jobs", type=asking.positive, default=os.cpu_count(), metavar="N", help="how many runs side by side")
     asked = asked.parse_args(words)
-    program = which_ol.found(named=asked.program)
+    program = which_ol.found()
     if not shutil.which("cc"):
         sys.exit("tests/run refused-memory wants a C compiler, `cc`, and finds none")
     failed = refused_all = 0
     with tempfile.TemporaryDirectory() as folder:
         code, wrapper = os.path.join(which_ol.TOP, "tests", "lib", "refused_memory.c"), f"{folder}/wrapper.so"
         subprocess.run(["cc", "-O1", "-shared", "-fPIC", "-o", wrapper, code, "-ldl"], check=True)
-        pathlib.Path(f"{folder}/term").write_text(r"(\x. x) (\y. y)")
+        pathlib.Path(f"{folder}/term").write_text(TERM)
         pathlib.Path(f"{folder}/journal").write_text(TRACE)
         runner = Runner(folder, program, wrapper)
         print(f"{'refused':>8} {'whole text':>10} {'status 6':>8}  command")
-        for words, given, text, status in COMMANDS:
-            refused, well, faults = try_command(runner, asked.jobs, words, given, text, status)
-            if words == COMMANDS[-1][0] and well < GROWTHS:
+        for row in COMMANDS:
+            words, given = row.words, row.given or ""
+            refused, well, faults = try_command(runner, asked.jobs, words, given, row.text, row.status)
+            if row is COMMANDS[-1] and well < GROWTHS:
                 faults.append(f"{well} refusals left the whole text, and those of {GROWTHS} deques have to")
             refused_all += refused
             failed += bool(faults)

@@ -4,8 +4,8 @@
 
 Each Python file has to compile, to use each name that it imports, and to have each name that it uses. `shellcheck`, where it is on this
 machine, has to find nothing in a shell script. Each script is called with a word that it doesn't know, `--no-such-word`: its status has to
-be another than 0, and its answer no error of Python's. And `vectors/check` is called with right and wrong runtimes: status and last lines
-have to be as they are here. The last line is 'N passed, M failed'.
+be another than 0, and its answer no error of Python's. All scripts outside crates/ together may have 6,000 lines. The last line is
+'N passed, M failed'.
 """
 import ast
 import builtins
@@ -19,51 +19,25 @@ import progress
 import summing
 from which_ol import TOP
 
-FOLDERS = ("", ".ci", "scripts", "tests", "tests/lib", "tests/vectors", "tests/faults", "docs/audit", "examples")
+MOST_LINES = 6_000
 # These hand their words on, or take any.
 TAKE_ALL = ("ol", "ol-bench", ".ci/run", "scripts/start", "scripts/build-unproved")
 BAD_WORD = "--no-such-word"
 RUN = os.path.join(TOP, "tests", "run")
 
-# The term of the first record of the vectors is `x`. These commands take it, or its net, for a runtime.
-NO_COUNTS = "fan 0\\ncroissant 0\\nbracket 0\\ncross-fan 0\\ncross-croissant 0\\ncross-bracket 0\\nerase 0\\nstuck 0\\n"
-NET_OF_X = "ol net 1\\nfree 2\\nnode croissant 0\\nlink f0 0.1\\nlink f1 0.0\\n"
-CHECK = "vectors/check"
-
-# Calls: the words, the status, and the last lines of what is written.
-CALLS = [
-    ([CHECK, "--every", "5000", "--terms", f"printf 'x\\nbeta 0\\n{NO_COUNTS}'"], 0, "1 passed, 0 failed\n"),
-    ([CHECK, "--every", "5000", "--terms", f"printf 'x\\nbeta 1\\n{NO_COUNTS}'"], 1,
-     "x: different at `beta 1` and `beta 0`\n0 passed, 1 failed\n"),
-    ([CHECK, "--every", "5000", "--terms", "cat"], 1, "x: different at `no line` and `beta 0`\n0 passed, 1 failed\n"),
-    ([CHECK, "--every", "300", "--start", f"printf '{NET_OF_X}'"], 0, "1 passed, 0 failed\n"),
-    ([CHECK, "--every", "300", "--start", f"printf '{NET_OF_X}' | sed s/croissant/bracket/"], 1,
-     "x: different at f0, in by slot 1: bracket 0 and croissant 0\n0 passed, 1 failed\n"),
-    ([CHECK, "--every", "300", "--start", "exit 3"], 1, "x: status 3\n0 passed, 1 failed\n"),
-    ([CHECK, "--every", "5000", "--runtime", "cat"], 0, "1 passed, 0 failed\n"),
-    ([CHECK, "--every", "5000", "--runtime", "sed s/croissant/knot/"], 1,
-     "x, translation 1: line 3 is none of a net: `node knot 0`\n0 passed, 1 failed\n"),
-    ([CHECK, "--every", "5000", "--runtime", "sed /croissant/d"], 1,
-     "x, translation 1: 0.0 is no port\n0 passed, 1 failed\n"),
-    ([CHECK, "--every", "5000", "--runtime", "tail -n 1"], 1,
-     "x, translation 1: no line is `ol net 1`, and the first one isn't `step S`\n0 passed, 1 failed\n"),
-    ([CHECK, "--every", "700", "--journals", "echo ol trace 1"], 0, "1 passed, 0 failed\n"),
-    ([CHECK, "--every", "700", "--journals", "echo"], 1, "x, translation 1: bad text at line 1\n0 passed, 1 failed\n"),
-]
-
 
 def scripts():
-    """The scripts, each as its path from the top and its first line."""
-    for folder in FOLDERS:
-        for name in sorted(os.listdir(os.path.join(TOP, folder))):
-            path = os.path.join(folder, name)
-            whole = os.path.join(TOP, path)
-            if not os.path.isfile(whole):
-                continue
-            with open(whole, "rb") as file:
-                first = file.readline().decode("utf-8", "replace")
-            if name.endswith(".py") or first.startswith("#!"):
-                yield path, first
+    """The scripts outside crates/, each as its path from the top and its lines."""
+    listed = subprocess.run(["git", "ls-files", "-co", "--exclude-standard", ":!crates"], cwd=TOP, stdout=subprocess.PIPE, check=True, text=True)
+    for path in filter(lambda path: os.path.isfile(os.path.join(TOP, path)), listed.stdout.splitlines()):
+        with open(os.path.join(TOP, path), encoding="utf-8", errors="replace") as file:
+            lines = file.readlines()
+        if path.endswith(".py") or lines and lines[0].startswith("#!"):
+            yield path, lines
+
+
+def size_faults(count):
+    return [f"the scripts outside crates/ have {count} lines, and may have {MOST_LINES}"] * (count > MOST_LINES)
 
 
 def names_in(tree):
@@ -110,25 +84,16 @@ def call_faults(words):
     return []
 
 
-def told_faults(call):
-    """What is wrong with the answer to one of the calls above."""
-    words, status, last = call
-    ran = subprocess.run([RUN, *words], stdin=subprocess.DEVNULL, stdout=subprocess.PIPE, text=True, errors="replace", timeout=600)
-    if ran.returncode == status and ran.stdout.endswith(last):
-        return []
-    return [f"{' '.join(words)}: status {ran.returncode}, wanted {status}, with the last lines", *last.splitlines(), "got", *ran.stdout.splitlines()]
-
-
 def cases():
     """Each thing to look at: a function, and the path or the call that it is given."""
-    for path, first in scripts():
-        yield (python_faults if "python" in first or path.endswith(".py") else shell_faults), path
+    found = dict(scripts())
+    yield size_faults, sum(map(len, found.values()))
+    for path, lines in found.items():
+        yield (python_faults if "python" in lines[0] or path.endswith(".py") else shell_faults), path
         if os.access(os.path.join(TOP, path), os.X_OK) and path not in TAKE_ALL:
             yield call_faults, [path]
     for name in subprocess.run([RUN], stderr=subprocess.PIPE, text=True).stderr.splitlines()[1].split():
         yield call_faults, ["tests/run", name]
-    for call in CALLS:
-        yield told_faults, call
 
 
 def main(words):

@@ -1,6 +1,6 @@
 """How long the program takes, and how much memory: the tables of docs/runtimes/PERFORMANCE.md, of `run` and of `demand`.
 
-    tests/run speed [--program PATH] [--times N] [--of run|demand] [--processor]
+    tests/run speed [--times N] [--of run|demand] [--processor]
 
 Each row is one whole command. The program is run N times (7), with large pages as the script `ol` runs it, and the least of its seconds by
 the clock is printed with its peak of memory. Rows of `demand` also have how many interactions the answer counts. Each run of a row has to
@@ -46,24 +46,28 @@ DEMANDS = [
 ]
 
 
-def doubled(times):
-    """The term of `gen`, doubled so many times: `gen` itself takes at most 10."""
-    text = r"((\x. x x) (\y. y))"
+def doubled(times, text):
+    """The term of this text applied to itself, so often."""
     for _ in range(times):
         text = f"({text} {text})"
-    return text + "\n"
+    return text
+
+
+def nested(depth, inner="x x", head="x"):
+    """A term with so many nested arguments, the last of which is the inner one."""
+    return f"{head} (" * depth + inner + ")" * depth
 
 
 def numeral(number):
     """The Church numeral, in brackets."""
-    return r"(\f x. " + "f (" * number + "x" + ")" * number + ")"
+    return rf"(\f x. {nested(number, 'x', 'f')})"
 
 
 def term(name):
     """The text of the term that a row calls so."""
     kind, _, number = name.partition(" ")
     if kind.isdigit():
-        return doubled(int(kind))
+        return doubled(int(kind), r"((\x. x x) (\y. y))") + "\n"  # `gen` itself takes at most 10
     if kind == "power":
         return numeral(int(number)) + " " + TWO + r" (\y. y)" + "\n"
     if kind == "numeral":
@@ -131,7 +135,6 @@ def print_table(verb, rows, chosen, program, folder):
 
 def words_of(words):
     asked = asking.parser(__doc__)
-    asked.add_argument("--program", metavar="PATH", help="the program, where it isn't the one that is found")
     asked.add_argument("--times", type=asking.positive, default=7, metavar="N", help="how often each command is run (7)")
     asked.add_argument("--of", choices=("run", "demand"), help="the table of this command alone")
     asked.add_argument("--processor", action="store_true", help="seconds of the processors, not by the clock")
@@ -140,7 +143,7 @@ def words_of(words):
 
 def main(words):
     chosen = words_of(words)
-    program = which_ol.found(named=chosen.program)
+    program = which_ol.found()
     load = os.getloadavg()[0]
     kind = ", seconds of the processors" if chosen.processor else ""
     print(f"{datetime.date.today()}, {os.cpu_count()} processors, load {load:.1f} when it began, the least of {chosen.times}{kind}\n")

@@ -42,9 +42,9 @@ def path_of(name):
     return path or name == "ol" and shutil.which("ol") or os.path.join(TOP, name)
 
 
-def found(name="ol", named=None):
-    """The path of the program, or of the one that is named. It is run once, so that what it says is seen."""
-    path = os.path.realpath(named or path_of(name))
+def found(name="ol"):
+    """The path of the program. It is run once, so that what it says is seen."""
+    path = os.path.realpath(path_of(name))
     try:
         status = subprocess.run([path, *(["gen", "0"] if name == "ol" else ["--help"])], stdout=subprocess.DEVNULL).returncode
     except OSError as fault:

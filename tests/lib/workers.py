@@ -1,10 +1,8 @@
 """Runs ten small terms again and again with 2 to 64 workers: each run has to write what one worker writes.
 
-    tests/run workers [--program PATH] [--runs N] [--jobs N]
+    tests/run workers [--runs N] [--jobs N]
 
-The program is what --program or the variable OL names; else the proved crates/ol/out/ol, where it is there; else `ol` on PATH; else the
-script `ol` at the top. By default
-10,000 runs are made, so each term is run about 16 times with each number of workers. The numbers are drawn by a generator
+By default 10,000 runs are made, so each term is run about 16 times with each number of workers. The numbers are drawn by a generator
 that begins the same each time; how the workers' steps interleave is the machine's. The last line is 'N passed, M failed'.
 """
 import concurrent.futures
@@ -44,11 +42,10 @@ def run(program, term, workers):
 
 def main(words):
     asked = asking.parser(__doc__)
-    asked.add_argument("--program", metavar="PATH", help="a built program")
     asked.add_argument("--runs", type=asking.positive, default=10_000, metavar="N", help="how many runs (10,000)")
     asked.add_argument("--jobs", type=asking.positive, default=os.cpu_count(), metavar="N", help="how many side by side")
     asked = asked.parse_args(words)
-    program = which_ol.found(named=asked.program)
+    program = which_ol.found()
     wanted = [run(program, term, 1) for term in TERMS]
     for term, (status, text) in zip(TERMS, wanted):
         if status != 0:
