@@ -36,7 +36,9 @@ mod FilesRead
 mod Termination
 mod Called
 mod Frame
-mod Saying
+mod NamesOnce
+mod TextsRead
+pub mod Follows
 mod JournalFound
 mod Traced
 mod WavesKept

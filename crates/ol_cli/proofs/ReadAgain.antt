@@ -1,6 +1,6 @@
 -- What is written is read again.
 use Rattle.std.proofs.Common.{◌≡◌, ℕ, Bool, List, [], Option, Some, refl, subst, String, Global, false}
-use Rattle.ol_io.specs.Outside.{Appended, IsAllOf}
+use Rattle.ol_io.specs.Outside.{IsAllOf}
 use Rattle.ol_term.specs.declared.translations.Translation.{Translation}
 use Rattle.ol_term.specs.Trees.{Tree}
 use Rattle.ol_term.specs.Generated.{doubled_text}
@@ -14,13 +14,13 @@ use Rattle.ol_words.specs.declared.jobs.Job.TheVariants as jobs
 use Rattle.ol_cli.specs.declared.status.Status.{Status}
 use Rattle.ol_cli.specs.declared.status.Status.TheVariants as status
 use Rattle.ol_cli.specs.Inside.{IsReadWhereTold}
-use Rattle.ol_cli.specs.Jobs.{AskFor, TellsTerm, file_name, term_bytes}
+use Rattle.ol_cli.specs.Jobs.{AskFor, file_name, term_bytes}
 use Rattle.ol_cli.specs.Cases.{HasTermFile}
 use Rattle.ol_cli.specs.Run.{Prints}
 use Rattle.ol_cli.specs.Walk.{Walks}
 use Rattle.ol_cli.specs.Demand.{Demands}
 use Rattle.ol_cli.specs.ReadAgain.{TextIsReadAgain, AnswerIsReadAgain, FileIsReadAgain}
-use Rattle.ol_cli.specs.ReadAgain.{WordsAreReadAgain, WritesReadable}
+use Rattle.ol_cli.specs.ReadAgain.{WordsAreReadAgain}
 use Rattle.ol_cli.proofs.OneAnswer.{one_job}
 
 -- where the names are names of the grammar, the text of a tree whose places have heads is read again
@@ -79,12 +79,3 @@ pub words_read : (words : List (String Global)) (contents : Text → Option (Lis
 words_read words contents job st text j h other bytes j' e =
     let all = subst (λ a. IsReadWhereTold a contents st text) (one_job words job other j j') h in
     all bytes e
-
-pub written_read : (words : List (String Global)) (contents : Text → Option (List ℕ)) (st : Status)
-    (text : List ℕ) (old new : Option (List ℕ)) → WordsAreReadAgain words contents st text → Appended old text new →
-    (bytes : List ℕ) → TellsTerm contents words bytes → st ≡ status.Done → WritesReadable words bytes old new
-written_read words contents st text old new h written bytes tells e job t names j f = (
-  text,
-  h job bytes j (tells job j) t names f e,
-  written,
-)

@@ -1,7 +1,7 @@
 -- The answer to a list of words and to the bytes of the files that they name: a text and a status,
 -- by the order of refusals; and what a call does, by what its source and its sink did.
 use Rattle.std.specs.Prelude.{Bool, List, Option, Some, String, codes, false, length, take, true}
-use Rattle.std.specs.Prelude.{ℕ, ◌<◌, ◌≡◌, ◌≢◌, ◌≤◌, ◌⊎◌}
+use Rattle.std.specs.Prelude.{ℕ, ◌<◌, ◌≡◌, ◌≢◌, ◌≤◌, ◌⊎◌, ◌^◌}
 use Rattle.std.specs.declared.alloc.Global.{Global}
 use Rattle.ol_io.specs.Outside.{Appended, IsAllOf, Rose}
 use Rattle.ol_term.specs.Trees.{Tree}
@@ -122,3 +122,8 @@ abbrev pub Ends : (Cause : Status → List ℕ → Type 0) → Status → (fault
 Ends Cause status.NoMemory faults faults' old new = (new ≡ old) × (faults' ≡ faults)
 Ends Cause result faults faults' old new =
     (st : Status) × (text : List ℕ) × Cause st text × Told st text result faults faults' old new
+
+-- Each other status has its cause in what these words ask for and the source did, and a text of fewer than 2^64 bytes.
+abbrev pub CallEnds : List (String Global) → Seen → Status → (faults faults' : ℕ) →
+    Option (List ℕ) → Option (List ℕ) → Type 0
+CallEnds words s = Ends (λ st text. HasCause words s st text × (length text < 2 ^ 64))

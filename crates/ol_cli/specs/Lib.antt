@@ -27,6 +27,7 @@ pub mod Handed
 pub mod Completeness
 pub mod Termination
 pub mod Says
+pub mod Follows
 pub mod TwoCalls
 -- What only contracts of private functions and proofs cite.
 pub mod RefusalTexts

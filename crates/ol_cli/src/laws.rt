@@ -3,6 +3,7 @@
 ghost use Rattle.ol_cli.specs.DemandFuel.{DemandHasFuel, HeadHasFuel};
 ghost use Rattle.ol_cli.specs.EveryRun.{EveryRunIsLonger, EveryRunPrints};
 ghost use Rattle.ol_cli.specs.EveryRun.{AnyRunEnds, AnyRunPrints, AnyRunRunsOut, OneThreadIsThere};
+ghost use Rattle.ol_cli.specs.Follows.{EndsSay, FirstEndsSay, HandedFollows};
 ghost use Rattle.ol_cli.specs.SourceLaws.{CertifyNeverDiffers, ComparisonTellsSources, HeadBesideLostTellsSources};
 ghost use Rattle.ol_cli.specs.Laws.{OneAnswer, OneNetIsLeft, OneTreeIsDemanded, OneTreeIsPrinted};
 ghost use Rattle.ol_cli.specs.Laws.{OneTreeIsWalked, WorkersAreNotSeen};
@@ -74,4 +75,13 @@ pub fn demand_has_fuel()
 /// of the term's own net; and it is the start net of each graph that has the term's own net.
 pub fn start_net_is_fit()
     ensures { StartNetIsFit }
+{}
+
+/// All that is known of the status and of the text follows from how a call ended (clause `ends` of `ol` and of `run`): what is
+/// written is the answer, what `SaysWhenDone` and `SaysOfAnswer` list holds, and faults are told (`says`). The answer is that
+/// to the bytes that were handed over (`handed`). The same of a call before which there was none, by its readings (`first`).
+pub fn ends_say()
+    ensures says { EndsSay }
+    ensures handed { HandedFollows }
+    ensures first { FirstEndsSay }
 {}

@@ -1,0 +1,198 @@
+-- A text of fewer than 2^64 bytes that a job writes which is done is read again as the term that it shows.
+use Rattle.std.proofs.Common.{◌≡◌, ◌≢◌, ◌∙◌, ℕ, zero, suc, ◌*◌, ◌^◌, ◌<◌, ◌≤◌, Bool, true, false, List, [], ◌∷◌, ◌++◌, codes}
+use Rattle.std.proofs.Common.{length, slice_get, Option, Some, String, Global, refl, sym, ap, subst, arith, length-append}
+use Rattle.std.proofs.lemmas.Option.{same_Some}
+use Rattle.ol_io.specs.Outside.{Appended, Rose}
+use Rattle.ol_limits.specs.Limits.{most_nodes}
+use Rattle.ol_term.specs.declared.translations.Translation.{Translation}
+use Rattle.ol_term.specs.Trees.{Tree}
+use Rattle.ol_term.specs.NameLists.{NoNameTwice}
+use Rattle.ol_term.specs.Generated.{doubled_text}
+use Rattle.ol_parse.specs.Parsed.{IsFileOf, AreNames}
+use Rattle.ol_parse.specs.Numbered.{free_in, once}
+use Rattle.ol_parse.proofs.Exact.{one_file}
+use Rattle.ol_parse.proofs.Words.{names_good}
+use Rattle.ol_translate.specs.Names.{HasNames}
+use Rattle.ol_translate.specs.Sizes.{size_of_translation}
+use Rattle.ol_translate.specs.Translation.{translation_of}
+use Rattle.ol_translate.proofs.Bound.{few_names}
+use Rattle.ol_translate.proofs.Sizing.{size_of_nodes}
+use Rattle.ol_translate.proofs.Whole.{translation_net}
+use Rattle.ol_readback.specs.Heads.{live}
+use Rattle.ol_readback.specs.Sources.{HasHeadsOf}
+use Rattle.ol_readback.specs.Terms.{HasAllHeads, IsReadBack}
+use Rattle.ol_readback.specs.Texts.{AreNamed, IsTextOf}
+use Rattle.ol_readback.specs.declared.answers.ReadNode.{ReadNode}
+use Rattle.ol_readback.proofs.Forests.{heads_are_whole}
+use Rattle.ol_readback.proofs.Named.{heads_are_named}
+use Rattle.ol_readback.proofs.Reread.{printed_is_read}
+use Rattle.ol_readback.proofs.Sources.{own_heads}
+use Rattle.ol_rules.proofs.LeadRuns.{as_run}
+use Rattle.ol_law_levels.proofs.AskedTrees.{asked_heads, asked_kept, last_tree_tells}
+use Rattle.ol_law_levels.proofs.DemandPlaces.{demand_tells as places_told}
+use Rattle.ol_law_meaning.proofs.FileNames.{file_names}
+use Rattle.ol_words.specs.Texts.{Text}
+use Rattle.ol_words.specs.declared.jobs.Job.{Job}
+use Rattle.ol_words.specs.declared.jobs.Job.TheVariants as jobs
+use Rattle.ol_cli.specs.declared.status.Status.{Status}
+use Rattle.ol_cli.specs.declared.status.Status.TheVariants.{Done}
+use Rattle.ol_cli.specs.Answers.{CallEnds, HasCause}
+use Rattle.ol_cli.specs.Cases.{FileAnswer, JobAnswer, TermAnswer, made, of_file, seen}
+use Rattle.ol_cli.specs.Demand.{Demands}
+use Rattle.ol_cli.specs.Generate.{plain_run}
+use Rattle.ol_cli.specs.Jobs.{AreTold, AskFor, Files, TellsFiles, TellsTerm, term_bytes}
+use Rattle.ol_cli.specs.ReadAgain.{DemandIsReadAgain, RunIsReadAgain, TextIsReadAgain, WalkIsReadAgain, WritesReadable}
+use Rattle.ol_cli.specs.Run.{Prints, start_net_of_term}
+use Rattle.ol_cli.specs.TermFiles.{IsTermFile}
+use Rattle.ol_cli.specs.Walk.{Walks}
+use Rattle.ol_cli.proofs.Causing.{cause_cases}
+use Rattle.ol_cli.proofs.Exact.{cause_answer}
+use Rattle.ol_cli.proofs.NamesOnce.{once_once}
+use Rattle.ol_cli.proofs.OneAnswer.{one_job, own_job}
+use Rattle.ol_cli.proofs.Sourced.{one_name}
+use Rattle.ol_cli.proofs.StartNet.{start_net_is_fit}
+
+-- a line of a text is no longer than the text
+shorter : (text line rest : List ℕ) → text ≡ (line ++ 10 ∷ []) ++ rest → length text < 2 ^ 64 → length line < 2 ^ 64
+shorter text line rest e h =
+    let a = ap length e in let b = length-append (line ++ 10 ∷ []) rest in let c = length-append line (10 ∷ []) in
+    omega (arith, a, b, c, h)
+
+-- ---- by names of the grammar that differ
+
+module _ (tr : Translation) (t : Tree) (names : List (List ℕ)) (has : HasNames t (length names)) (good : AreNames names)
+    (differ : NoNameTwice names) (few : length names < 2 ^ 32) where
+  read_back : (lost_too : Bool) (ns : List ReadNode) (term : List ℕ) → length term < 2 ^ 64 →
+      HasHeadsOf (translation_of tr t (length names)) lost_too ns → IsTextOf names ns term → HasAllHeads ns →
+      IsReadBack names ns term
+  read_back lost_too ns term short own shown all =
+      let N = translation_of tr t (length names) in
+      let count : N.free_ports - 1 ≡ length names = omega arith in
+      printed_is_read names ns term good differ few short
+      (subst (λ n. AreNamed n ns) count (heads_are_named N lost_too ns (translation_net tr t (length names) has) own))
+      (heads_are_whole N lost_too ns own) all shown
+
+  run_again : (fuel heads : ℕ) (text : List ℕ) → length text < 2 ^ 64 → Prints tr t names fuel heads text →
+      RunIsReadAgain tr t names fuel heads text
+  run_again fuel heads text short p =
+      let s = p.shows in
+      let ran = as_run (start_net_of_term tr t names) p.ends.net 0 p.ends.journal p.ends.run.leads in
+      let asked = last_tree_tells tr t (length names) has p.ends.journal p.ends.net ran p.ends.complete heads
+      (2 * live p.ends.net) s.tree (omega arith) s.read in (
+        p,
+        read_back true s.tree s.term (shorter text s.term _ s.written short)
+            (asked_heads (translation_of tr t (length names)) heads s.tree asked) s.shown,
+      )
+
+  walk_again : (edges heads : ℕ) (text : List ℕ) → length text < 2 ^ 64 → Walks tr t names edges heads text →
+      WalkIsReadAgain tr t names edges heads text
+  walk_again edges heads text short w =
+      let N = translation_of tr t (length names) in
+      let a = ap length w.written in
+      let c = length-append w.term (10 ∷ []) in (
+        w,
+        read_back false w.tree w.term (omega (arith, a, c, short))
+            (own_heads N (translation_net tr t (length names) has) heads edges w.tree w.read).0 w.shown,
+      )
+
+  demand_again : (fuel heads : ℕ) (text : List ℕ) → length text < 2 ^ 64 → Demands tr t names fuel heads text →
+      DemandIsReadAgain tr t names fuel heads text
+  demand_again fuel heads text short d =
+      let N = translation_of tr t (length names) in
+      let start = start_net_of_term tr t names in
+      let fit = start_net_is_fit tr t names has in
+      let asked = asked_kept start N (λ p c q e. ((fit.1 p c q e).1, (fit.1 p c q e).0)) heads d.ends.tree
+      (places_told start d.ends.net heads d.ends.journal d.ends.tree fit.0.start fit.0.levelled d.ends.run) in (
+        d,
+        read_back true d.ends.tree d.term (shorter text d.term _ d.written short)
+            (asked_heads N heads d.ends.tree asked) d.shown,
+      )
+
+-- ---- by the names of the job's own term
+
+module _ (bytes : List ℕ) (t : Tree) (names : List (List ℕ)) (f : IsFileOf bytes t names) (text : List ℕ)
+    (short : length text < 2 ^ 64) where
+  own_answer : (job : Job) → FileAnswer job bytes Done text → TermAnswer job t names Done text
+  own_answer job h =
+      let same = one_file bytes h.0 t h.1 names h.2.file f in
+      subst (λ t. TermAnswer job t names Done text) same.0 (subst (λ names. TermAnswer job h.0 names Done text) same.1 h.3)
+
+  own_few : (tr : Translation) (u : Tree) (others : List (List ℕ)) → IsTermFile tr bytes u others → length names < 2 ^ 32
+  own_few tr u others i =
+      let same = one_file bytes u t others names i.file f in
+      let small = subst (λ (t : Tree). size_of_translation tr t ≤ most_nodes) same.0 i.small in
+      let a = few_names tr t (length names) (file_names bytes t names f) in
+      let b = size_of_nodes tr t in
+      omega (arith, small, a, b)
+
+  good : AreNames names
+  good = subst AreNames (sym f.free_names) (names_good bytes f.named f.text)
+
+  differ : NoNameTwice names
+  differ = subst NoNameTwice (sym f.free_names) (once_once (free_in [] f.named))
+
+  has : HasNames t (length names)
+  has = file_names bytes t names f
+
+  run_read : (tr : Translation) (workers fuel heads : ℕ) (name : Text) → FileAnswer (jobs.Run tr workers fuel heads name) bytes Done text →
+      RunIsReadAgain tr t names fuel heads text
+  run_read tr workers fuel heads name h =
+      run_again tr t names has good differ (own_few tr h.0 h.1 h.2) fuel heads text short
+      (own_answer (jobs.Run tr workers fuel heads name) h)
+
+  walk_read : (tr : Translation) (edges heads : ℕ) (name : Text) → FileAnswer (jobs.Walk tr edges heads name) bytes Done text →
+      WalkIsReadAgain tr t names edges heads text
+  walk_read tr edges heads name h =
+      walk_again tr t names has good differ (own_few tr h.0 h.1 h.2) edges heads text short
+      (own_answer (jobs.Walk tr edges heads name) h)
+
+  demand_read : (tr : Translation) (fuel heads : ℕ) (name : Text) → FileAnswer (jobs.Demand tr fuel heads name) bytes Done text →
+      DemandIsReadAgain tr t names fuel heads text
+  demand_read tr fuel heads name h =
+      demand_again tr t names has good differ (own_few tr h.0 h.1 h.2) fuel heads text short
+      (own_answer (jobs.Demand tr fuel heads name) h)
+
+  by_job : (files : Files) (job : Job) → term_bytes (files 0) job ≡ Some bytes → JobAnswer files Done text job →
+      TextIsReadAgain job t names text
+  by_job files (jobs.Run tr workers fuel heads name) told (of_file {bytes = other} on e h) = run_read tr workers fuel heads name
+      (subst (λ b. FileAnswer (jobs.Run tr workers fuel heads name) b Done text) (same_Some other bytes (sym e ∙ told)) h)
+  by_job files (jobs.Walk tr edges heads name) told (of_file {bytes = other} on e h) = walk_read tr edges heads name
+      (subst (λ b. FileAnswer (jobs.Walk tr edges heads name) b Done text) (same_Some other bytes (sym e ∙ told)) h)
+  by_job files (jobs.Demand tr fuel heads name) told (of_file {bytes = other} on e h) = demand_read tr fuel heads name
+      (subst (λ b. FileAnswer (jobs.Demand tr fuel heads name) b Done text) (same_Some other bytes (sym e ∙ told)) h)
+  by_job files (jobs.Gen tr true k) told (made m) = run_read tr 4 200000 4096 (codes "-")
+      (subst (λ b. FileAnswer (plain_run tr) b Done text) (same_Some (doubled_text k) bytes told) m)
+  by_job files (jobs.Gen tr true k) told (of_file on e h) = absurd on
+  by_job files _ told a = tt
+
+-- ---- by how the call ended
+
+module _ (words : List (String Global)) (files : Files) (f f' given : ℕ) (ended : Bool) (g g' : ℕ) (old new : Option (List ℕ))
+    (h : CallEnds words (seen f f' files given ended) Done g g' old new)
+    (quiet : Rose f f' → ⊥) (bytes : List ℕ) (tells : TellsTerm (files 0) words bytes) where
+  pub readable : WritesReadable words bytes old new
+  readable job t names j file = (h.1, go job j, h.3.2)
+    where
+      told : HasCause words (seen f f' files given ended) Done h.1 × (length h.1 < 2 ^ 64)
+      told = subst (λ st. HasCause words (seen f f' files given ended) st h.1 × (length h.1 < 2 ^ 64)) (sym h.3.0) h.2
+
+      call : (job : Job) → AskFor words job → AreTold files job → TextIsReadAgain job t names h.1
+      call here j at =
+          let all : TellsFiles files words = λ job j'. subst (AreTold files) (one_job words here job j j') at in
+          by_job bytes t names file h.1 told.1 files here (tells here j)
+          (own_job words files here j Done h.1
+          (cause_answer words f f' given files ended quiet all Done h.1 (cause_cases words (seen f f' files given ended) Done h.1 told.0)))
+
+      no_name : (tr : Translation) (k : ℕ) → AreTold files (jobs.Gen tr true k)
+      no_name tr k zero n is = absurd (cc)
+      no_name tr k (suc place) n is = absurd (cc)
+
+      go : (job : Job) → AskFor words job → TextIsReadAgain job t names h.1
+      go (jobs.Run tr workers fuel heads name) j = call (jobs.Run tr workers fuel heads name) j
+          (one_name files bytes name (tells (jobs.Run tr workers fuel heads name) j))
+      go (jobs.Walk tr edges heads name) j = call (jobs.Walk tr edges heads name) j
+          (one_name files bytes name (tells (jobs.Walk tr edges heads name) j))
+      go (jobs.Gen tr true k) j = call (jobs.Gen tr true k) j (no_name tr k)
+      go (jobs.Demand tr fuel heads name) j = call (jobs.Demand tr fuel heads name) j
+          (one_name files bytes name (tells (jobs.Demand tr fuel heads name) j))
+      go _ j = tt
