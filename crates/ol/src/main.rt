@@ -9,7 +9,7 @@ ghost use Rattle.ol_law_confluence.specs.NormalForms.{BeginsReduced};
 ghost use Rattle.ol_cli.specs.Jobs.{Files, files_of};
 ghost use Rattle.ol_cli.specs.NormalForms.{ArePlain, AreFewest, CountsSay, FirstLine, IsFoundWithin};
 ghost use Rattle.ol_cli.specs.NormalForms.{PlainDemandSays, PlainEqualSays, PlainLineSays};
-ghost use Rattle.ol_cli.specs.Answers.{CallEnds};
+ghost use Rattle.ol_cli.specs.Answers.{Ends, HasCause};
 ghost use Rattle.ol_cli.specs.Called.{first_seen};
 
 use ol_cli::{Status, ol};
@@ -56,8 +56,8 @@ fn run<'a, R: Files + Input + Print + Threads + Wait + Sync>(
     // fewer than 2^64 bytes, or a prefix of it where it failed.
     ensures ends { (files : Files)
         → AreOfSince files [] (⟦<StdSource<'a, R> as Source>⟧.readings result.src)
-        → CallEnds words.now.items
-        (first_seen ⟦<StdSource<'a, R> as Source>⟧ files result.src) result.status
+        → Ends (HasCause words.now.items
+        (first_seen ⟦<StdSource<'a, R> as Source>⟧ files result.src)) result.status
         0 (⟦<StdSink<'a, R> as Sink>⟧.faults result.out)
         (Some []) (⟦<StdSink<'a, R> as Sink>⟧.taken result.out) }
 

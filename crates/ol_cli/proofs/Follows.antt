@@ -11,7 +11,7 @@ use Rattle.ol_parse.specs.Texts.{IsText}
 use Rattle.ol_cli.specs.declared.status.Status.{Status}
 use Rattle.ol_cli.specs.declared.status.Status.TheVariants as status
 use Rattle.ol_cli.specs.declared.status.Status.TheVariants.{Done, NoMemory}
-use Rattle.ol_cli.specs.Answers.{CallEnds, Ends, HasCause, IsAnswer, Seen}
+use Rattle.ol_cli.specs.Answers.{Ends, HasCause, IsAnswer, Seen}
 use Rattle.ol_cli.specs.Cases.{Cause, seen}
 use Rattle.ol_cli.specs.Follows.{EndsOfAny, EndsSay, FirstEndsSay, Follows, HandedFollows, NoneRose}
 use Rattle.ol_cli.specs.Jobs.{Files, TellsFiles, TellsTerm}
@@ -34,14 +34,14 @@ use Rattle.ol_cli.proofs.Termination.{answer_ends}
 use Rattle.ol_cli.proofs.TextsRead.{readable}
 
 by_cases : (words : List (String Global)) (s : Seen) (st : Status) (g g' : ℕ) (old new : Option (List ℕ)) →
-    CallEnds words s st g g' old new → Ends (Cause words s) st g g' old new
+    Ends (HasCause words s) st g g' old new → Ends (Cause words s) st g g' old new
 by_cases words s NoMemory g g' old new e = e
-by_cases words s _ g g' old new e = (e.0, e.1, cause_cases words s e.0 e.1 e.2.0, e.3)
+by_cases words s _ g g' old new e = (e.0, e.1, cause_cases words s e.0 e.1 e.2, e.3, e.4)
 
 -- ---- any call
 
 module _ (words : List (String Global)) (f f' given : ℕ) (ended : Bool) (files : Files) (st : Status) (g g' : ℕ)
-    (old new : Option (List ℕ)) (h : CallEnds words (seen f f' files given ended) st g g' old new) where
+    (old new : Option (List ℕ)) (h : Ends (HasCause words (seen f f' files given ended)) st g g' old new) where
   ends : Ends (Cause words (seen f f' files given ended)) st g g' old new
   ends = by_cases words (seen f f' files given ended) st g g' old new h
 
@@ -61,7 +61,7 @@ module _ (words : List (String Global)) (f f' given : ℕ) (ended : Bool) (files
     tree : (bytes : List ℕ) → TellsTerm (files 0) words bytes → WritesTree words bytes old new
     tree bytes tells = writes_tree words bytes old new
         (readable words files f f' given ended g g' old new
-        (subst (λ st. CallEnds words (seen f f' files given ended) st g g' old new) is h) quiet bytes tells)
+        (subst (λ st. Ends (HasCause words (seen f f' files given ended)) st g g' old new) is h) quiet bytes tells)
 
     sources : TellsFiles files words → WritesOfSources words files old new
     sources tells = writes_of_sources words files old new st is

@@ -36,7 +36,7 @@ use Rattle.ol_words.specs.declared.jobs.Job.{Job}
 use Rattle.ol_words.specs.declared.jobs.Job.TheVariants as jobs
 use Rattle.ol_cli.specs.declared.status.Status.{Status}
 use Rattle.ol_cli.specs.declared.status.Status.TheVariants.{Done}
-use Rattle.ol_cli.specs.Answers.{CallEnds, HasCause}
+use Rattle.ol_cli.specs.Answers.{Ends, HasCause}
 use Rattle.ol_cli.specs.Cases.{FileAnswer, JobAnswer, TermAnswer, made, of_file, seen}
 use Rattle.ol_cli.specs.Demand.{Demands}
 use Rattle.ol_cli.specs.Generate.{plain_run}
@@ -168,20 +168,20 @@ module _ (bytes : List ℕ) (t : Tree) (names : List (List ℕ)) (f : IsFileOf b
 -- ---- by how the call ended
 
 module _ (words : List (String Global)) (files : Files) (f f' given : ℕ) (ended : Bool) (g g' : ℕ) (old new : Option (List ℕ))
-    (h : CallEnds words (seen f f' files given ended) Done g g' old new)
+    (h : Ends (HasCause words (seen f f' files given ended)) Done g g' old new)
     (quiet : Rose f f' → ⊥) (bytes : List ℕ) (tells : TellsTerm (files 0) words bytes) where
   pub readable : WritesReadable words bytes old new
   readable job t names j file = (h.1, go job j, h.3.2)
     where
-      told : HasCause words (seen f f' files given ended) Done h.1 × (length h.1 < 2 ^ 64)
-      told = subst (λ st. HasCause words (seen f f' files given ended) st h.1 × (length h.1 < 2 ^ 64)) (sym h.3.0) h.2
+      told : HasCause words (seen f f' files given ended) Done h.1
+      told = subst (λ st. HasCause words (seen f f' files given ended) st h.1) (sym h.3.0) h.2
 
       call : (job : Job) → AskFor words job → AreTold files job → TextIsReadAgain job t names h.1
       call here j at =
           let all : TellsFiles files words = λ job j'. subst (AreTold files) (one_job words here job j j') at in
-          by_job bytes t names file h.1 told.1 files here (tells here j)
+          by_job bytes t names file h.1 h.4 files here (tells here j)
           (own_job words files here j Done h.1
-          (cause_answer words f f' given files ended quiet all Done h.1 (cause_cases words (seen f f' files given ended) Done h.1 told.0)))
+          (cause_answer words f f' given files ended quiet all Done h.1 (cause_cases words (seen f f' files given ended) Done h.1 told)))
 
       no_name : (tr : Translation) (k : ℕ) → AreTold files (jobs.Gen tr true k)
       no_name tr k zero n is = absurd (cc)

@@ -116,14 +116,9 @@ Told st text status.WriteFault faults faults' old new =
 Told st text result faults faults' old new = (result ≡ st) × (faults' ≡ faults) × Appended old text new
 
 -- The whole of what the call did: want of memory, for whatever cause, and nothing written; or another status with its
--- cause, whose text was told.
+-- cause, whose text, of fewer than 2^64 bytes, was told.
 abbrev pub Ends : (Cause : Status → List ℕ → Type 0) → Status → (faults faults' : ℕ) →
     Option (List ℕ) → Option (List ℕ) → Type 0
 Ends Cause status.NoMemory faults faults' old new = (new ≡ old) × (faults' ≡ faults)
 Ends Cause result faults faults' old new =
-    (st : Status) × (text : List ℕ) × Cause st text × Told st text result faults faults' old new
-
--- Each other status has its cause in what these words ask for and the source did, and a text of fewer than 2^64 bytes.
-abbrev pub CallEnds : List (String Global) → Seen → Status → (faults faults' : ℕ) →
-    Option (List ℕ) → Option (List ℕ) → Type 0
-CallEnds words s = Ends (λ st text. HasCause words s st text × (length text < 2 ^ 64))
+    (st : Status) × (text : List ℕ) × Cause st text × Told st text result faults faults' old new × (length text < 2 ^ 64)

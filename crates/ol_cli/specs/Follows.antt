@@ -11,7 +11,7 @@ use Rattle.ol_words.specs.Texts.{Text}
 use Rattle.ol_cli.specs.declared.status.Status.{Status}
 use Rattle.ol_cli.specs.declared.status.Status.TheVariants as status
 use Rattle.ol_cli.specs.Jobs.{AskForNothing, Files, files_of}
-use Rattle.ol_cli.specs.Answers.{CallEnds, IsAnswer, Seen}
+use Rattle.ol_cli.specs.Answers.{Ends, HasCause, IsAnswer, Seen}
 use Rattle.ol_cli.specs.NormalForms.{ArePlain}
 use Rattle.ol_cli.specs.Says.{SaysOfAnswer, SaysWhenDone}
 
@@ -41,13 +41,13 @@ pub record Follows (words : List (String Global)) (s : Seen) (st : Status) (g g'
 -- it follows from how the call ended
 abbrev pub EndsSay : Type 0
 EndsSay = (words : List (String Global)) (s : Seen) (st : Status) (g g' : ℕ) (old new : Option (List ℕ)) →
-    CallEnds words s st g g' old new → Follows words s st g g' old new
+    Ends (HasCause words s) st g g' old new → Follows words s st g g' old new
 
 -- a call ended so, whatever files its readings are of
 abbrev pub EndsOfAny : List (String Global) → Seen → (before after : List Reading) → Status → (g g' : ℕ) →
     Option (List ℕ) → Option (List ℕ) → Type 0
 EndsOfAny words s before after st g g' old new = (files : Files) → AreOfSince files before after →
-    CallEnds words (record s { contents = files }) st g g' old new
+    Ends (HasCause words (record s { contents = files })) st g g' old new
 
 -- The answer is that to the bytes that were handed over, whatever any file holds: where there are files that the readings
 -- are of, some readings were made, and if nothing fails, the status and the text are those of the answer to them.

@@ -4,7 +4,7 @@ ghost use Rattle.ol_words.specs.declared.jobs.Job.{Job};
 ghost use Rattle.ol_cli.specs.Jobs.{AskFor, EachName, IsKnownTo};
 ghost use Rattle.ol_cli.specs.Jobs.{IsWithinLimits, count_of_files, files_of};
 ghost use Rattle.ol_cli.specs.Inside.{ComesOf, ComesOfWords, Writes};
-ghost use Rattle.ol_cli.specs.Answers.{CallEnds, RefusesFirst};
+ghost use Rattle.ol_cli.specs.Answers.{Ends, HasCause, RefusesFirst};
 ghost use Rattle.ol_cli.specs.Called.{ReadsAtMost, OfFilesRead, WhereNoneFailed, seen_of};
 ghost use Rattle.ol_cli.specs.NormalForms.{AreFewest, CountsSay, FirstLine, IsFoundWithin};
 ghost use Rattle.ol_cli.specs.NormalForms.{PlainDemandSays, PlainEqualSays, PlainLineSays};
@@ -89,7 +89,7 @@ pub fn ol<R: Threads + Wait + Sync, S: Source, W: Sink, G: Gate + Sync>(
     // its cause, and its text, of fewer than 2^64 bytes, is appended whole, or a prefix of it where the
     // sink failed.
     ensures ends { OfFilesRead S.Source src.old src.new (λ files.
-        CallEnds words.now.items (seen_of S.Source files src.old src.new) result.status
+        Ends (HasCause words.now.items (seen_of S.Source files src.old src.new)) result.status
         (W.faults out.old) (W.faults out.new) (W.taken out.old) (W.taken out.new)) }
 
     // Where `run`, `trace` or `gen --run` was done or its fuel was spent, the closed words are

@@ -5,7 +5,7 @@ use Rattle.std.specs.Prelude.{[]}
 use Rattle.std.proofs.lemmas.Option.{same_Some}
 use Rattle.ol_io.specs.Readings.{AreOfSince}
 use Rattle.ol_law_confluence.specs.NormalForms.{BeginsReduced}
-use Rattle.ol_cli.specs.Answers.{CallEnds}
+use Rattle.ol_cli.specs.Answers.{Ends, HasCause}
 use Rattle.ol_cli.specs.Cases.{seen}
 use Rattle.ol_cli.specs.Jobs.{Files, files_of}
 use Rattle.ol_cli.proofs.Follows.{first_ends_say}
@@ -25,7 +25,7 @@ returns g c =
     let new = c.ol-outcome.new.out.log.passed.taken in
     let told = since_none c.ol-outcome.ensures.source c.new-src.ensures.readings in
     let ends : (files : Files) → AreOfSince files [] after →
-    CallEnds words (seen 0 f' files given ended) st 0 w' (Some []) (Some new) =
+    Ends (HasCause words (seen 0 f' files given ended)) st 0 w' (Some []) (Some new) =
     λ files of.
     first_ends words files st c.new-src.result.faults f' c.new-out.result.faults w' given ended
     c.new-out.result.log.passed.taken new c.new-src.ensures.faults c.new-out.ensures.faults c.new-out.ensures.taken

@@ -4,7 +4,7 @@ use Rattle.std.proofs.Common.{◌≡◌}
 use Rattle.ol_io.specs.Outside.{Rose}
 use Rattle.ol_io.specs.Readings.{AreOfSince}
 use Rattle.ol_cli.specs.declared.status.Status.TheVariants.{Done}
-use Rattle.ol_cli.specs.Answers.{CallEnds}
+use Rattle.ol_cli.specs.Answers.{Ends, HasCause}
 use Rattle.ol_cli.specs.Called.{seen_of}
 use Rattle.ol_cli.specs.Jobs.{Files}
 use Rattle.ol_cli.specs.Says.{SaysWhenDone}
@@ -25,7 +25,7 @@ returns g c =
     let o = c.write.result in
     let comes = c.answer_words-made.ensures.comes in
     let ends : (files : Files) → AreOfSince files (g.S.Source.readings src) (g.S.Source.readings src') →
-    CallEnds words (seen_of g.S.Source files src src') o.status w w' old new =
+    Ends (HasCause words (seen_of g.S.Source files src src')) o.status w w' old new =
     λ files of. call_ends words _ w w' old new made o c.write.ensures.told (comes files of) in
     let done : (files : Files) → AreOfSince files (g.S.Source.readings src) (g.S.Source.readings src') →
     (Rose (g.S.Source.faults src) (g.S.Source.faults src') → ⊥) → (Rose w w' → ⊥) → o.status ≡ Done →

@@ -1,20 +1,10 @@
 -- All clauses follow from `ends`.
-use Rattle.std.proofs.Common.{ℕ, List, Option, String, Global}
 use Rattle.ol_io.specs.Readings.{AreOfSince}
-use Rattle.ol_cli.specs.declared.status.Status.{Status}
-use Rattle.ol_cli.specs.declared.status.Status.TheVariants.{NoMemory}
-use Rattle.ol_cli.specs.Answers.{CallEnds, Ends, HasCause, Seen}
 use Rattle.ol_cli.specs.Called.{seen_of}
 use Rattle.ol_cli.specs.Follows.{Follows}
 use Rattle.ol_cli.specs.Jobs.{Files}
 use Rattle.ol_cli.proofs.Follows.{ends_say, handed_follows}
 use Rattle.ol_program_tests.proofs.all_clauses.ol_with_all_clauses.Goals as goal
-
--- the bound on the text is left out
-unbounded : (words : List (String Global)) (s : Seen) (st : Status) (g g' : ℕ) (old new : Option (List ℕ)) →
-    CallEnds words s st g g' old new → Ends (HasCause words s) st g g' old new
-unbounded words s NoMemory g g' old new e = e
-unbounded words s _ g g' old new e = (e.0, e.1, e.2.0, e.3)
 
 pub returns : goal.returns
 returns g c =
@@ -37,7 +27,7 @@ returns g c =
       handed = handed_follows words (seen_of g.S.Source (λ _. g.S.Source.contents src) src src')
           (g.S.Source.readings src) (g.S.Source.readings src') st w w' old new c.ol.ensures.source.told
           c.ol.ensures.ends;
-      ends = λ files of. unbounded words (seen_of g.S.Source files src src') st w w' old new (c.ol.ensures.ends files of);
+      ends = c.ol.ensures.ends;
       closed = c.ol.ensures.closed;
       read = own.read;
       write = own.write;
