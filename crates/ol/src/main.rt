@@ -29,7 +29,8 @@ struct Passed<'a, R: Files + Input + Print> {
     out: StdSink<'a, R>,
 }
 
-/// `ol` over files, standard input and standard output. All that follows from `ends` is the law `ends_say` of `ol_cli`.
+/// `ol` over files, standard input and standard output. The law `ends_say` of `ol_cli` derives all
+/// other facts of the status and the output from `ends` and `told`.
 fn run<'a, R: Files + Input + Print + Threads + Wait + Sync>(
     rt: &'a R,
     alloc: Global,
@@ -51,9 +52,9 @@ fn run<'a, R: Files + Input + Print + Threads + Wait + Sync>(
     ensures told { (files : Files)
         × AreOfSince files [] (⟦<StdSource<'a, R> as Source>⟧.readings result.src) }
 
-    // The whole of what is written, whatever such files: with `NoMemory`, whatever its cause, standard
-    // output accepted nothing. Each other status has its cause, and standard output accepted its text, of
-    // fewer than 2^64 bytes, or a prefix of it where it failed.
+    // The whole of what is written, whatever such files: with `NoMemory`, whatever its cause,
+    // standard output accepted nothing. Each other status has its cause, and standard output accepted
+    // its text, of fewer than 2^64 bytes, or a prefix of it where it failed.
     ensures ends { (files : Files)
         → AreOfSince files [] (⟦<StdSource<'a, R> as Source>⟧.readings result.src)
         → Ends (HasCause words.now.items
@@ -66,31 +67,33 @@ fn run<'a, R: Files + Input + Print + Threads + Wait + Sync>(
 
     // What follows from `ends` for words without options, where the status is `Done`.
     //
-    // After `ol run NAME`, `ol demand NAME` or `ol walk NAME`: where the first line that is written is a
-    // text of a term, that term is the normal form of the term in the file; and where `run` or `demand`
-    // has put a `?` in it, the latter has none.
+    // After `ol run NAME`, `ol demand NAME` or `ol walk NAME`: where the first line that is written
+    // is a text of a term, that term is the normal form of the term in the file; and where `run` or
+    // `demand` has put a `?` in it, the latter has none.
     ensures plain { result.status ≡ Status.Done
         → (files : Files) → AreOfSince files [] (⟦<StdSource<'a, R> as Source>⟧.readings result.src)
         → PlainLineSays words.now.items files
         (Some []) (⟦<StdSink<'a, R> as Sink>⟧.taken result.out) }
 
-    // After `ol demand NAME` that line is a text of the normal form of the term in the file, where there
-    // is one and variables stand in at most 4,096 places of it.
+    // After `ol demand NAME` that line is a text of the normal form of the term in the file, where
+    // there is one and variables stand in at most 4,096 places of it.
     ensures plain_demand { result.status ≡ Status.Done
         → (files : Files) → AreOfSince files [] (⟦<StdSource<'a, R> as Source>⟧.readings result.src)
         → PlainDemandSays (λ source. FirstLine (IsFoundWithin 4096 source)) words.now.items files
         (Some []) (⟦<StdSink<'a, R> as Sink>⟧.taken result.out) }
 
-    // And no reduction of the term in the file to a normal form, of whatever redexes in whatever order,
-    // nor one by family steps, has fewer steps than the number after `beta`; and if the line is a text of
-    // a term, some reduction by family steps has exactly as many.
+    // And no reduction of the term in the file to a normal form, of whatever redexes in whatever
+    // order, has fewer beta steps than the number after `beta`. Nor has a reduction by family steps,
+    // which contract any redexes of one family at once, told by Lévy's labels; and if the line is a
+    // text of a term, some reduction by family steps has exactly as many.
     ensures plain_fewest { result.status ≡ Status.Done
         → (files : Files) → AreOfSince files [] (⟦<StdSource<'a, R> as Source>⟧.readings result.src)
         → PlainDemandSays (λ source. CountsSay (AreFewest source)) words.now.items files
         (Some []) (⟦<StdSink<'a, R> as Sink>⟧.taken result.out) }
 
-    // After `ol equal A B` the line is `equal` only where the terms in the two files are convertible, and
-    // begins with `different` only where they aren't.
+    // After `ol equal A B` the line is `equal` only where the terms in the two files are convertible,
+    // and begins with `different` only where they aren't. Beta reduction alone counts, and free names
+    // are the same where their bytes are.
     ensures plain_equal { result.status ≡ Status.Done
         → (files : Files) → AreOfSince files [] (⟦<StdSource<'a, R> as Source>⟧.readings result.src)
         → PlainEqualSays words.now.items files

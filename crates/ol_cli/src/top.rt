@@ -43,30 +43,35 @@ pub struct Outcome {
     pub closed: Option<Words>,
 }
 
-/// Does what the words ask for, a command line with the program's name first, and writes a text to the sink. docs/use/COMMANDS.md
-/// describes each command, its options and limits.
+/// Does what the words ask for and writes a text to the sink. The words are a command line, the
+/// program's name first; docs/use/COMMANDS.md describes the commands, their options and texts.
 ///
-/// - `run NAME`: N workers rewrite the net of the term in the file of that name, `-` being standard input, by at most F
-///   interactions. The text is the term that is read back, of which the first Q subterms are asked for, how often each rule was
-///   applied, and `stuck 0`. `demand NAME`: the same in one thread, where only active pairs are rewritten that paths of the
-///   readback meet. `walk NAME`: the term that is read back from the untouched net.
-/// - `view NAME`: the net after K interactions. `trace NAME`: the trace of a run. `check TERM JOURNAL`: whether a text is a trace
-///   of the term. `net NAME`: rewrites a net that is given as a text, or with `--from-term` prints the net of a term.
-/// - `certify NAME`: whether leftmost beta reduction agrees with `run`. `equal A B`: whether two terms have the same normal form.
-///   `gen K`: a term that is doubled K times, or what `run` prints for it.
+/// - `run NAME`: N workers rewrite the net of the term in the file NAME, `-` being standard input,
+///   by at most F interactions. The text is the term that is read back, of which the first Q
+///   subterms are asked for, how often each rule was applied, and `stuck 0`. `demand NAME` works in
+///   one thread, and rewrites only the active pairs that paths of the readback meet. `walk NAME`
+///   reads the untouched net back.
+/// - `view NAME`: the net after K interactions. `trace NAME`: the trace of a run.
+///   `check TERM JOURNAL`: whether a text is a trace of the term. `net NAME`: what is left of a net
+///   that is given as a text, or with `--from-term` the net of a term.
+/// - `certify NAME`: whether leftmost beta reduction leads to what `run` reads back. `equal A B`:
+///   whether `run` reads back equal terms from A and B. `gen K`: a term that is doubled K times, or
+///   with `--run` what `run` prints of it.
 ///
-/// In a printed term `...` is a part that wasn't asked for or whose path used up its crossings, and `?` a part without a head.
-/// The status and the texts of refusals are described at `Status`.
+/// In a printed term `...` is a part that wasn't asked for or whose path used up its crossings, and
+/// `?` a part without a head. Rules and readback are those of Gonthier, Abadi and Lévy (The Geometry
+/// of Optimal Lambda Reduction, 1992). `Status` describes the refusals.
 ///
-/// The workers are threads that share the net, and each passes `gate` before its first turn and after each turn; if fewer
-/// threads can be had, they take turns. `ol` may wait, for these threads and for what the gate does: what is promised here holds
-/// if it returns. If nothing fails, the words and the bytes of the files alone decide on the status and the text, except for the
-/// run that `trace` prints and the net that `net` prints after nine lines (`twice`).
+/// The workers are threads that share the net. Each passes `gate` before its first turn and after
+/// each turn; if fewer threads can be had, they take turns. `ol` may wait, for these threads and for
+/// the gate: what is promised here holds if it returns. The number of the workers and their
+/// scheduling decide on nothing, except for the run that `trace` prints and for what `net` prints
+/// after nine lines (`twice`).
 ///
-/// `ends` says all of the status and of the text: what is printed, when it is printed, and what a failing sink has taken. What
-/// follows from `ends` is the law `ends_say`: among others that the answer is exact, that a job that can be done is done, that
-/// `run` with enough fuel is done exactly if the term is strongly normalising, and what each printed tree says of the term. The
-/// clauses `plain` to `plain_equal` repeat what follows in the words of terms alone.
+/// The clause `ends` contains everything about the status and the text. The law `ends_say` derives
+/// the facts of `SaysWhenDone` and `SaysOfAnswer` from it: among others, that a job that can be done
+/// is done, that `run` with enough fuel is done exactly if the term is strongly normalising, and
+/// what a printed term says of the source. The clauses from `plain` on are four of these facts.
 pub fn ol<R: Threads + Wait + Sync, S: Source, W: Sink, G: Gate + Sync>(
     rt: &R,
     alloc: Global,
@@ -83,11 +88,11 @@ pub fn ol<R: Threads + Wait + Sync, S: Source, W: Sink, G: Gate + Sync>(
     ensures source { ReadsAtMost S.Source (files_of words.now.items) src.old src.new }
 
     // What is said of files below holds of any files that the readings of this call are of: of
-    // those whose bytes the source tells, and of those that the readings make.
+    // those whose bytes the source tells, and of those that the readings make (`handed`).
     //
-    // The whole of what is written: with `NoMemory`, whatever its cause, nothing. Each other status has
-    // its cause, and its text, of fewer than 2^64 bytes, is appended whole, or a prefix of it where the
-    // sink failed.
+    // The whole of what is written: with `NoMemory`, whatever its cause, nothing. Each other status
+    // has its cause, and its text, of fewer than 2^64 bytes, is appended whole, or a prefix of it
+    // where the sink failed.
     ensures ends { OfFilesRead S.Source src.old src.new (λ files.
         Ends (HasCause words.now.items (seen_of S.Source files src.old src.new)) result.status
         (W.faults out.old) (W.faults out.new) (W.taken out.old) (W.taken out.new)) }
@@ -107,31 +112,38 @@ pub fn ol<R: Threads + Wait + Sync, S: Source, W: Sink, G: Gate + Sync>(
         (job : Job) → AskFor words.now.items job
         → RefusesFirst (files 0) job → S.begins src.new ≤ S.begins src.old + 1) }
 
-    // What follows from `ends` for words without options, where nothing fails and the status is `Done`.
+    // What follows from `ends` for words without options, where nothing fails and the status is
+    // `Done`.
     //
-    // After `ol run NAME`, `ol demand NAME` or `ol walk NAME`: where the first line that is written is a
-    // text of a term, that term is the normal form of the term in the file; and where `run` or `demand`
-    // has put a `?` in it, the latter has none.
+    // After `ol run NAME`, `ol demand NAME` or `ol walk NAME`: where the first line that is written
+    // is a text of a term, that term is the normal form of the term in the file; and where `run` or
+    // `demand` has put a `?` in it, the latter has none.
     ensures plain { WhereNoneFailed S.Source W.Sink src.old src.new out.old out.new
-        (λ files old new. result.status ≡ Status.Done → PlainLineSays words.now.items files old new) }
+        (λ files old new. result.status ≡ Status.Done
+        → PlainLineSays words.now.items files old new) }
 
-    // After `ol demand NAME` that line is a text of the normal form of the term in the file, where there
-    // is one and variables stand in at most 4,096 places of it.
+    // After `ol demand NAME` that line is a text of the normal form of the term in the file, where
+    // there is one and variables stand in at most 4,096 places of it.
     ensures plain_demand { WhereNoneFailed S.Source W.Sink src.old src.new out.old out.new
         (λ files old new. result.status ≡ Status.Done
-        → PlainDemandSays (λ source. FirstLine (IsFoundWithin 4096 source)) words.now.items files old new) }
+        → PlainDemandSays (λ source. FirstLine (IsFoundWithin 4096 source))
+        words.now.items files old new) }
 
-    // And no reduction of the term in the file to a normal form, of whatever redexes in whatever order,
-    // nor one by family steps, has fewer steps than the number after `beta`; and if the line is a text of
-    // a term, some reduction by family steps has exactly as many.
+    // And no reduction of the term in the file to a normal form, of whatever redexes in whatever
+    // order, has fewer beta steps than the number after `beta`. Nor has a reduction by family steps,
+    // which contract any redexes of one family at once, told by Lévy's labels; and if the line is a
+    // text of a term, some reduction by family steps has exactly as many.
     ensures plain_fewest { WhereNoneFailed S.Source W.Sink src.old src.new out.old out.new
         (λ files old new. result.status ≡ Status.Done
-        → PlainDemandSays (λ source. CountsSay (AreFewest source)) words.now.items files old new) }
+        → PlainDemandSays (λ source. CountsSay (AreFewest source))
+        words.now.items files old new) }
 
-    // After `ol equal A B` the line is `equal` only where the terms in the two files are convertible, and
-    // begins with `different` only where they aren't.
+    // After `ol equal A B` the line is `equal` only where the terms in the two files are convertible,
+    // and begins with `different` only where they aren't. Beta reduction alone counts, and free names
+    // are the same where their bytes are.
     ensures plain_equal { WhereNoneFailed S.Source W.Sink src.old src.new out.old out.new
-        (λ files old new. result.status ≡ Status.Done → PlainEqualSays words.now.items files old new) }
+        (λ files old new. result.status ≡ Status.Done
+        → PlainEqualSays words.now.items files old new) }
 {
     let made = answer_words(rt, alloc, words, src, gate);
     write(out, made)
