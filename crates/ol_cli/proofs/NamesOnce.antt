@@ -1,6 +1,6 @@
 -- No free name of a term is listed twice.
 use Rattle.std.proofs.Common.{◌≡◌, ◌∙◌, sym, refl, ap, subst, ℕ, zero, suc, Bool, true, false, cond, ◌||◌, List, [], ◌∷◌}
-use Rattle.std.proofs.Common.{slice_get, Option, Some, inl, inr}
+use Rattle.std.proofs.Common.{slice_get, Option, Some, inl, inr, arith}
 use Rattle.std.specs.Str.{bytes_eq}
 use Rattle.std.proofs.lemmas.Bool.{cases_Bool}
 use Rattle.std.proofs.lemmas.Option.{same_Some}
@@ -86,13 +86,13 @@ module _ (y : List ℕ) (ys : List (List ℕ)) where
   with_first out once (suc j) (suc k) x e f = ap suc (once j k x e f)
 
   rest_once : NoNameTwice (y ∷ ys) → NoNameTwice ys
-  rest_once once j k x e f = let same : suc j ≡ suc k = once (suc j) (suc k) x e f in cc
+  rest_once once j k x e f = let same : suc j ≡ suc k = once (suc j) (suc k) x e f in omega (arith, same)
 
   first_once : NoNameTwice (y ∷ ys) → is_among ys y ≡ false
   first_once once = elim (cases_Bool (is_among ys y)) [
     | inl is ↦ (
         let there = place_of ys y is in
-        let same : zero ≡ suc there.0 = once zero (suc there.0) y refl there.1 in absurd (cc))
+        let same : zero ≡ suc there.0 = once zero (suc there.0) y refl there.1 in absurd (omega (arith, same)))
     | inr other ↦ other
   ]
 
