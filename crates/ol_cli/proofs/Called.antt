@@ -15,7 +15,6 @@ use Rattle.ol_cli.specs.Handed.{Hands}
 use Rattle.ol_cli.specs.Inside.{ComesOf, ComesOfWords, Writes}
 use Rattle.ol_cli.proofs.Causing.{cause_by}
 use Rattle.ol_cli.proofs.Exact.{job_cause, job_told}
-use Rattle.ol_cli.proofs.ReadAgain.{words_read}
 use Rattle.ol_cli.proofs.Handing.{text_hands, words_hand}
 
 module _ (words : List (String Global)) (s : Seen) (g g' : ℕ) (old new : Option (List ℕ)) where
@@ -53,6 +52,5 @@ pub words_come : (words : List (String Global)) (s : Seen) (job : Job) (a : Answ
     AskFor words job → ComesOf job s a → ComesOfWords words s a
 words_come words s job a j h = record {
   caused = job_cause words s job a.status a.text.items j h.caused;
-  read = words_read words (s.contents 0) job a.status a.text.items j h.read;
   closed = words_hand words job s a.status a.text.items a.closed j h.closed;
 }

@@ -1,5 +1,5 @@
 -- All that follows from how a call ended.
-use Rattle.std.proofs.Common.{◌≡◌, ◌≢◌, ◌∙◌, ◌<◌, ◌⊎◌, inl, inr, sym, refl, ap, subst, arith, ℕ, zero, suc, List, [], ◌∷◌, ◌++◌}
+use Rattle.std.proofs.Common.{◌≡◌, ◌≢◌, ◌∙◌, ◌<◌, ◌⊎◌, inl, inr, sym, refl, subst, arith, ℕ, zero, suc, List, [], ◌∷◌, ◌++◌}
 use Rattle.std.proofs.Common.{Option, Some, String, Global, append-nil, Bool, true, codes}
 use Rattle.ol_io.specs.Outside.{Appended, Rose}
 use Rattle.ol_io.specs.Readings.{AreOfSince, Reading, handed, reading}
@@ -13,7 +13,7 @@ use Rattle.ol_cli.specs.declared.status.Status.TheVariants as status
 use Rattle.ol_cli.specs.declared.status.Status.TheVariants.{Done, NoMemory}
 use Rattle.ol_cli.specs.Answers.{Ends, HasCause, IsAnswer, Seen}
 use Rattle.ol_cli.specs.Cases.{Cause, seen}
-use Rattle.ol_cli.specs.Follows.{EndsOfAny, EndsSay, FirstEndsSay, Follows, HandedFollows, NoneRose}
+use Rattle.ol_cli.specs.Follows.{EndsSay, FirstEndsSay, Follows, HandedFollows, NoneRose}
 use Rattle.ol_cli.specs.Jobs.{Files, TellsFiles, TellsTerm}
 use Rattle.ol_cli.specs.NormalForms.{ArePlain, PlainLineSays}
 use Rattle.ol_cli.specs.Says.{SaysOfAnswer, SaysWhenDone}
@@ -29,9 +29,9 @@ use Rattle.ol_cli.proofs.Exact.{ends_write_told}
 use Rattle.ol_cli.proofs.NormalLines.{writes_no_normal_form, writes_normal_form}
 use Rattle.ol_cli.proofs.PlainLines.{plain_demand, plain_equal, plain_fewest, plain_writes}
 use Rattle.ol_cli.proofs.SourceTrees.{writes_of_sources}
-use Rattle.ol_cli.proofs.Sourced.{ends_run, writes_tree}
+use Rattle.ol_cli.proofs.Sourced.{ends_run}
 use Rattle.ol_cli.proofs.Termination.{answer_ends}
-use Rattle.ol_cli.proofs.TextsRead.{readable}
+use Rattle.ol_cli.proofs.TextsRead.{writes_tree}
 
 by_cases : (words : List (String Global)) (s : Seen) (st : Status) (g g' : ℕ) (old new : Option (List ℕ)) →
     Ends (HasCause words s) st g g' old new → Ends (Cause words s) st g g' old new
@@ -59,9 +59,8 @@ module _ (words : List (String Global)) (f f' given : ℕ) (ended : Bool) (files
 
   module _ (quiet : Rose f f' → ⊥) (calm : Rose g g' → ⊥) (is : st ≡ Done) where
     tree : (bytes : List ℕ) → TellsTerm (files 0) words bytes → WritesTree words bytes old new
-    tree bytes tells = writes_tree words bytes old new
-        (readable words files f f' given ended g g' old new
-        (subst (λ st. Ends (HasCause words (seen f f' files given ended)) st g g' old new) is h) quiet bytes tells)
+    tree = writes_tree words files f f' given ended g g' old new
+        (subst (λ st. Ends (HasCause words (seen f f' files given ended)) st g g' old new) is h) quiet
 
     sources : TellsFiles files words → WritesOfSources words files old new
     sources tells = writes_of_sources words files old new st is

@@ -25,7 +25,6 @@ mod CountedLines
 mod PlainLines
 mod DemandedFuel
 mod Within
-mod ReadAgain
 mod Handing
 mod Worked
 mod Readied

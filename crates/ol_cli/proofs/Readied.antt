@@ -17,7 +17,6 @@ use Rattle.ol_cli.specs.declared.status.Status.TheVariants.{Limit}
 use Rattle.ol_cli.specs.Jobs.{translation_in}
 use Rattle.ol_cli.specs.TermFiles.{IsTermFile}
 use Rattle.ol_cli.specs.Cases.{TermAnswer, FileAnswer}
-use Rattle.ol_cli.specs.ReadAgain.{FileIsReadAgain}
 use Rattle.ol_cli.specs.Handed.{WhereEnded}
 use Rattle.ol_cli.specs.Ready.{Refuses, IsReady}
 use Rattle.ol_cli.proofs.Exact.{term_status}
@@ -31,12 +30,6 @@ module _ (job : Job) (bytes : List ℕ) where
   refuses_answer Syntax text r = r
   refuses_answer Limit text r = r
   refuses_answer _ text r = absurd r
-
-  pub refuses_read : (st : Status) (text : List ℕ) → Refuses (translation_in job) bytes st text →
-      FileIsReadAgain job bytes st text
-  refuses_read Syntax text r t names f e = absurd (cc)
-  refuses_read Limit text r t names f e = absurd (cc)
-  refuses_read _ text r t names f e = absurd r
 
 pub refuses_hands : (tr : Translation) (bytes : List ℕ) (st : Status) (text : List ℕ)
     (closed : Option ClosedTable) (P : Type 0) → Refuses tr bytes st text → closed ≡ None → WhereEnded st closed P

@@ -32,7 +32,6 @@ pub mod TwoCalls
 -- What only contracts of private functions and proofs cite.
 pub mod RefusalTexts
 pub mod Cases
-pub mod ReadAgain
 pub mod Files
 pub mod Ready
 pub mod Inside
