@@ -8,7 +8,7 @@ use Rattle.ol_words.specs.declared.jobs.Job.TheVariants as jobs
 use Rattle.ol_term.specs.Generated.{doubled_text}
 use Rattle.ol_cli.specs.declared.status.Status.{Status}
 use Rattle.ol_cli.specs.declared.status.Status.TheVariants.{Usage, ReadFault}
-use Rattle.ol_cli.specs.declared.status.Status.TheVariants.{NoMemory, Limit}
+use Rattle.ol_cli.specs.declared.status.Status.TheVariants.{Limit}
 use Rattle.ol_cli.specs.Answers.{AnswerOf, Gave, HasCause, Seen}
 use Rattle.ol_cli.specs.Cases.{Cause, CauseOf, FileAnswer, FileCause, GaveWithin, JobCause, failed, past, given, on_second}
 use Rattle.ol_cli.specs.Cases.{by_file, by_journal, by_making, by_net_file, by_first, by_second, by_both}

@@ -7,7 +7,6 @@ use Rattle.ol_io.specs.Readings.{Reading, AreOfSince, handed, reading}
 use Rattle.ol_law_confluence.specs.NormalForms.{BeginsReduced}
 use Rattle.ol_parse.specs.Grammar.{Named}
 use Rattle.ol_parse.specs.Texts.{IsText}
-use Rattle.ol_words.specs.Texts.{Text}
 use Rattle.ol_cli.specs.declared.status.Status.{Status}
 use Rattle.ol_cli.specs.declared.status.Status.TheVariants as status
 use Rattle.ol_cli.specs.Jobs.{AskForNothing, Files, files_of}
