@@ -1,6 +1,6 @@
 -- What is written for the job's own term, where a job is done and its text has fewer than 2^64 bytes: the facts of its tree.
-use Rattle.std.proofs.Common.{◌≡◌, ◌∙◌, ℕ, zero, suc, ◌-◌, ◌*◌, ◌^◌, ◌<◌, ◌≤◌, Bool, true, false, List, [], ◌∷◌, ◌++◌, codes}
-use Rattle.std.proofs.Common.{length, Option, Some, String, Global, sym, ap, subst, arith, length-append}
+use Rattle.std.proofs.Common.{◌≡◌, ◌∙◌, ℕ, zero, suc, ◌+◌, ◌-◌, ◌*◌, ◌^◌, ◌<◌, ◌≤◌, Bool, true, false, List, [], ◌∷◌, ◌++◌, codes}
+use Rattle.std.proofs.Common.{refl, length, Option, Some, String, Global, sym, ap, subst, arith, length-append}
 use Rattle.std.proofs.lemmas.Option.{same_Some}
 use Rattle.ol_io.specs.Outside.{Rose}
 use Rattle.ol_limits.specs.Limits.{most_nodes}
@@ -71,7 +71,8 @@ module _ (tr : Translation) (t : Tree) (names : List (List ℕ)) (has : HasNames
       IsReadBack names ns term
   read_back lost_too ns term short own shown all =
       let N = translation_of tr t (length names) in
-      let count : N.free_ports - 1 ≡ length names = omega arith in
+      let ports : N.free_ports ≡ 1 + length names = refl in
+      let count : N.free_ports - 1 ≡ length names = omega (arith, ports) in
       printed_is_read names ns term good differ few short
       (subst (λ n. AreNamed n ns) count (heads_are_named N lost_too ns (translation_net tr t (length names) has) own))
       (heads_are_whole N lost_too ns own) all shown
