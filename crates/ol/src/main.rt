@@ -1,16 +1,16 @@
 //! The program: `ol` over files, standard input and standard output.
 #![tactic(auto)]
 
-ghost use Rattle.std.specs.Prelude.{◌≡◌, ◌≢◌, ◌<◌, ◌≤◌, ◌⊎◌, ◌∷◌, ℕ, true, List, [], Some, codes};
-ghost use Rattle.ol_io.specs.Readings.{AreOfSince, handed, reading};
+ghost use Rattle.std.specs.Prelude.{◌≡◌, ◌≤◌, ◌⊎◌, ◌∷◌, ℕ, true, List, [], Some, codes};
+ghost use Rattle.ol_io.specs.Readings.{AreOfSince, reading};
 ghost use Rattle.ol_parse.specs.Grammar.{Named};
 ghost use Rattle.ol_parse.specs.Texts.{IsText};
 ghost use Rattle.ol_law_confluence.specs.NormalForms.{BeginsReduced};
 ghost use Rattle.ol_cli.specs.Jobs.{Files, files_of};
-ghost use Rattle.ol_cli.specs.NormalForms.{ArePlain};
-ghost use Rattle.ol_cli.specs.Answers.{Ends, HasCause, IsAnswer};
+ghost use Rattle.ol_cli.specs.NormalForms.{ArePlain, AreFewest, CountsSay, FirstLine, IsFoundWithin};
+ghost use Rattle.ol_cli.specs.NormalForms.{PlainDemandSays, PlainEqualSays, PlainLineSays};
+ghost use Rattle.ol_cli.specs.Answers.{Ends, HasCause};
 ghost use Rattle.ol_cli.specs.Called.{first_seen};
-ghost use Rattle.ol_cli.specs.Says.{SaysWhenDone, SaysOfAnswer};
 
 use ol_cli::{Status, ol};
 use ol_io::{OpenGate, Sink, Source, StdSink, StdSource};
@@ -29,7 +29,8 @@ struct Passed<'a, R: Files + Input + Print> {
     out: StdSink<'a, R>,
 }
 
-/// `ol` over files, standard input and standard output.
+/// `ol` over files, standard input and standard output. The law `ends_say` of `ol_cli` derives all
+/// other facts of the status and the output from `ends` and `told`.
 fn run<'a, R: Files + Input + Print + Threads + Wait + Sync>(
     rt: &'a R,
     alloc: Global,
@@ -46,41 +47,14 @@ fn run<'a, R: Files + Input + Print + Threads + Wait + Sync>(
         → (taken : List ℕ) → ⟦<StdSink<'a, R> as Sink>⟧.taken result.out ≡ Some taken
         → (source : Named) → IsText bytes source → BeginsReduced source taken }
 
-    // What is said of files below holds of any files that the readings of this call are of: a
-    // reading has all bytes of the file of its name where its end was seen, and else its first.
-    //
-    // Where the status is `Done`, all that `SaysWhenDone` lists holds of what standard output
-    // accepted: `plain` and three more in the words of terms alone, then the same of all words.
-    ensures done_says { result.status ≡ Status.Done
-        → (files : Files) → AreOfSince files [] (⟦<StdSource<'a, R> as Source>⟧.readings result.src)
-        → SaysWhenDone words.now.items files
-        (Some []) (⟦<StdSink<'a, R> as Sink>⟧.taken result.out) }
-
-    // Where nothing failed, whatever the status, unless no memory was found: what was accepted is the
-    // answer, a job that can be done is done, `run` with enough fuel exactly if the term is strongly
-    // normalising, and each complete run tells the same or is longer than the fuel (`exact`,
-    // `completeness`, `termination`, `every_run`).
-    ensures answer_says { ⟦<StdSource<'a, R> as Source>⟧.faults result.src ≡ 0
-        → ⟦<StdSink<'a, R> as Sink>⟧.faults result.out ≡ 0
-        → (files : Files) → AreOfSince files [] (⟦<StdSource<'a, R> as Source>⟧.readings result.src)
-        → SaysOfAnswer words.now.items files result.status
-        (Some []) (⟦<StdSink<'a, R> as Sink>⟧.taken result.out) }
-
-    // The answer is that to the bytes that were handed over, whatever any file holds.
-    ensures handed { ⟦<StdSource<'a, R> as Source>⟧.faults result.src ≡ 0
-        → ⟦<StdSink<'a, R> as Sink>⟧.faults result.out ≡ 0 → result.status ≢ Status.NoMemory
-        → (text : List ℕ)
-        × IsAnswer words.now.items (handed (⟦<StdSource<'a, R> as Source>⟧.readings result.src))
-        result.status text
-        × (⟦<StdSink<'a, R> as Sink>⟧.taken result.out ≡ Some text) }
-
-    // There are files that its readings are of.
+    // There are files that its readings are of: a reading has all bytes of the file of its name where
+    // its end was seen, and else its first.
     ensures told { (files : Files)
         × AreOfSince files [] (⟦<StdSource<'a, R> as Source>⟧.readings result.src) }
 
-    // Whatever failed: with `NoMemory`, whatever its cause, standard output accepted nothing. Each
-    // other status has its cause, and standard output accepted its text, or a prefix of it where it
-    // failed.
+    // The whole of what is written, whatever such files: with `NoMemory`, whatever its cause,
+    // standard output accepted nothing. Each other status has its cause, and standard output accepted
+    // its text, of fewer than 2^64 bytes, or a prefix of it where it failed.
     ensures ends { (files : Files)
         → AreOfSince files [] (⟦<StdSource<'a, R> as Source>⟧.readings result.src)
         → Ends (HasCause words.now.items
@@ -88,13 +62,42 @@ fn run<'a, R: Files + Input + Print + Threads + Wait + Sync>(
         0 (⟦<StdSink<'a, R> as Sink>⟧.faults result.out)
         (Some []) (⟦<StdSink<'a, R> as Sink>⟧.taken result.out) }
 
-    // `Done` of a job with a file comes after the end of the input was seen, and no call failed. As
-    // many names are begun at most as the job has files.
-    ensures done { result.status ≡ Status.Done
-        → (⟦<StdSource<'a, R> as Source>⟧.faults result.src ≡ 0)
-        × (⟦<StdSink<'a, R> as Sink>⟧.faults result.out ≡ 0)
-        × (0 < files_of words.now.items → ⟦<StdSource<'a, R> as Source>⟧.ended result.src ≡ true) }
+    // As many names are begun at most as the job has files.
     ensures begins { ⟦<StdSource<'a, R> as Source>⟧.begins result.src ≤ files_of words.now.items }
+
+    // What follows from `ends` for words without options, where the status is `Done`.
+    //
+    // After `ol run NAME`, `ol demand NAME` or `ol walk NAME`: where the first line that is written
+    // is a text of a term, that term is the normal form of the term in the file; and where `run` or
+    // `demand` has put a `?` in it, the latter has none.
+    ensures plain { result.status ≡ Status.Done
+        → (files : Files) → AreOfSince files [] (⟦<StdSource<'a, R> as Source>⟧.readings result.src)
+        → PlainLineSays words.now.items files
+        (Some []) (⟦<StdSink<'a, R> as Sink>⟧.taken result.out) }
+
+    // After `ol demand NAME` that line is a text of the normal form of the term in the file, where
+    // there is one and variables stand in at most 4,096 places of it.
+    ensures plain_demand { result.status ≡ Status.Done
+        → (files : Files) → AreOfSince files [] (⟦<StdSource<'a, R> as Source>⟧.readings result.src)
+        → PlainDemandSays (λ source. FirstLine (IsFoundWithin 4096 source)) words.now.items files
+        (Some []) (⟦<StdSink<'a, R> as Sink>⟧.taken result.out) }
+
+    // And no reduction of the term in the file to a normal form, of whatever redexes in whatever
+    // order, has fewer beta steps than the number after `beta`. Nor has a reduction by family steps,
+    // which contract any redexes of one family at once, told by Lévy's labels; and if the line is a
+    // text of a term, some reduction by family steps has exactly as many.
+    ensures plain_fewest { result.status ≡ Status.Done
+        → (files : Files) → AreOfSince files [] (⟦<StdSource<'a, R> as Source>⟧.readings result.src)
+        → PlainDemandSays (λ source. CountsSay (AreFewest source)) words.now.items files
+        (Some []) (⟦<StdSink<'a, R> as Sink>⟧.taken result.out) }
+
+    // After `ol equal A B` the line is `equal` only where the terms in the two files are convertible,
+    // and begins with `different` only where they aren't. Beta reduction alone counts, and free names
+    // are the same where their bytes are.
+    ensures plain_equal { result.status ≡ Status.Done
+        → (files : Files) → AreOfSince files [] (⟦<StdSource<'a, R> as Source>⟧.readings result.src)
+        → PlainEqualSays words.now.items files
+        (Some []) (⟦<StdSink<'a, R> as Sink>⟧.taken result.out) }
 {
     let mut src = StdSource::new(rt);
     let mut out = StdSink::new(rt);

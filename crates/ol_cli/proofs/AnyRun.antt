@@ -20,8 +20,8 @@ use Rattle.ol_readback.specs.Heads.{live}
 use Rattle.ol_readback.specs.ReadTrees.{IsTree}
 use Rattle.ol_readback.specs.declared.answers.ReadNode.{ReadNode}
 use Rattle.ol_cli.specs.Listing.{ListsOnce}
-use Rattle.ol_cli.specs.Run.{start_net_of_term, Shows, RunEnds, ReadsLast, Prints}
-use Rattle.ol_cli.specs.EveryRun.{PrintsOf, OneThreadIsThere, AnyRunPrints, AnyRunRunsOut}
+use Rattle.ol_cli.specs.Run.{start_net_of_term, Shows, RunEnds, ReadsLast}
+use Rattle.ol_cli.specs.EveryRun.{OneThreadIsThere, AnyRunPrints, AnyRunRunsOut}
 use Rattle.ol_cli.proofs.EveryRun.{shows_under}
 use Rattle.ol_cli.proofs.NamedNets.{named_net}
 use Rattle.ol_diamond.proofs.OneThread.{one_thread_exists, done_tells, spent_tells, longer_tells}
@@ -97,16 +97,8 @@ pub one_thread_is_there : OneThreadIsThere
 one_thread_is_there tr t names fuel is_net = one_thread_exists (start_net_of_term tr t names) fuel
     (start_is_net tr t names is_net) (start_is_named tr t names is_net)
 
--- and what holds of the tree and the term that are printed of the run holds of those that are
--- printed of the one-thread run
-pub any_run_with : (P : List ReadNode → List ℕ → Type 0) (tr : Translation) (t : Tree)
-    (names : List (List ℕ)) (fuel heads : ℕ) (text : List ℕ) → IsNet (translation_of tr t (length names)) →
-    (journal : List Entry) (net : NamedNet NodeName) →
-    IsRun (start_net_of_term tr t names) 0 journal net → IsComplete net →
-    (p : PrintsOf names fuel heads journal net text) →
-    P p.shows.tree p.shows.term → (q : Prints tr t names fuel heads text) × P q.shows.tree q.shows.term
-unfolding shows_under shows_same
-any_run_with P tr t names fuel heads text is_net journal net run complete p h =
+pub any_run_prints : AnyRunPrints
+any_run_prints tr t names fuel heads text is_net journal net run complete p =
     let N = start_net_of_term tr t names in
     let n = start_is_net tr t names is_net in
     let b = start_is_named tr t names is_net in
@@ -122,22 +114,16 @@ any_run_with P tr t names fuel heads text is_net journal net run complete p h =
     let same : SameNet o.1 listed = same_trans o.1 (net_under a.names net) listed
     (same_sym (net_under a.names net) o.1 a.written.same) (same_under a.names net p.listed p.same) in
     let e = ends_once N o.1 listed 0 o.0 same (start_once tr t names) shows.once o.2.leads in
-    let c = complete_same o.1 e.net (same_trans o.1 listed e.net same e.same) d.0 in (
-      record {
-        ends = record {
-          journal = o.0;
-          net = e.net;
-          run = record { leads = e.leads; within = o.2.within; ended = inl c };
-          complete = c;
-        };
-        shows = shows_same names heads o.0 listed e.net text e.same e.once shows;
-      },
-      h,
-    )
-
-pub any_run_prints : AnyRunPrints
-any_run_prints tr t names fuel heads text is_net journal net run complete p = (any_run_with
-    (λ ns x. Unit {0}) tr t names fuel heads text is_net journal net run complete p tt).0
+    let c = complete_same o.1 e.net (same_trans o.1 listed e.net same e.same) d.0 in
+    record {
+      ends = record {
+        journal = o.0;
+        net = e.net;
+        run = record { leads = e.leads; within = o.2.within; ended = inl c };
+        complete = c;
+      };
+      shows = shows_same names heads o.0 listed e.net text e.same e.once shows;
+    }
 
 pub any_run_runs_out : AnyRunRunsOut
 any_run_runs_out tr t names fuel is_net journal net run long =

@@ -7,8 +7,8 @@ use Rattle.ol_words.specs.declared.jobs.Job.{Job}
 use Rattle.ol_words.specs.declared.jobs.Job.TheVariants as jobs
 use Rattle.ol_term.specs.Generated.{doubled_text}
 use Rattle.ol_cli.specs.declared.status.Status.{Status}
-use Rattle.ol_cli.specs.declared.status.Status.TheVariants.{Usage, ReadFault, NoMemory, Limit}
-use Rattle.ol_cli.specs.Answers.{AnswerOf, Ends, Gave, HasCause, Seen}
+use Rattle.ol_cli.specs.declared.status.Status.TheVariants.{Usage, ReadFault, Limit}
+use Rattle.ol_cli.specs.Answers.{AnswerOf, Gave, HasCause, Seen}
 use Rattle.ol_cli.specs.Cases.{Cause, CauseOf, FileAnswer, FileCause, GaveWithin, JobCause, failed, past, given, on_second}
 use Rattle.ol_cli.specs.Cases.{by_file, by_journal, by_making, by_net_file, by_first, by_second, by_both}
 use Rattle.ol_cli.specs.Check.{JournalAnswer}
@@ -141,11 +141,6 @@ module _ (words : List (String Global)) (s : Seen) where
   cause_by ReadFault text c =
       (job_fault c.0 s text c.2, job_failed s text c.0 c.2, (c.0, c.1, has_file s text c.0 c.2))
   cause_by st text c = by_job st text (λ e. absurd (cc)) c
-
-  pub ends_by : (g g' : ℕ) (old new : Option (List ℕ)) (r : Status) →
-      Ends (Cause words s) r g g' old new → Ends (HasCause words s) r g g' old new
-  ends_by g g' old new NoMemory e = e
-  ends_by g g' old new _ e = (e.0, e.1, cause_by e.0 e.1 e.2, e.3)
 
 -- ---- and back
 

@@ -72,31 +72,27 @@ module _ (tr : Translation) (t : Tree) (names : List (List ℕ)) (start : Graph)
   from : SameNet (start_of start) (start_net_of_term tr t names)
   from = same_under Init (net_of start) (translation_of tr t (length names)) same
 
-  -- what is printed of the net that is left is printed of the term, and what holds of its tree and term holds of those
-  pub demands_with : (P : List ReadNode → List ℕ → Type 0) (tree : List ReadNode)
-      (term text : List ℕ) (stuck : ℕ) → StandsFor start new
+  -- what is printed of the net that is left is printed of the term
+  pub own_demands : (tree : List ReadNode) (term text : List ℕ) (stuck : ℕ) → StandsFor start new
       (λ M. IsDemandRun (start_of start) heads journal tree M) → length journal ≤ fuel →
       IsNet (net_of new) → HasStuck (net_of new) stuck → IsTextOf names tree term →
-      text ≡ answer_text term (counts_of journal) stuck → P tree term →
-      (d : Demands tr t names fuel heads text) × P d.ends.tree d.term
-  demands_with P tree term text stuck s within is_net counted shown written h =
+      text ≡ answer_text term (counts_of journal) stuck → Demands tr t names fuel heads text
+  own_demands tree term text stuck s within is_net counted shown written =
       let M = net_under s.names (net_of new) in
       let apart : (x y : ℕ) (k l : Kind) (i j : ℕ) → HasNode (net_of new) x k i →
       HasNode (net_of new) y l j → s.names x ≡ s.names y →
       x ≡ y = λ x y k l i j h h' e. rising_apart s.names
       (length new.nodes) s.are_names.rising x y (node_below new x k i h) (node_below new y l j h') e in
       let d = demand_same (start_of start) (start_net_of_term tr t names) M heads journal
-      (graph_once start) (start_once tr t names) from tree s.is in (
-        record {
-          ends = record { journal = journal; tree = tree; net = d.0; run = d.1; within = within };
-          term = term;
-          stuck = stuck;
-          shown = shown;
-          counted = has_stuck_same M d.0 stuck d.2 (has_stuck_under s.names (net_of new) is_net apart stuck counted);
-          written = written;
-        },
-        h,
-      )
+      (graph_once start) (start_once tr t names) from tree s.is in
+      record {
+        ends = record { journal = journal; tree = tree; net = d.0; run = d.1; within = within };
+        term = term;
+        stuck = stuck;
+        shown = shown;
+        counted = has_stuck_same M d.0 stuck d.2 (has_stuck_under s.names (net_of new) is_net apart stuck counted);
+        written = written;
+      }
 
   pub demand_spent : StandsFor start new (λ M. GoesOn (start_of start) heads journal M) →
       length journal ≡ fuel → DemandRunsOut tr t names fuel heads

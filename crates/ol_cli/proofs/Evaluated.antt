@@ -39,7 +39,7 @@ use Rattle.ol_cli.proofs.NamedNets.{named_net}
 use Rattle.ol_cli.proofs.ListedOnce.{net_of_once, net_of_parts_once, net_under_once, same_length}
 use Rattle.ol_cli.proofs.TreeTransport.{tree_same, tree_under}
 use Rattle.ol_invariance.proofs.Runs.{run_keeps_ports}
-use Rattle.ol_cli.proofs.AnyRun.{any_run_with, any_run_runs_out}
+use Rattle.ol_cli.proofs.AnyRun.{any_run_prints, any_run_runs_out}
 
 -- names that rise with their numbers give two numbers two names
 pub rising_apart : (names : ℕ → NodeName) (n : ℕ) →
@@ -130,39 +130,32 @@ module _ (tr : Translation) (t : Tree) (names : List (List ℕ)) (start : Graph)
         pub prints_work : PrintsWork names heads (journal_of w) net text
         prints_work = record { last = last; frozen = f; shows = shows }
 
-        -- what is printed of the workers' net is printed of the one-thread run, and what holds of
-        -- its tree and term holds of those
-        pub prints_with : (P : List ReadNode → List ℕ → Type 0) → IsNet (net_of start) →
-            P tree term → (p : Prints tr t names fuel heads text) × P p.shows.tree p.shows.term
-        unfolding shows
-        prints_with P n h =
+        -- what is printed of the workers' net is printed of the one-thread run
+        pub own_prints : IsNet (net_of start) → Prints tr t names fuel heads text
+        own_prints n =
             let r = own_run in
             let listed : SameNet r.0 named = same_trans r.0 net named (same_sym net r.0 r.2)
             (same_sym named net f.same) in
-            any_run_with P tr t names fuel heads text (own_net n) (journal_of w) r.0 r.1
+            any_run_prints tr t names fuel heads text (own_net n) (journal_of w) r.0 r.1
             (complete_same net r.0 r.2 complete)
-            (record { within = within; listed = named; same = listed; shows = shows }) h
+            (record { within = within; listed = named; same = listed; shows = shows })
 
--- the tree of the untouched net is that of the translation, and what holds of its tree and term holds of those
-pub walks_with : (P : List ReadNode → List ℕ → Type 0) (tr : Translation) (t : Tree)
-    (names : List (List ℕ)) (net : Graph) →
+-- the tree of the untouched net is that of the translation
+pub own_walks : (tr : Translation) (t : Tree) (names : List (List ℕ)) (net : Graph) →
     SameNet (net_of net) (translation_of tr t (length names)) →
     (edges heads : ℕ) (tree : List ReadNode) (term text : List ℕ) →
     IsTree (net_of net) heads edges tree → IsTextOf names tree term → text ≡ line term →
-    P tree term → (w : Walks tr t names edges heads text) × P w.tree w.term
-walks_with P tr t names net start edges heads tree term text r sh w h =
+    Walks tr t names edges heads text
+own_walks tr t names net start edges heads tree term text r sh w =
     let size = same_length (net_of net) (translation_of tr t (length names)) start (net_of_once net)
-    (net_of_parts_once (1 + length names) (nodes_of tr t) (links_of tr t)) in (
-      record {
-        tree = tree;
-        term = term;
-        read = tree_same (net_of net)
-            (translation_of tr t (length names)) start size heads edges tree r;
-        shown = sh;
-        written = w;
-      },
-      h,
-    )
+    (net_of_parts_once (1 + length names) (nodes_of tr t) (links_of tr t)) in
+    record {
+      tree = tree;
+      term = term;
+      read = tree_same (net_of net) (translation_of tr t (length names)) start size heads edges tree r;
+      shown = sh;
+      written = w;
+    }
 
 -- a text that was made, if one was
 pub reads_text : (P : List ℕ → Type 0) (r : Result (Vec ℕ Global) NoMemory) (text : List ℕ) →

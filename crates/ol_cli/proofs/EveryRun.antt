@@ -21,7 +21,7 @@ use Rattle.ol_cli.proofs.TreeTransport.{tree_under}
 use Rattle.ol_cli.proofs.OnePrint.{start_is_net, start_is_named}
 
 -- a net under other names shows the same text, with another journal of the same counts
-unfoldable pub shows_under : (names : List (List ℕ)) (heads : ℕ) (es fs : List Entry)
+pub shows_under : (names : List (List ℕ)) (heads : ℕ) (es fs : List Entry)
     (m : NodeName → NodeName) (N : NamedNet NodeName) (text : List ℕ) →
     ((x y : NodeName) (k l : Kind) (i j : ℕ) → HasNode N x k i → HasNode N y l j → m x ≡ m y →
     x ≡ y) → counts_of es ≡ counts_of fs → Shows names heads es N text → Shows names heads fs (net_under m N) text

@@ -70,7 +70,7 @@ net_told NoMemory h = h
 net_told _ h = tt
 
 -- the status of a job's answer is one of an answer
-job_told : (s : Seen) (st : Status) (text : List ℕ) (job : Job) → JobCause s st text job → IsTold st
+pub job_told : (s : Seen) (st : Status) (text : List ℕ) (job : Job) → JobCause s st text job → IsTold st
 job_told s st text job (by_file has c) = cause_told s _ _ _ (FileAnswer job) text st
     (λ bytes h. file_told job bytes st text h) c
 job_told s st text _ (by_journal {translation = tr} {t = t} {names = names} whole i c) =
@@ -285,15 +285,6 @@ pub ends_done : (words : List (String Global)) (s : Seen) (r : Status) (g g' : �
 ends_done words s Done g g' old new e some is = let c = subst (λ st. Cause words s st e.1)
     (sym e.3.0) e.2 in job_ended words c.0 s e.1 some c.1 c.2
 ends_done words s _ g g' old new e some is = absurd (cc)
-
--- ---- a text that was written whole
-
-pub written_ends : (words : List (String Global)) (s : Seen) (st : Status) (text : List ℕ)
-    (g g' : ℕ) (old new : Option (List ℕ)) → Cause words s st text → g' ≡ g →
-    Appended old text new → Ends (Cause words s) st g g' old new
-written_ends words s NoMemory text g g' old new c same w = absurd (job_told s NoMemory text c.0 c.2)
-written_ends words s WriteFault text g g' old new c same w = absurd (job_told s WriteFault text c.0 c.2)
-written_ends words s st text g g' old new c same w = (st, text, c, (refl, same, w))
 
 -- ---- a file that was read second
 

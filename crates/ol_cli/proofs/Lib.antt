@@ -25,7 +25,6 @@ mod CountedLines
 mod PlainLines
 mod DemandedFuel
 mod Within
-mod ReadAgain
 mod Handing
 mod Worked
 mod Readied
@@ -36,7 +35,9 @@ mod FilesRead
 mod Termination
 mod Called
 mod Frame
-mod Saying
+mod NamesOnce
+mod TextsRead
+pub mod Follows
 mod JournalFound
 mod Traced
 mod WavesKept

@@ -11,32 +11,25 @@ use Rattle.ol_cli.specs.Generate.{plain_run}
 use Rattle.ol_cli.specs.TermFiles.{FileHands}
 use Rattle.ol_cli.specs.Handed.{WhereEnded}
 use Rattle.ol_cli.specs.Inside.{ComesOf}
-use Rattle.ol_cli.specs.ReadAgain.{FileIsReadAgain}
 use Rattle.ol_cli.proofs.Handing.{none_ended}
-use Rattle.ol_cli.proofs.ReadAgain.{made_read}
 
 pub made_comes : (tr : Translation) (k : ℕ) (s : Seen) → s.faults' ≡ s.faults → (a : Answer) →
     a.status ≡ Done → a.text.items ≡ doubled_text k → a.closed ≡ None →
     ComesOf (jobs.Gen tr false k) s a
 made_comes tr k s same a is e none = record {
   caused = by_making same (is, e);
-  read = λ bytes told t names f done. tt;
   closed = none_ended a.status a.closed none;
 }
 
 pub run_comes : (tr : Translation) (k : ℕ) (s : Seen) → s.faults' ≡ s.faults → (a : Answer)
     (bytes : List ℕ) → bytes ≡ doubled_text k →
     FileAnswer (plain_run tr) bytes a.status a.text.items →
-    FileIsReadAgain (plain_run tr) bytes a.status a.text.items →
     WhereEnded a.status a.closed (FileHands (plain_run tr) bytes a.status a.text.items a.closed) →
     ComesOf (jobs.Gen tr true k) s a
-run_comes tr k s same a bytes e h read closed = record {
+run_comes tr k s same a bytes e h closed = record {
   caused =
       by_making same
       (subst (λ (b : List ℕ). FileAnswer (plain_run tr) b a.status a.text.items) e h);
-  read =
-      made_read tr (s.contents 0) true k a.status a.text.items
-      (subst (λ (b : List ℕ). FileIsReadAgain (plain_run tr) b a.status a.text.items) e read);
   closed =
       subst
       (λ (b : List ℕ). WhereEnded a.status a.closed

@@ -128,6 +128,14 @@ one_file_answer : (job : Job) (bytes : List ℕ) → (s s' : Status) (x x' : Lis
 one_file_answer job bytes s s' x x' h h' = one_of_file job bytes s s' x x'
     (of_file_answer job bytes s x h) (of_file_answer job bytes s' x' h')
 
+-- what is answered to the term of some bytes is answered to their term
+pub same_answer : (job : Job) (bytes : List ℕ) (t u : Tree) (names others : List (List ℕ)) →
+    IsFileOf bytes t names → IsFileOf bytes u others → (s : Status) (x : List ℕ) →
+    TermAnswer job u others s x → TermAnswer job t names s x
+same_answer job bytes t u names others f g s x h =
+    let same = one_file bytes u t others names g f in
+    subst (λ t. TermAnswer job t names s x) same.0 (subst (λ names. TermAnswer job u names s x) same.1 h)
+
 -- ---- a file within the limits
 
 module _ (job : Job) (bytes : List ℕ) (t : Tree) (names : List (List ℕ))
@@ -139,9 +147,7 @@ module _ (job : Job) (bytes : List ℕ) (t : Tree) (names : List (List ℕ))
   own_tree u others f s x (too_large d z h) = let b = i.small in
       let e = ap (size_of_translation (translation_in job))
       (one_file bytes t u names others i.file f).0 in absurd (omega arith)
-  own_tree u others f s x (done d z h) =
-      let same = one_file bytes u t others names f i.file in
-      subst (λ t. TermAnswer job t names s x) same.0 (subst (λ names. TermAnswer job u names s x) same.1 h)
+  own_tree u others f s x (done d z h) = same_answer job bytes t u names others i.file f s x h
 
   -- what is answered is answered to its term
   pub own_term : (s : Status) (x : List ℕ) → OfFile job bytes s x → TermAnswer job t names s x

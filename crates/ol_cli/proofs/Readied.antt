@@ -2,7 +2,7 @@
 use Rattle.std.proofs.Common.{◌≡◌, ℕ, ◌+◌, ◌<◌, ◌≤◌, List, length, Option, None, arith}
 use Rattle.ol_term.specs.declared.translations.Translation.{Translation}
 use Rattle.ol_term.specs.Trees.{Tree, depth}
-use Rattle.ol_parse.specs.Parsed.{IsFileOf, AreNames}
+use Rattle.ol_parse.specs.Parsed.{IsFileOf}
 use Rattle.ol_net.specs.Graph.{Graph}
 use Rattle.ol_net.specs.Nets.{SameNet}
 use Rattle.ol_net.specs.Numbered.{net_of, all_live}
@@ -16,7 +16,6 @@ use Rattle.ol_cli.specs.declared.status.Status.TheVariants.{Syntax, Limit}
 use Rattle.ol_cli.specs.Jobs.{translation_in}
 use Rattle.ol_cli.specs.TermFiles.{IsTermFile}
 use Rattle.ol_cli.specs.Cases.{TermAnswer, FileAnswer}
-use Rattle.ol_cli.specs.ReadAgain.{FileIsReadAgain}
 use Rattle.ol_cli.specs.Handed.{WhereEnded}
 use Rattle.ol_cli.specs.Ready.{Refuses, IsReady}
 use Rattle.ol_cli.proofs.Exact.{term_status}
@@ -30,12 +29,6 @@ module _ (job : Job) (bytes : List ℕ) where
   refuses_answer Syntax text r = r
   refuses_answer Limit text r = r
   refuses_answer _ text r = absurd r
-
-  pub refuses_read : (st : Status) (text : List ℕ) → Refuses (translation_in job) bytes st text →
-      FileIsReadAgain job bytes st text
-  refuses_read Syntax text r t names f e = absurd (cc)
-  refuses_read Limit text r t names f e = absurd (cc)
-  refuses_read _ text r t names f e = absurd r
 
 pub refuses_hands : (tr : Translation) (bytes : List ℕ) (st : Status) (text : List ℕ)
     (closed : Option ClosedTable) (P : Type 0) → Refuses tr bytes st text → closed ≡ None → WhereEnded st closed P
@@ -58,16 +51,15 @@ small_of : (m n : ℕ) → (n < m → ⊥) → m ≤ n
 small_of m n h = grind arith
 
 pub ready_net : (tr : Translation) (bytes : List ℕ) (t : Tree) (names : List (List ℕ))
-    (net : Graph) → length bytes ≤ 1048576 → IsFileOf bytes t names → depth t ≤ 1000 → AreNames names →
+    (net : Graph) → length bytes ≤ 1048576 → IsFileOf bytes t names → depth t ≤ 1000 →
     SameNet (net_of net) (translation_of tr t (length names)) →
     net.nodes ≡ all_live (nodes_of tr t) → length net.nodes ≡ size_of_translation tr t →
     net.free ≡ length names + 1 →
     length names ≤ length net.nodes → top_index_of net.nodes ≤ 1000000 →
     (200000 < size_of_translation tr t → ⊥) → IsReady tr bytes t names net
-ready_net tr bytes t names net short file shallow named same numbers size free few indexes fits =
+ready_net tr bytes t names net short file shallow same numbers size free few indexes fits =
     let small = small_of (size_of_translation tr t) 200000 fits in record {
       term = record { short = short; file = file; shallow = shallow; small = small };
-      named = named;
       ready = record {
         same = same;
         whole = whole_net net (nodes_of tr t) numbers;

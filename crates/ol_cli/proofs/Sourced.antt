@@ -1,6 +1,7 @@
 -- What an answer says of the job's own term.
-use Rattle.std.proofs.Common.{◌≡◌, ◌≢◌, ℕ, ◌*◌, Bool, true, false, zero, suc, List, [], ◌∷◌, codes, slice_get, length}
-use Rattle.std.proofs.Common.{Option, Some, String, Global, ◌<◌, ◌≤◌, ◌⊎◌, inl, inr, sym, ap, ◌∙◌, subst, arith}
+use Rattle.std.proofs.Common.{◌≡◌, ◌≢◌, ℕ, Bool, true, zero, suc, List, [], ◌∷◌, codes}
+use Rattle.std.proofs.Common.{slice_get, length, Option, Some, String, Global, ◌<◌, ◌≤◌, ◌⊎◌, inl}
+use Rattle.std.proofs.Common.{inr, sym, ap, ◌∙◌, subst, arith}
 use Rattle.std.proofs.lemmas.Bool.{cases_lt}
 use Rattle.std.proofs.lemmas.Option.{same_Some}
 use Rattle.ol_io.specs.Outside.{Appended, Rose}
@@ -8,144 +9,41 @@ use Rattle.ol_term.specs.declared.translations.Translation.{Translation}
 use Rattle.ol_term.specs.Trees.{Tree}
 use Rattle.ol_term.specs.Generated.{doubled_text}
 use Rattle.ol_parse.specs.Parsed.{IsFileOf}
-use Rattle.ol_parse.proofs.Exact.{one_file}
 use Rattle.ol_net.specs.Nets.{NamedNet}
 use Rattle.ol_net.specs.Pairs.{IsComplete}
 use Rattle.ol_rules.specs.declared.journal.NodeName.{NodeName}
 use Rattle.ol_rules.specs.declared.journal.Entry.{Entry}
 use Rattle.ol_rules.specs.Runs.{IsRun}
-use Rattle.ol_translate.specs.Translation.{translation_of}
-use Rattle.ol_translate.specs.Names.{HasNames}
-use Rattle.ol_translate.proofs.Whole.{translation_net}
-use Rattle.ol_readback.specs.Heads.{live}
-use Rattle.ol_readback.specs.Terms.{HasAllHeads, IsReadBack}
-use Rattle.ol_readback.proofs.Sources.{own_heads}
-use Rattle.ol_readback.proofs.Forests.{tree_is_whole, heads_are_whole}
-use Rattle.ol_law_completeness.proofs.CompleteRuns.{complete_is_enough}
-use Rattle.ol_law_completeness.proofs.Demanded.{demanded_is_enough}
 use Rattle.ol_law_completeness.specs.Least.{CanBeRead}
-use Rattle.ol_law_completeness.proofs.TheLeast.{demand_is_the_least, stopped_is_not_enough}
-use Rattle.ol_law_levels.proofs.AskedTrees.{asked_heads, asked_kept, last_tree_tells}
-use Rattle.ol_law_levels.proofs.DemandPlaces.{demand_tells as places_told}
-use Rattle.ol_law_meaning.proofs.Based.{places_say}
+use Rattle.ol_law_completeness.proofs.TheLeast.{stopped_is_not_enough}
 use Rattle.ol_law_meaning.proofs.FileNames.{file_names}
-use Rattle.ol_law_confluence.proofs.PrintedTrees.{says_always}
 use Rattle.ol_words.specs.Texts.{Text}
 use Rattle.ol_words.specs.declared.jobs.Job.{Job}
 use Rattle.ol_words.specs.declared.jobs.Job.TheVariants as jobs
 use Rattle.ol_cli.specs.declared.status.Status.{Status}
 use Rattle.ol_cli.specs.declared.status.Status.TheVariants as status
 use Rattle.ol_cli.specs.Jobs.{AskFor, Files, AreTold, TellsTerm, TellsFiles, term_bytes, translation_in}
-use Rattle.ol_cli.specs.Run.{start_net_of_term, Prints}
-use Rattle.ol_cli.specs.Walk.{Walks}
-use Rattle.ol_cli.specs.Demand.{Demands}
-use Rattle.ol_cli.specs.Cases.{DemandRunsOut, Cause, JobAnswer, of_file, made, TermAnswer, FileAnswer}
+use Rattle.ol_cli.specs.Run.{start_net_of_term}
+use Rattle.ol_cli.specs.Cases.{DemandRunsOut, Cause}
 use Rattle.ol_cli.specs.Answers.{Ends, IsAnswer}
 use Rattle.ol_cli.specs.TermFiles.{IsTermFile}
 use Rattle.ol_cli.specs.Generate.{plain_run}
-use Rattle.ol_cli.specs.Sources.{PrintsTree, WalksTree, DemandsTree, TellsTree, WritesTree, RunTells, JobTells}
-use Rattle.ol_cli.specs.Sources.{FuelTells, IsLast, TermTells, EveryRunTells}
-use Rattle.ol_cli.specs.ReadAgain.{TextIsReadAgain, WritesReadable}
-use Rattle.ol_rules.proofs.LeadRuns.{as_run}
+use Rattle.ol_cli.specs.Sources.{RunTells, JobTells, FuelTells, IsLast, TermTells, EveryRunTells}
 use Rattle.ol_cli.proofs.DemandRuns.{demand_is_longer}
 use Rattle.ol_cli.proofs.StartNet.{start_net_is_fit, is_less}
 use Rattle.ol_cli.proofs.EveryRun.{every_run_prints, every_run_is_longer}
-use Rattle.ol_cli.proofs.OneAnswer.{file_net, one_job, own_job}
+use Rattle.ol_cli.proofs.OneAnswer.{file_net, one_job, own_job, same_answer}
 use Rattle.ol_cli.proofs.Exact.{ends_exact}
-use Rattle.ol_limits.specs.Limits.{plain_fuel, plain_heads}
-
--- ---- the tree that is written
-
-prints_tree : (tr : Translation) (t : Tree) (names : List (List ℕ)) (fuel heads : ℕ)
-    (text : List ℕ) → HasNames t (length names) → (p : Prints tr t names fuel heads text) →
-    (HasAllHeads p.shows.tree → IsReadBack names p.shows.tree p.shows.term) → PrintsTree tr t names fuel heads text
-prints_tree tr t names fuel heads text has p read =
-    let s = p.shows in
-    let N = translation_of tr t (length names) in
-    let ran = as_run (start_net_of_term tr t names) p.ends.net 0 p.ends.journal p.ends.run.leads in
-    let asked = last_tree_tells tr t (length names) has p.ends.journal p.ends.net ran p.ends.complete heads
-    (2 * live p.ends.net) s.tree (omega arith) s.read in
-    let own = asked_heads N heads s.tree asked in
-    let whole = tree_is_whole p.ends.net heads (2 * live p.ends.net) s.tree s.read in
-    let says = places_say tr t (length names) has true whole.tree s.tree whole.is_list own
-    in
-    record {
-      prints = p;
-      own_heads = asked;
-      says = says;
-      always = says_always says;
-      read_again = read;
-    }
-
-walks_tree : (tr : Translation) (t : Tree) (names : List (List ℕ)) (edges heads : ℕ)
-    (text : List ℕ) → HasNames t (length names) → (w : Walks tr t names edges heads text) →
-    (HasAllHeads w.tree → IsReadBack names w.tree w.term) → WalksTree tr t names edges heads text
-walks_tree tr t names edges heads text has w read =
-    let N = translation_of tr t (length names) in
-    let own = (own_heads N (translation_net tr t (length names) has) heads edges w.tree w.read).0 in
-    let whole = tree_is_whole N heads edges w.tree w.read in
-    let says = places_say tr t (length names) has false whole.tree w.tree whole.is_list own in
-    record {
-      walks = w;
-      own_heads = own;
-      says = says;
-      always = says_always says;
-      read_again = read;
-    }
-
-demands_tree : (tr : Translation) (t : Tree) (names : List (List ℕ)) (fuel heads : ℕ)
-    (text : List ℕ) → HasNames t (length names) → (d : Demands tr t names fuel heads text) →
-    (HasAllHeads d.ends.tree → IsReadBack names d.ends.tree d.term) → DemandsTree tr t names fuel heads text
-demands_tree tr t names fuel heads text has d read =
-    let N = translation_of tr t (length names) in
-    let start = start_net_of_term tr t names in
-    let fit = start_net_is_fit tr t names has in
-    let s = fit.0.start in
-    let clear = fit.0.clear in
-    let asked = asked_kept start N (λ p c q e.
-    ((fit.1 p c q e).1, (fit.1 p c q e).0)) heads d.ends.tree
-    (places_told start d.ends.net heads d.ends.journal d.ends.tree s fit.0.levelled d.ends.run) in
-    let own = asked_heads N heads d.ends.tree asked in
-    let whole = heads_are_whole N true d.ends.tree own in
-    let says = places_say tr t (length names) has true whole.tree d.ends.tree whole.is_list own in
-    record {
-      demands = d;
-      own_heads = asked;
-      says = says;
-      always = says_always says;
-      read_again = read;
-      enough = demanded_is_enough start d.ends.net heads d.ends.journal d.ends.tree s clear d.ends.run;
-      least = demand_is_the_least start d.ends.net heads d.ends.journal d.ends.tree s clear d.ends.run;
-      complete = complete_is_enough start d.ends.net heads d.ends.journal d.ends.tree s clear
-          d.ends.run;
-    }
-
-tells_tree : (job : Job) (t : Tree) (names : List (List ℕ)) (text : List ℕ) →
-    HasNames t (length names) → TextIsReadAgain job t names text → TellsTree job t names text
-tells_tree (jobs.Run tr workers fuel heads name) t names text has h = prints_tree tr t names fuel heads text has h.0 h.1
-tells_tree (jobs.Walk tr edges heads name) t names text has h = walks_tree tr t names edges heads text has h.0 h.1
-tells_tree (jobs.Gen tr true k) t names text has h = prints_tree tr t names plain_fuel plain_heads text has h.0 h.1
-tells_tree (jobs.Demand tr f q name) t names text has h = demands_tree tr t names f q text has h.0 h.1
-tells_tree _ t names text has h = tt
-
-pub writes_tree : (words : List (String Global)) (bytes : List ℕ) (old new : Option (List ℕ)) →
-    WritesReadable words bytes old new → WritesTree words bytes old new
-writes_tree words bytes old new h job t names j f =
-    let x = h job t names j f in
-    (x.0, tells_tree job t names x.0 (file_names bytes t names f) x.1, x.2)
 
 -- ---- answers to the job's own term
 
 -- the answer of `run` to some bytes is that to their own term, and each complete run tells it
 module _ (tr : Translation) (bytes : List ℕ) (workers fuel heads : ℕ) (name : Text) (t : Tree)
     (names : List (List ℕ)) (f : IsFileOf bytes t names) where
-  own_term : (st : Status) (text : List ℕ) (u : Tree) (others : List (List ℕ)) →
+  own_answer : (st : Status) (text : List ℕ) (u : Tree) (others : List (List ℕ)) →
       IsTermFile tr bytes u others → TermAnswer (jobs.Run tr workers fuel heads name) u others st text →
       TermAnswer (jobs.Run tr workers fuel heads name) t names st text
-  own_term st text u others i h =
-      let same = one_file bytes u t others names i.file f in
-      subst (λ t. TermAnswer (jobs.Run tr workers fuel heads name) t names st text) same.0
-      (subst (λ names. TermAnswer (jobs.Run tr workers fuel heads name) u names st text) same.1 h)
+  own_answer st text u others i = same_answer (jobs.Run tr workers fuel heads name) bytes t u names others f i.file st text
 
   runs_tell : (st : Status) (text : List ℕ) (old new : Option (List ℕ)) →
       FileAnswer (jobs.Run tr workers fuel heads name) bytes st text → Appended old text new →
@@ -155,12 +53,12 @@ module _ (tr : Translation) (bytes : List ℕ) (workers fuel heads : ℕ) (name 
   runs_tell status.Done text old new h written journal net ran complete = (
     text,
     every_run_prints tr t names fuel heads text (file_net tr bytes t names f)
-        (own_term status.Done text h.0 h.1 h.2 h.3) journal net ran complete,
+        (own_answer status.Done text h.0 h.1 h.2 h.3) journal net ran complete,
     written,
   )
   runs_tell status.Spent text old new h written journal net ran complete =
       every_run_is_longer tr t names fuel (file_net tr bytes t names f)
-      (own_term status.Spent text h.0 h.1 h.2 h.3).0 journal net ran complete
+      (own_answer status.Spent text h.0 h.1 h.2 h.3).0 journal net ran complete
   runs_tell _ text old new h written journal net ran complete = tt
 
 -- so is that of `demand`, whose demand run is longer than the fuel where this is spent
@@ -169,9 +67,7 @@ module _ (tr : Translation) (bytes : List ℕ) (fuel heads : ℕ) (name : Text) 
   runs_out : (text : List ℕ) → FileAnswer (jobs.Demand tr fuel heads name) bytes status.Spent text →
       DemandRunsOut tr t names fuel heads
   runs_out text h =
-      let same = one_file bytes h.0 t h.1 names h.2.file f in
-      (subst (λ t. TermAnswer (jobs.Demand tr fuel heads name) t names status.Spent text) same.0
-      (subst (λ names. TermAnswer (jobs.Demand tr fuel heads name) h.0 names status.Spent text) same.1 h.3)).0
+      (same_answer (jobs.Demand tr fuel heads name) bytes t h.0 names h.1 f h.2.file status.Spent text h.3).0
 
   spent_tells : (st : Status) (text : List ℕ) → FileAnswer (jobs.Demand tr fuel heads name) bytes st text →
       FuelTells (jobs.Demand tr fuel heads name) t names st

@@ -24,11 +24,9 @@ use Rattle.ol_limits.specs.Limits.{most_net_bytes}
 use Rattle.ol_cli.specs.RefusalTexts.{net_bytes_text}
 use Rattle.ol_cli.specs.Handed.{ReadHands, JobHands, WhereEnded}
 use Rattle.ol_cli.specs.Inside.{ComesOf}
-use Rattle.ol_cli.specs.ReadAgain.{AnswerIsReadAgain}
 use Rattle.ol_cli.specs.Ready.{Refuses, RefusesTerm, ComesOfTerm}
 use Rattle.ol_cli.proofs.Causes.{cause_map}
 use Rattle.ol_cli.proofs.Handing.{file_hands, none_ended, read_hands, where_ended}
-use Rattle.ol_cli.proofs.ReadAgain.{file_bytes, file_read, told_read}
 use Rattle.ol_cli.proofs.Readied.{refuses_answer, refuses_hands, term_answer}
 
 -- ---- a file that is refused
@@ -60,9 +58,6 @@ pub refused_comes : (job : Job) → HasTermFile job → (s : Seen) (a : Answer) 
     ComesOfTerm (translation_in job) s (file_name job) (ready.Refused a) → ComesOf job s a
 refused_comes job has s a r = record {
   caused = by_file has (refused_cause job s a.status a.text.items r.0);
-  read =
-      λ bytes told t names f e.
-      absurd (refused_undone (translation_in job) s (file_name job) a.text.items a.status r.0 e);
   closed =
       refused_closed (translation_in job) s (file_name job) a.text.items a.status a.closed
       (JobHands job s a.status a.text.items a.closed) r.0 r.1;
@@ -82,9 +77,8 @@ job_hands _ has s st text closed h = h
 pub term_comes : (job : Job) → HasTermFile job → (s : Seen) (net : Graph) (file : TermFile) →
     ComesOfTerm (translation_in job) s (file_name job) (ready.Net net file) → (a : Answer) →
     TermAnswer job (tree_of file.term) file.names a.status a.text.items →
-    AnswerIsReadAgain job (tree_of file.term) file.names a.status a.text.items →
     TermHands job (tree_of file.term) file.names a.status a.text.items a.closed → ComesOf job s a
-term_comes job has s net file (same, (bytes, gave, i)) a h read closed =
+term_comes job has s net file (same, (bytes, gave, i)) a h closed =
     let t = tree_of file.term in
     let names = file.names in
     let st = a.status in
@@ -92,11 +86,6 @@ term_comes job has s net file (same, (bytes, gave, i)) a h read closed =
       caused =
           by_file has
           (given same gave (term_answer job bytes t names i.term st text h));
-      read =
-          λ told e.
-          told_read job (s.contents 0 (file_name job)) bytes told st text gave.whole
-          (file_read job bytes t names st text i.term.file i.named read)
-          (file_bytes (s.contents 0) job has ∙ e);
       closed =
           where_ended st a.closed (ReadHands job s st text a.closed)
           (JobHands job s st text a.closed) (job_hands job has s st text a.closed)
@@ -108,11 +97,10 @@ term_comes job has s net file (same, (bytes, gave, i)) a h read closed =
 pub term_comes_if : (job : Job) → HasTermFile job → (s : Seen) (net : Graph) (file : TermFile) →
     ComesOfTerm (translation_in job) s (file_name job) (ready.Net net file) → (made : Result Answer NoMemory) →
     IfOk made (λ a. TermAnswer job (tree_of file.term) file.names a.status a.text.items) →
-    IfOk made (λ a. AnswerIsReadAgain job (tree_of file.term) file.names a.status a.text.items) →
     IfOk made (λ a. TermHands job (tree_of file.term) file.names a.status a.text.items a.closed) →
     IfOk made (ComesOf job s)
-term_comes_if job has s net file comes (Ok a) h read closed = term_comes job has s net file comes a h read closed
-term_comes_if job has s net file comes (Err e) h read closed = tt
+term_comes_if job has s net file comes (Ok a) h closed = term_comes job has s net file comes a h closed
+term_comes_if job has s net file comes (Err e) h closed = tt
 
 -- ---- the file of a net
 
@@ -122,6 +110,5 @@ pub net_comes : (tr : Translation) (workers fuel : ℕ) (name : Text) (s : Seen)
     ComesOf (jobs.Net tr false workers fuel name) s a
 net_comes tr workers fuel name s a cause e = record {
   caused = by_net_file cause;
-  read = λ bytes told. absurd (cc);
   closed = none_ended a.status a.closed e;
 }

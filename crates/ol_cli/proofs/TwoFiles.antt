@@ -1,4 +1,4 @@
--- What a job on two files comes to, which reads nothing again and hands back nothing.
+-- What a job on two files comes to, which hands back nothing.
 use Rattle.std.proofs.Common.{◌≡◌, None}
 use Rattle.ol_term.specs.declared.translations.Translation.{Translation}
 use Rattle.ol_words.specs.Texts.{Text}
@@ -15,7 +15,6 @@ pub check_comes : (tr : Translation) (term journal : Text) (s : Seen) (a : Answe
     ComesOf (jobs.Check tr term journal) s a
 check_comes tr term journal s a cause none = record {
   caused = cause;
-  read = λ bytes told t names f e. tt;
   closed = none_ended a.status a.closed none;
 }
 
@@ -24,6 +23,5 @@ pub equal_comes : (n : RunNumbers) (first second : Text) (s : Seen) (a : Answer)
     ComesOf (equal_on n first second) s a
 equal_comes n first second s a cause none = record {
   caused = cause;
-  read = λ bytes told. absurd (cc);
   closed = none_ended a.status a.closed none;
 }

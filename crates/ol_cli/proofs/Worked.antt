@@ -14,7 +14,7 @@ use Rattle.ol_readback.specs.declared.answers.ReadNode.{ReadNode}
 use Rattle.ol_cli.specs.declared.status.Status.TheVariants as status
 use Rattle.ol_cli.specs.RefusalTexts.{spent_text}
 use Rattle.ol_cli.specs.Run.{RunsOut, Prints, start_net_of_term, journal_of, RunHands}
-use Rattle.ol_cli.proofs.Evaluated.{Told, runs_out, ports_kept, prints_work, prints_with}
+use Rattle.ol_cli.proofs.Evaluated.{Told, runs_out, ports_kept, prints_work, own_prints}
 
 module _ (tr : Translation) (t : Tree) (names : List (List ℕ)) (start : Graph)
     (same : SameNet (net_of start) (translation_of tr t (length names))) (fuel seats heads : ℕ)
@@ -49,10 +49,9 @@ module _ (tr : Translation) (t : Tree) (names : List (List ℕ)) (start : Graph)
       within : length (journal_of w) ≤ fuel
       within = subst (λ (j : List Entry). length j ≤ fuel) d.read d.within
 
-      pub done_answer : (P : List ReadNode → List ℕ → Type 0) → IsNet (net_of start) → P tree term →
-          (p : Prints tr t names fuel heads text) × P p.shows.tree p.shows.term
-      done_answer P n h = prints_with tr t names start same fuel seats w d.table d.last_net d.after
-          last d.frozen heads stuck tree term text own_told within d.complete P n h
+      pub done_answer : IsNet (net_of start) → Prints tr t names fuel heads text
+      done_answer n = own_prints tr t names start same fuel seats w d.table d.last_net d.after
+          last d.frozen heads stuck tree term text own_told within d.complete n
 
       pub done_hands : NoNodeTwice (journal_of w) → RunHands tr t names seats fuel heads status.Done text (Some w)
       done_hands once = (

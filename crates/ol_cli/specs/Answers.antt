@@ -1,7 +1,7 @@
 -- The answer to a list of words and to the bytes of the files that they name: a text and a status,
 -- by the order of refusals; and what a call does, by what its source and its sink did.
 use Rattle.std.specs.Prelude.{Bool, List, Option, Some, String, codes, false, length, take, true}
-use Rattle.std.specs.Prelude.{ℕ, ◌<◌, ◌≡◌, ◌≢◌, ◌≤◌, ◌⊎◌}
+use Rattle.std.specs.Prelude.{ℕ, ◌<◌, ◌≡◌, ◌≢◌, ◌≤◌, ◌⊎◌, ◌^◌}
 use Rattle.std.specs.declared.alloc.Global.{Global}
 use Rattle.ol_io.specs.Outside.{Appended, IsAllOf, Rose}
 use Rattle.ol_term.specs.Trees.{Tree}
@@ -116,9 +116,9 @@ Told st text status.WriteFault faults faults' old new =
 Told st text result faults faults' old new = (result ≡ st) × (faults' ≡ faults) × Appended old text new
 
 -- The whole of what the call did: want of memory, for whatever cause, and nothing written; or another status with its
--- cause, whose text was told.
+-- cause, whose text, of fewer than 2^64 bytes, was told.
 abbrev pub Ends : (Cause : Status → List ℕ → Type 0) → Status → (faults faults' : ℕ) →
     Option (List ℕ) → Option (List ℕ) → Type 0
 Ends Cause status.NoMemory faults faults' old new = (new ≡ old) × (faults' ≡ faults)
 Ends Cause result faults faults' old new =
-    (st : Status) × (text : List ℕ) × Cause st text × Told st text result faults faults' old new
+    (st : Status) × (text : List ℕ) × Cause st text × Told st text result faults faults' old new × (length text < 2 ^ 64)

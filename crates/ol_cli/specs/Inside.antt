@@ -17,12 +17,11 @@ use Rattle.ol_cli.specs.declared.answer.Answer.{Answer}
 use Rattle.ol_cli.specs.declared.top.Outcome.{Outcome}
 use Rattle.ol_cli.specs.declared.status.Status.{Status}
 use Rattle.ol_cli.specs.declared.status.Status.TheVariants as status
-use Rattle.ol_cli.specs.Jobs.{TermHands, term_bytes}
+use Rattle.ol_cli.specs.Jobs.{TermHands}
 use Rattle.ol_cli.specs.Run.{RunsOut, ReadsLast, start_net_of_term}
 use Rattle.ol_cli.specs.Answers.{Seen}
 use Rattle.ol_cli.specs.Cases.{JobCause, Cause, TermAnswer}
 use Rattle.ol_cli.specs.Handed.{JobHands, WhereEnded, WordsHand}
-use Rattle.ol_cli.specs.ReadAgain.{AnswerIsReadAgain, FileIsReadAgain, WordsAreReadAgain}
 
 -- the jobs of these numbers, on files of these names
 abbrev pub run_on : RunNumbers → Text → Job
@@ -51,10 +50,6 @@ demand_by translation fuel heads = jobs.Demand translation fuel heads []
 abbrev pub AnswersTerm : Job → TermFile → Status → List ℕ → Type 0
 AnswersTerm job file st text = TermAnswer job (tree_of file.term) file.names st text
 
--- that it is read again,
-abbrev pub IsReadByNames : Job → TermFile → Status → List ℕ → Type 0
-IsReadByNames job file st text = AnswerIsReadAgain job (tree_of file.term) file.names st text
-
 -- and what is handed back with it
 abbrev pub HandsOfTerm : Job → TermFile → Status → List ℕ → Option ClosedTable → Type 0
 HandsOfTerm job file st text closed = TermHands job (tree_of file.term) file.names st text closed
@@ -65,24 +60,16 @@ abbrev pub ReadsOrRunsOut : Translation → Tree → List (List ℕ) → (fuel h
 ReadsOrRunsOut translation t names fuel heads None = RunsOut (start_net_of_term translation t names) fuel
 ReadsOrRunsOut translation t names fuel heads (Some tree) = ReadsLast translation t names fuel heads tree
 
--- where the bytes of the job's term are told, the text is read again by the names of that term
-abbrev pub IsReadWhereTold : Job → (Text → Option (List ℕ)) → Status → List ℕ → Type 0
-IsReadWhereTold job contents st text = (bytes : List ℕ) → term_bytes contents job ≡ Some bytes →
-    FileIsReadAgain job bytes st text
-
 -- ---- what a job comes to
 
--- What a job comes to: its answer has its cause, is read again where the bytes of its term are told,
--- and hands back what the job does.
+-- What a job comes to: its answer has its cause, and hands back what the job does.
 pub record ComesOf (job : Job) (s : Seen) (a : Answer) : Type 0 where
   pub caused : JobCause s a.status a.text.items job
-  pub read : IsReadWhereTold job (s.contents 0) a.status a.text.items
   pub closed : WhereEnded a.status a.closed (JobHands job s a.status a.text.items a.closed)
 
 -- the same of the job that the words ask for, or of the usage
 pub record ComesOfWords (words : List (String Global)) (s : Seen) (a : Answer) : Type 0 where
   pub caused : Cause words s a.status a.text.items
-  pub read : WordsAreReadAgain words (s.contents 0) a.status a.text.items
   pub closed : WhereEnded a.status a.closed (WordsHand words s a.status a.text.items a.closed)
 
 -- How the call ends: where there is no answer, for want of memory, nothing is written; else its text

@@ -27,11 +27,11 @@ pub mod Handed
 pub mod Completeness
 pub mod Termination
 pub mod Says
+pub mod Follows
 pub mod TwoCalls
 -- What only contracts of private functions and proofs cite.
 pub mod RefusalTexts
 pub mod Cases
-pub mod ReadAgain
 pub mod Files
 pub mod Ready
 pub mod Inside

@@ -4,7 +4,6 @@ use Rattle.std.specs.Prelude.{◌≡◌, ℕ, ◌≤◌, ◌<◌, ◌^◌, true,
 use Rattle.ol_term.specs.declared.translations.Translation.{Translation}
 use Rattle.ol_term.specs.Trees.{Tree, tree_of, is_below, depth, term_size}
 use Rattle.ol_parse.specs.Texts.{IsRefusedAt}
-use Rattle.ol_parse.specs.Parsed.{AreNames}
 use Rattle.ol_net.specs.Graph.{Graph}
 use Rattle.ol_net.specs.Nets.{SameNet}
 use Rattle.ol_net.specs.Numbered.{net_of}
@@ -50,7 +49,6 @@ HoldsOfTerms net P = (translation : Translation) (t : Tree) (names : List (List 
 pub record IsReady (translation : Translation) (bytes : List ℕ) (t : Tree) (names : List (List ℕ))
     (net : Graph) : Type 0 where
   pub term : IsTermFile translation bytes t names
-  pub named : AreNames names
   pub ready : IsNetOf translation t names net
 
 -- what is made of the bytes of a term file

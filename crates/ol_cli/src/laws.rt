@@ -1,14 +1,8 @@
 //! The laws of answers.
 
 ghost use Rattle.ol_cli.specs.DemandFuel.{DemandHasFuel, HeadHasFuel};
-ghost use Rattle.ol_cli.specs.EveryRun.{
-  EveryRunIsLonger,
-  EveryRunPrints,
-  AnyRunEnds,
-  AnyRunPrints,
-  AnyRunRunsOut,
-  OneThreadIsThere,
-};
+ghost use Rattle.ol_cli.specs.EveryRun.{EveryRunIsLonger, EveryRunPrints, AnyRunEnds, AnyRunPrints, AnyRunRunsOut, OneThreadIsThere};
+ghost use Rattle.ol_cli.specs.Follows.{EndsSay, FirstEndsSay, HandedFollows};
 ghost use Rattle.ol_cli.specs.SourceLaws.{CertifyNeverDiffers, ComparisonTellsSources, HeadBesideLostTellsSources};
 ghost use Rattle.ol_cli.specs.Laws.{
   OneAnswer,
@@ -81,9 +75,20 @@ pub fn demand_has_fuel()
     ensures head { HeadHasFuel }
 {}
 
-/// The net with which the clauses of `ol` let a term's runs begin (`start_net_of_term`) is one of
+/// The net with which the answers of `ol` let a term's runs begin (`start_net_of_term`) is one of
 /// those of which the laws of `ol_law_completeness` speak. It has what they ask of a net, and the paths
 /// of the term's own net; and it is the start net of each graph that has the term's own net.
 pub fn start_net_is_fit()
     ensures { StartNetIsFit }
+{}
+
+/// All that is known of the status and of the text follows from how a call ended (clause `ends` of
+/// `ol` and of the program's `run`): what is written is the answer, the facts of `SaysWhenDone` and
+/// `SaysOfAnswer` hold, and faults are told (`says`). The answer is that to the bytes that were
+/// handed over (`handed`). `first` says the same of a call that no other call comes before, by its
+/// readings.
+pub fn ends_say()
+    ensures says { EndsSay }
+    ensures handed { HandedFollows }
+    ensures first { FirstEndsSay }
 {}

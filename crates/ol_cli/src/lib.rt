@@ -28,7 +28,7 @@ mod two_calls;
 mod verdicts;
 
 pub use laws::{
-    any_run_tells, demand_has_fuel, every_run_answers, one_answer, sources_are_told,
+    any_run_tells, demand_has_fuel, ends_say, every_run_answers, one_answer, sources_are_told,
     start_net_is_fit, workers_are_not_seen,
 };
 pub use status::Status;

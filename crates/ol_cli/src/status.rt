@@ -19,7 +19,7 @@ pub enum Status {
     /// The one-thread run has more steps than the fuel, and so has each complete run. Of `demand` it
     /// is the demand run that has more; then each complete run has more too, and the fuel is less
     /// than the number of inversions that the term's own net tells, if it has a head at each place
-    /// that was asked for (clause `every_run` of `ol`; how much fuel is enough: law
+    /// that was asked for (fact `every_run` of the law `ends_say`; how much fuel is enough: law
     /// `demand_has_fuel`).
     Spent,
     /// The source failed.

@@ -18,9 +18,12 @@
 //! - `faults`: faults at each call, and a source and a sink that never fail
 //! - `limits`: limits at their edges and one past
 //! - `workers`: many workers, and gates that they pass
+//! - `all_clauses`: all that follows from the contract of `ol`, as clauses
 //! - `outside`: what a source of the test's own sees of a call
 #![tactic(auto)]
 
+#[cfg(test)]
+mod all_clauses;
 #[cfg(test)]
 mod answers;
 #[cfg(test)]

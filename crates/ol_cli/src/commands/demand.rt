@@ -4,7 +4,7 @@ ghost use Rattle.std.specs.Prelude.{◌≡◌, true, IfOk, None};
 ghost use Rattle.ol_term.specs.Trees.{tree_of};
 ghost use Rattle.ol_words.specs.declared.jobs.Job.TheVariants as jobs;
 ghost use Rattle.ol_cli.specs.Called.{ReadsAtMost, OfFilesRead, seen_of};
-ghost use Rattle.ol_cli.specs.Inside.{AnswersTerm, ComesOf, IsReadByNames, demand_by};
+ghost use Rattle.ol_cli.specs.Inside.{AnswersTerm, ComesOf, demand_by};
 ghost use Rattle.ol_cli.specs.Ready.{IsNetOf};
 
 use crate::answer::Answer;
@@ -56,8 +56,6 @@ fn demand_net(
     requires net { IsNetOf translation (tree_of file.now.term) file.now.names net.now }
     ensures answer { IfOk result (λ a.
         AnswersTerm (demand_by translation fuel.most heads.most) file.now a.status a.text.items) }
-    ensures read { IfOk result (λ a.
-        IsReadByNames (demand_by translation fuel.most heads.most) file.now a.status a.text.items) }
     ensures closed { IfOk result (λ a. a.closed ≡ None) }
 {
     let mut last = net.copy()?;

@@ -7,7 +7,6 @@ ghost use Rattle.ol_cli.specs.Generate.{plain_run};
 ghost use Rattle.ol_cli.specs.TermFiles.{FileHands};
 ghost use Rattle.ol_cli.specs.Handed.{WhereEnded};
 ghost use Rattle.ol_cli.specs.Inside.{ComesOf};
-ghost use Rattle.ol_cli.specs.ReadAgain.{FileIsReadAgain};
 ghost use Rattle.ol_limits.specs.Limits.{most_term_bytes};
 
 use crate::answer::Answer;
@@ -58,8 +57,6 @@ fn run_made<R: Threads + Wait + Sync, G: Gate + Sync>(
     requires short { length bytes.now ≤ most_term_bytes }
     ensures answer { IfOk result (λ a.
         FileAnswer (plain_run translation) bytes.now a.status a.text.items) }
-    ensures read { IfOk result (λ a.
-        FileIsReadAgain (plain_run translation) bytes.now a.status a.text.items) }
     ensures closed { IfOk result (λ a. WhereEnded a.status a.closed
         (FileHands (plain_run translation) bytes.now a.status a.text.items a.closed)) }
 {

@@ -2,7 +2,7 @@
 ghost use Rattle.std.specs.Prelude.{◌≡◌, ◌+◌, ◌*◌, true, IfOk};
 ghost use Rattle.ol_term.specs.Trees.{tree_of};
 ghost use Rattle.ol_cli.specs.Called.{ReadsAtMost, OfFilesRead, seen_of};
-ghost use Rattle.ol_cli.specs.Inside.{AnswersTerm, ComesOf, HandsOfTerm, IsReadByNames, run_on, run_by};
+ghost use Rattle.ol_cli.specs.Inside.{AnswersTerm, ComesOf, HandsOfTerm, run_on, run_by};
 ghost use Rattle.ol_cli.specs.Ready.{IsNetOf};
 
 use crate::answer::Answer;
@@ -56,8 +56,6 @@ pub fn run_net<R: Threads + Wait + Sync, G: Gate + Sync>(
     requires net { IsNetOf numbers.translation (tree_of file.now.term) file.now.names net.now }
     ensures answer { IfOk result (λ a.
         AnswersTerm (run_by numbers) file.now a.status a.text.items) }
-    ensures read { IfOk result (λ a.
-        IsReadByNames (run_by numbers) file.now a.status a.text.items) }
     ensures closed { IfOk result (λ a.
         HandsOfTerm (run_by numbers) file.now a.status a.text.items a.closed) }
 {

@@ -6,7 +6,7 @@ ghost use Rattle.ol_net.specs.Nets.{SameNet};
 ghost use Rattle.ol_translate.specs.Translation.{translation_of};
 ghost use Rattle.ol_words.specs.declared.jobs.Job.TheVariants as jobs;
 ghost use Rattle.ol_cli.specs.Called.{ReadsAtMost, OfFilesRead, seen_of};
-ghost use Rattle.ol_cli.specs.Inside.{AnswersTerm, ComesOf, IsReadByNames, walk_by};
+ghost use Rattle.ol_cli.specs.Inside.{AnswersTerm, ComesOf, walk_by};
 
 use crate::answer::Answer;
 use crate::ready::{Ready, read_term};
@@ -58,8 +58,6 @@ fn walk_net(
         (translation_of translation (tree_of file.now.term) (length file.now.names)) }
     ensures text { IfOk result (λ text.
         AnswersTerm (walk_by translation edges heads.most) file.now Status.Done text.items) }
-    ensures read { IfOk result (λ text.
-        IsReadByNames (walk_by translation edges heads.most) file.now Status.Done text.items) }
 {
     net.is_net();
     let tree = read_back(alloc, net, heads.most, edges)?;

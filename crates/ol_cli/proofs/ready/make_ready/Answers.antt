@@ -9,7 +9,7 @@ returns-in-Ok-translate c =
     let n = c.in-Ok-translate.ensures in
     record {
       ready = ready_net c.args.translation c.args.bytes.now
-          (tree_of c.in-Ok.file.term) c.in-Ok.file.names c.in-Ok-translate.net c.requires.short p.file p.shallow p.names
+          (tree_of c.in-Ok.file.term) c.in-Ok.file.names c.in-Ok-translate.net c.requires.short p.file p.shallow
           n.net n.numbers n.size n.free n.few_names n.indexes
           (λ past. let e = (n.too_many (λ e. absurd (cc))).1 past in absurd (cc));
     }

@@ -1,4 +1,3 @@
-use Rattle.std.proofs.lemmas.Result.{IfOk-weaker}
 use Rattle.ol_cli.specs.Inside.{certify_on}
 use Rattle.ol_cli.proofs.TermJobs.{refused_comes, term_comes_if}
 use Rattle.ol_cli.proofs.commands.certify.answer_certify.Goals as goal
@@ -13,4 +12,4 @@ returns-in-Net-clause-comes g c = λ files of.
     let h = c.certify_net.ensures in
     term_comes_if (certify_on c.args.numbers c.args.steps c.args.name.now) tt _ c.in-Net.net
     c.in-Net.file (rw c.in-Net.is at (c.in_ok-ready.ensures.comes files of)) c.certify_net.result
-    h.answer (IfOk-weaker c.certify_net.result _ _ (λ a closed words e. tt) h.closed) h.closed
+    h.answer h.closed

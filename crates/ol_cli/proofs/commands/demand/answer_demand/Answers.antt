@@ -12,4 +12,4 @@ returns-in-Net-clause-comes g c = λ files of.
     let h = c.demand_net.ensures in
     term_comes_if (jobs.Demand c.args.translation c.args.fuel.most c.args.heads.most c.args.name.now) tt _
     c.in-Net.net c.in-Net.file (rw c.in-Net.is at (c.in_ok-ready.ensures.comes files of))
-    c.demand_net.result h.answer h.read h.closed
+    c.demand_net.result h.answer h.closed

@@ -8,8 +8,7 @@ use Rattle.ol_rules.specs.Counting.{counts_of}
 use Rattle.ol_translate.specs.Translation.{translation_of}
 use Rattle.ol_readback.specs.Texts.{AreNamed}
 use Rattle.ol_cli.specs.Texts.{answer_text}
-use Rattle.ol_cli.proofs.DemandRuns.{demands_with, demand_spent}
-use Rattle.ol_cli.proofs.ReadAgain.{IsReadWhereNamed, demand_read}
+use Rattle.ol_cli.proofs.DemandRuns.{own_demands, demand_spent}
 use Rattle.ol_cli.proofs.commands.demand.demand_net.Goals as goal
 
 pub returns-in-Spent-clause-answer : goal.returns-in-Spent-clause-answer
@@ -46,32 +45,10 @@ returns-clause-answer c =
     c.in_ok-text-in-Done.ensures ∙ ap (λ (x : List ℕ).
     answer_text x c.counts.result c.stuck.result) c.deref.ensures.value
     ∙ ap (λ (x : Counts). answer_text c.in_ok-term-in-Done.term.items x c.stuck.result) c.counts.ensures in
-    let x = demands_with c.args.translation
+    rw c.text_alone-in-Done.ensures
+    (own_demands c.args.translation
     (tree_of c.args.file.now.term) c.args.file.now.names c.in_ok-last.last same c.args.fuel.most
     c.args.heads.most c.demand.new.net c.in-Done.journal
-    (λ ns x. Unit {0}) c.in-Done.tree c.in_ok-term-in-Done.term.items
+    c.in-Done.tree c.in_ok-term-in-Done.term.items
     c.in_ok-text-in-Done.text.items c.stuck.result d.0 d.1 c.is_net-in-Done.ensures.net
-    c.stuck.ensures.stuck c.in_ok-term-in-Done.ensures.text text tt in
-    rw c.text_alone-in-Done.ensures x.0
-
-pub returns-clause-read : goal.returns-clause-read
-returns-clause-read c =
-    let same = subst (λ (g : Graph). SameNet (net_of g)
-    (translation_of c.args.translation (tree_of c.args.file.now.term)
-    (length c.args.file.now.names))) (sym c.in_ok-last.ensures.copy) c.requires.net.same in
-    let d = rw c.in-Done.is at c.in_ok-demanded.ensures.answer in
-    let text : c.in_ok-text-in-Done.text.items ≡ answer_text c.in_ok-term-in-Done.term.items
-    (counts_of c.in-Done.journal) c.stuck.result =
-    c.in_ok-text-in-Done.ensures ∙ ap (λ (x : List ℕ).
-    answer_text x c.counts.result c.stuck.result) c.deref.ensures.value
-    ∙ ap (λ (x : Counts). answer_text c.in_ok-term-in-Done.term.items x c.stuck.result) c.counts.ensures in
-    let x = demands_with c.args.translation
-    (tree_of c.args.file.now.term) c.args.file.now.names c.in_ok-last.last same c.args.fuel.most
-    c.args.heads.most c.demand.new.net c.in-Done.journal
-    (IsReadWhereNamed c.args.file.now.names) c.in-Done.tree c.in_ok-term-in-Done.term.items
-    c.in_ok-text-in-Done.text.items c.stuck.result d.0 d.1 c.is_net-in-Done.ensures.net
-    c.stuck.ensures.stuck c.in_ok-term-in-Done.ensures.text text c.in_ok-term-in-Done.ensures.read in
-    let r = demand_read c.args.translation
-    (tree_of c.args.file.now.term) c.args.file.now.names c.in_ok-text-in-Done.text.items
-    c.args.fuel.most c.args.heads.most x.0 x.1 in
-    rw c.text_alone-in-Done.ensures r
+    c.stuck.ensures.stuck c.in_ok-term-in-Done.ensures.text text)

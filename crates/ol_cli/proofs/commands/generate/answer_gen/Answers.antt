@@ -8,7 +8,7 @@ returns-then-run g c =
     record {
       comes = λ s same. rw c.if-run.true
           (run_comes c.args.translation c.args.k s same c.in_ok-answer.answer _
-          (c.deref.ensures.value ∙ c.in-Ok.ensures.made) e.answer e.read e.closed);
+          (c.deref.ensures.value ∙ c.in-Ok.ensures.made) e.answer e.closed);
     }
 
 pub returns : goal.returns

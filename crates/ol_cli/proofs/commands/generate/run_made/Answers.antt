@@ -9,8 +9,7 @@ use Rattle.ol_cli.specs.declared.numbers.RunNumbers.{RunNumbers}
 use Rattle.ol_cli.specs.Inside.{AnswersTerm, run_by}
 use Rattle.ol_cli.specs.Generate.{plain_run}
 use Rattle.ol_cli.proofs.Handing.{file_hands}
-use Rattle.ol_cli.proofs.ReadAgain.{file_read}
-use Rattle.ol_cli.proofs.Readied.{refuses_answer, refuses_read, refuses_hands, term_answer}
+use Rattle.ol_cli.proofs.Readied.{refuses_answer, refuses_hands, term_answer}
 use Rattle.ol_cli.proofs.commands.generate.run_made.Goals as goal
 
 -- the job of the numbers without options
@@ -50,18 +49,3 @@ returns-in-Refused-clause-closed g c =
     let refused = rw c.in-Refused.is at c.in_ok-ready.ensures.ready in
     let a = c.in-Refused.answer in
     refuses_hands c.args.translation c.args.bytes.now a.status a.text.items a.closed _ refused.0 refused.1
-
-pub returns-in_ok-answer-in-Net-clause-read : goal.returns-in_ok-answer-in-Net-clause-read
-returns-in_ok-answer-in-Net-clause-read g c =
-    let ready = rw c.in-Net.is at c.in_ok-ready.ensures.ready in
-    let a = c.in_ok-answer-in-Net.answer in
-    file_read (plain_run c.args.translation) c.args.bytes.now
-    (tree_of c.in-Net.file.term) c.in-Net.file.names a.status a.text.items ready.term.file
-    ready.named (let n = c.plain.ensures in
-    rw (n.translation, n.fuel, n.heads) at c.in_ok-answer-in-Net.ensures.read)
-
-pub returns-in-Refused-clause-read : goal.returns-in-Refused-clause-read
-returns-in-Refused-clause-read g c =
-    let refused = rw c.in-Refused.is at c.in_ok-ready.ensures.ready in
-    let a = c.in-Refused.answer in
-    refuses_read (plain_run c.args.translation) c.args.bytes.now a.status a.text.items refused.0

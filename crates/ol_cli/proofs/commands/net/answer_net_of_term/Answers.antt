@@ -17,4 +17,4 @@ returns-clause-comes g c = λ files of workers fuel.
     rw c.text_alone.ensures
     (term_comes (jobs.Net c.args.translation true workers fuel c.args.name.now) tt _ c.in-Net.net
     c.in-Net.file r (record { text = c.in_ok-text-in-Net.text; status = Done; closed = None })
-    (h c.args.translation (tree_of c.in-Net.file.term) c.in-Net.file.names r.1.2.ready) (λ words e. tt) refl)
+    (h c.args.translation (tree_of c.in-Net.file.term) c.in-Net.file.names r.1.2.ready) refl)

@@ -11,4 +11,4 @@ pub returns-in-Net-clause-comes : goal.returns-in-Net-clause-comes
 returns-in-Net-clause-comes g c = λ files of.
     let h = c.run_net.ensures in
     term_comes_if (run_on c.args.numbers c.args.name.now) tt _ c.in-Net.net c.in-Net.file
-    (rw c.in-Net.is at (c.in_ok-ready.ensures.comes files of)) c.run_net.result h.answer h.read h.closed
+    (rw c.in-Net.is at (c.in_ok-ready.ensures.comes files of)) c.run_net.result h.answer h.closed

@@ -9,7 +9,6 @@ use Rattle.ol_cli.specs.Run.{journal_of}
 use Rattle.ol_cli.specs.Texts.{answer_text}
 use Rattle.ol_cli.proofs.Evaluated.{Told}
 use Rattle.ol_cli.proofs.Worked.{spent_answer, spent_hands, done_ports, done_answer, done_hands}
-use Rattle.ol_cli.proofs.ReadAgain.{IsReadWhereNamed, run_read}
 use Rattle.ol_cli.proofs.commands.run.run_net.Goals as goal
 
 pub returns-in_ok-text-in-Spent-clause-answer : goal.returns-in_ok-text-in-Spent-clause-answer
@@ -71,41 +70,11 @@ returns-in_ok-text-in-Done-clause-answer g c =
       shown = c.in_ok-term-in-Done.ensures.text;
       written = text;
     } in
-    (done_answer c.args.numbers.translation
+    done_answer c.args.numbers.translation
     (tree_of c.args.file.now.term) c.args.file.now.names c.args.net.now c.requires.net.same
     c.args.numbers.fuel.most c.args.numbers.workers.count c.args.numbers.heads.most (journal_of c.in-Done.words)
     c.in-Done.words c.in-Done.last d c.stuck.result c.in_ok-tree-in-Done.tree
-    c.in_ok-term-in-Done.term.items c.in_ok-text-in-Done.text.items told
-    (λ ns x. Unit {0}) c.is_net.ensures.net tt).0
-
-pub returns-in_ok-text-in-Done-clause-read : goal.returns-in_ok-text-in-Done-clause-read
-returns-in_ok-text-in-Done-clause-read g c =
-    let e = rw c.in-Done.is at c.in_ok-reduced.ensures.reduced in
-    let d = e.0 in
-    let tree = subst (λ n. IsTree (net_of c.in-Done.last) c.args.numbers.heads.most
-    (2 * n) c.in_ok-tree-in-Done.tree) c.nodes.ensures.nodes c.in_ok-tree-in-Done.ensures.tree in
-    let text : c.in_ok-text-in-Done.text.items ≡ answer_text c.in_ok-term-in-Done.term.items
-    (counts_of (journal_of c.in-Done.words)) c.stuck.result =
-    c.in_ok-text-in-Done.ensures ∙ ap (λ (x : List ℕ).
-    answer_text x c.in-Done.counts c.stuck.result) c.deref.ensures.value
-    ∙ ap (λ (x : Counts). answer_text c.in_ok-term-in-Done.term.items x c.stuck.result) e.1 in
-    let told : Told c.args.file.now.names c.args.numbers.heads.most c.stuck.result (journal_of c.in-Done.words)
-    c.in-Done.last c.in_ok-tree-in-Done.tree c.in_ok-term-in-Done.term.items
-    c.in_ok-text-in-Done.text.items = record {
-      is_net = c.is_net-in-Done.ensures.net;
-      counted = c.stuck.ensures.stuck;
-      read = tree;
-      shown = c.in_ok-term-in-Done.ensures.text;
-      written = text;
-    } in
-    let x = done_answer c.args.numbers.translation
-    (tree_of c.args.file.now.term) c.args.file.now.names c.args.net.now c.requires.net.same
-    c.args.numbers.fuel.most c.args.numbers.workers.count c.args.numbers.heads.most (journal_of c.in-Done.words)
-    c.in-Done.words c.in-Done.last d c.stuck.result c.in_ok-tree-in-Done.tree
-    c.in_ok-term-in-Done.term.items c.in_ok-text-in-Done.text.items told
-    (IsReadWhereNamed c.args.file.now.names) c.is_net.ensures.net c.in_ok-term-in-Done.ensures.read in
-    run_read c.args.numbers.translation (tree_of c.args.file.now.term) c.args.file.now.names
-    c.in_ok-text-in-Done.text.items c.args.numbers.fuel.most c.args.numbers.heads.most x.0 x.1 c.args.numbers.workers.count
+    c.in_ok-term-in-Done.term.items c.in_ok-text-in-Done.text.items told c.is_net.ensures.net
 
 pub returns-in_ok-text-in-Done-clause-closed : goal.returns-in_ok-text-in-Done-clause-closed
 returns-in_ok-text-in-Done-clause-closed g c =

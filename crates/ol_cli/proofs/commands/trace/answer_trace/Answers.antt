@@ -19,5 +19,4 @@ returns-clause-comes g c = λ files of.
     term_comes_if (jobs.Trace c.args.translation c.args.workers.count c.args.fuel.most c.args.name.now) tt _
     c.in-Net.net c.in-Net.file r made
     (IfOk-weaker made _ _ (λ a each. each c.args.translation t names r.1.2.ready) h.answer)
-    (IfOk-weaker made _ _ (λ a each words e. tt) h.answer)
     (IfOk-weaker made _ _ (λ a each. each c.args.translation t names r.1.2.ready) h.closed)

@@ -16,4 +16,4 @@ returns-in_ok-text-in-Net-clause-comes g c = λ files of.
     rw c.text_alone.ensures
     (term_comes (jobs.Walk c.args.translation c.args.edges c.args.heads.most c.args.name.now) tt _
     c.in-Net.net c.in-Net.file r (record { text = c.in_ok-text-in-Net.text; status = Done; closed = None })
-    h.text h.read refl)
+    h.text refl)
