@@ -24,7 +24,7 @@ use Rattle.ol_cli.specs.declared.status.Status.{Status}
 use Rattle.ol_cli.specs.declared.status.Status.TheVariants as status
 use Rattle.ol_cli.specs.Jobs.{AskFor, Files, AreTold, TellsTerm, TellsFiles, term_bytes, translation_in}
 use Rattle.ol_cli.specs.Run.{start_net_of_term}
-use Rattle.ol_cli.specs.Cases.{DemandRunsOut, Cause}
+use Rattle.ol_cli.specs.Cases.{DemandRunsOut, Cause, JobAnswer, of_file, made, TermAnswer, FileAnswer}
 use Rattle.ol_cli.specs.Answers.{Ends, IsAnswer}
 use Rattle.ol_cli.specs.TermFiles.{IsTermFile}
 use Rattle.ol_cli.specs.Generate.{plain_run}
