@@ -9,7 +9,7 @@ ghost use Rattle.ol_cli.specs.Says.{SaysWhenDone, SaysOfAnswer};
 ghost use Rattle.ol_cli.specs.Handed.{Hands};
 ghost use Rattle.ol_cli.specs.Jobs.{AskFor, AskForNothing, IsKnownTo, files_of};
 
-use ol_cli::{Outcome, ol};
+use ol_cli::{Outcome, Status, ol};
 use ol_io::{Gate, Sink, Source};
 use std::alloc::Global;
 use std::sync::Wait;
