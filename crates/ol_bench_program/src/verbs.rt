@@ -394,7 +394,7 @@ fn same() -> Usage {
             "  $ printf '%s\\n' 'ol net 1' 'free 1' 'node eraser -' 'link f0 0.0' > A
   $ printf '%s\\n' 'ol net 1' 'free 2' 'link f0 f1' > B
   $ ol-bench same A B
-  different at f1: there alone
+  different at f1: only there
   [status 1]"
         ),
         rows: SAME_ROWS.as_slice(),
@@ -532,11 +532,11 @@ fn story() -> Usage {
   1   the fuel isn't enough: the interactions that were made are printed",
     "  $ ol-bench story -e '(\\x. x) a'
   ol trace 2
-    left: 0 and 1
+    active: 0 and 1
   beta 1 0 1
     0 (app 0) and 1 (lam 0)
-    nothing is born
-    no pair is left"
+    no node is created
+    no active pair"
 ),
         rows: STORY_ROWS.as_slice(),
     }
