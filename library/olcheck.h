@@ -31,7 +31,7 @@ enum ol_word {
     OL_REFUSED = 4,        /* `ol` refuses the term or the net; ol_explain writes by which line */
     OL_TOO_LONG = 5,       /* a file has more bytes than this: 1048576 with a term, 33554432 with a net,
                               402653184 with a journal; that of the term or the net is tried first */
-    OL_NO_MEMORY = 6,      /* no memory was found; it may stand for any of the above but 5 */
+    OL_NO_MEMORY = 6,      /* no memory was found; it may stand for any word but 8 */
     OL_NO_TRANSLATION = 7, /* `translation` isn't 0, 1 or 2: it */
     OL_BAD_POINTER = 8     /* a pointer is null, or a length is above PTRDIFF_MAX; nothing was read */
 };
