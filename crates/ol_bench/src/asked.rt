@@ -1,7 +1,7 @@
 //! What is asked: a command, with its numbers, and the files that it reads.
 //!
-//! A command is a variant of `OnOne` or of `OnTwo`, with an arm in `content` or in `contents`, which
-//! tell what stands in its files, and one in `answer`.
+//! A command is a variant of `OnOne` or of `OnTwo`, with an arm in `content` or in `contents`,
+//! which tell what stands in its files, and one in `answer`.
 
 ghost use Rattle.std.specs.Prelude.{◌≡◌, ◌≤◌, length, IfOk};
 ghost use Rattle.ol_bench.specs.Inputs.{most_of};
@@ -33,7 +33,7 @@ pub enum Given {
 pub enum Content {
     /// A term or a net.
     Subject(Subject),
-    /// A journal, or any text in which a place is asked.
+    /// A trace, or any text in which a place is asked.
     Journal,
 }
 
@@ -75,7 +75,7 @@ pub enum OnOne {
         columns: Columns,
         layout: Layout,
     },
-    /// The journal of a run in this order: of at most `fuel` interactions, and on demand of at
+    /// The trace of a run in this order: of at most `fuel` interactions, and on demand of at
     /// most `heads` subterms.
     Journal {
         subject: Subject,
@@ -103,8 +103,8 @@ pub enum OnOne {
         heads: Heads,
     },
     /// The Böhm tree of a term down to a depth, any number. `demand` finds the head of each part by
-    /// at most `fuel` interactions, and by 8,000,000 for all parts. A part that is less deep is asked
-    /// if it is among the first `heads` places, where parts that are too deep are places too.
+    /// at most `fuel` interactions, and by 8,000,000 for all parts. A part that is less deep is
+    /// asked if it is among the first `heads` places, where parts that are too deep are places too.
     Tree {
         translation: Translation,
         depth: u32,
@@ -224,22 +224,22 @@ fn found_with_why(
 /// A command on two files.
 #[derive(Clone, Copy, Debug)]
 pub enum OnTwo {
-    /// The net after the first `lines` lines of a journal, from 1, its first line, which tells its
+    /// The net after the first `lines` lines of a trace, from 1, its first line, which tells its
     /// form, to 8,000,001; and what each link weighs, where `weights` says so. The first file has
-    /// the term or the net, the second one the journal.
+    /// the term or the net, the second one the trace.
     After {
         subject: Subject,
         lines: u32,
         weights: bool,
     },
-    /// What a journal is found to be. The first file has the term or the net, the second one the
-    /// journal.
+    /// What a trace is found to be. The first file has the term or the net, the second one the
+    /// trace.
     Check {
         subject: Subject,
         layout: Layout,
     },
-    /// What a journal is found to be, and why. The first file has the term or the net, the second
-    /// one the journal.
+    /// What a trace is found to be, and why. The first file has the term or the net, the second
+    /// one the trace.
     Explain {
         subject: Subject,
         layout: Layout,
@@ -323,8 +323,8 @@ pub enum Asked {
         wanted: Wanted,
     },
     /// What is said of students' functions, each compared with a solution on the same inputs: of at
-    /// most 1,000 students. Each of them is named as his file. If his file can't be read, or has more
-    /// than 1,048,576 bytes, this is what is said of him, and the others are still compared.
+    /// most 1,000 students. Each of them is named as his file. If his file can't be read, or has
+    /// more than 1,048,576 bytes, this is what is said of him, and the others are still compared.
     Grade {
         inputs: Given,
         solution: Given,

@@ -1,10 +1,10 @@
-//! The bench: answers for those who look closer at a term, a net or a journal. Each command is a
+//! The bench: answers for those who look closer at a term, a net or a trace. Each command is a
 //! function from bytes to an answer; `bench` reads the files of a command and writes its answer.
 //! The commands stand in crates of their own, which crates.txt names.
 //!
 //! - `asked`: the commands: their numbers, what stands in their files, and their answers
 //! - `taking`: the bytes that are given, of a file or of a text
-//! - `piecewise`: a journal that is judged while it is read
+//! - `piecewise`: a trace that is judged while it is read
 //! - `top`: a command, from its files to what is written
 #![tactic(auto)]
 

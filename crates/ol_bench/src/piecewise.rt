@@ -1,4 +1,4 @@
-//! A journal that is judged while it is read, piece by piece.
+//! A trace that is judged while it is read, piece by piece.
 
 ghost use Rattle.std.specs.Prelude.{◌≡◌, ℕ, ◌≤◌, List, Option, true, false, length, IfOk};
 ghost use Rattle.ol_io.specs.Outside.{Counts};
@@ -79,7 +79,7 @@ fn answer_on<S: Source>(
     }
 }
 
-/// What the journal of a name is found to be, where the first file has these bytes. The journal is
+/// What the trace of a name is found to be, where the first file has these bytes. The trace is
 /// read until this is fixed, and no more of it than a line and a piece of 65,536 bytes is kept.
 pub fn check_by_pieces<S: Source>(
     alloc: Global,

@@ -25,9 +25,9 @@ pub enum Status {
     /// The answer is yes, or there was no question of yes and no. It was written, to the sink of
     /// answers.
     Yes,
-    /// The answer is no. It was written to the sink of answers. If what was asked for isn't there, a
-    /// net after some lines of a journal or a place of a term, the line that says why was written to
-    /// the sink of errors.
+    /// The answer is no. It was written to the sink of answers. If what was asked for isn't there,
+    /// a net after some lines of a trace or a place of a term, the line that says why was written
+    /// to the sink of errors.
     No,
     /// A file couldn't be read, or it has too many bytes, and isn't one of a student; or `ol`
     /// refuses a file with a term or a net. The line that says so was written to the sink of
@@ -38,13 +38,13 @@ pub enum Status {
     WriteFault,
     /// Memory ran out, and neither sink has taken anything.
     NoMemory,
-    /// A journal is one of a run that isn't complete, and this was asked. The answer was written to
+    /// A trace is one of a run that isn't complete, and this was asked. The answer was written to
     /// the sink of answers.
     Run,
-    /// A line of a journal isn't the next one of a run, and this was asked. The answer was written
+    /// A line of a trace isn't the next one of a run, and this was asked. The answer was written
     /// to the sink of answers.
     NotARun,
-    /// A line of a journal isn't in the grammar, and this was asked. The answer was written to the
+    /// A line of a trace isn't in the grammar, and this was asked. The answer was written to the
     /// sink of answers.
     BadText,
 }
@@ -424,21 +424,21 @@ fn told<W: Sink>(sink: &mut W, text: &[u8], status: Status) -> Status
 /// has to know the names of the files, and the numbers are within their bounds (`OnOne`, `OnTwo`).
 ///
 /// A file with a term has at most 1,048,576 bytes, one with a net 33,554,432, and one with a
-/// journal or in which a place is asked 402,653,184.
+/// trace or in which a place is asked 402,653,184.
 ///
 /// - `Yes`: the answer is yes, or the command asks nothing that has a no. The answer was written to
 ///   `out`.
 /// - `No`: the answer is no. It was written to `out`; or, where there is nothing to show, the line
-///   that says why to `errors`: that a journal has fewer lines than were asked for, or a bad one
+///   that says why to `errors`: that a trace has fewer lines than were asked for, or a bad one
 ///   among these, or that a term has no such place.
-/// - `Run`, `NotARun`, `BadText`: of a journal it was asked what it is found to be, and it isn't one
+/// - `Run`, `NotARun`, `BadText`: of a trace it was asked what it is found to be, and it isn't one
 ///   of a complete run. The answer was written to `out`.
 /// - `Refused`: a line was written to `errors`, and nothing to `out`. The line is `read fault`
 ///   where the source failed, but not at a student's file (`Grade`); `limit bytes 1048576`,
-///   `limit net 33554432` or `limit journal 402653184` where a file has more bytes than that; or the
-///   one by which `ol` refuses a file with a term or a net. Where both of two files have too many
-///   bytes, the limit of the first one is told. If it was asked what a journal is found to be and
-///   the journal's first 402,653,184 bytes fix that, the answer may come in place of the limit.
+///   `limit net 33554432` or `limit journal 402653184` where a file has more bytes than that; or
+///   the one by which `ol` refuses a file with a term or a net. Where both of two files have too many
+///   bytes, the limit of the first one is told. If it was asked what a trace is found to be and the
+///   trace's first 402,653,184 bytes fix that, the answer may come in place of the limit.
 /// - `WriteFault`: the sink to which the text goes failed. It has taken the text's first bytes, not
 ///   all of them and maybe none, and the other sink nothing.
 /// - `NoMemory`: no memory was found, and neither sink has taken anything.

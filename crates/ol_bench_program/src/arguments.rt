@@ -162,7 +162,7 @@ pub(crate) const FILE_OF_SUBJECT: Row = Row {
     ..FILE_OF_TERM
 };
 
-/// The first of two files. With `-e` only the journal has a file, and its name is the first one.
+/// The first of two files. With `-e` only the trace has a file, and its name is the first one.
 pub(crate) const FIRST_OF_TWO: Row = Row {
     help: "the file with the term or the net, `-` for standard input; with -e that with the trace",
     ..FILE

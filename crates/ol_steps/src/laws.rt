@@ -1,5 +1,5 @@
-//! Laws of printed terms, of the names of binders, of lets and of answers: no code, only what follows
-//! from the definitions.
+//! Laws of printed terms, of the names of binders, of lets and of answers: no code, only what
+//! follows from the definitions.
 
 ghost use Rattle.ol_steps.specs.TextLaws.{LetteredIsText, MarkIsUnder};
 ghost use Rattle.ol_steps.specs.BinderLaws.{ContractedFits, LettersAreRead, NamedIsRead, NoneIsCaught, PrimedIsLeast, SourceFits, SourceIsKept, TextHasNames};
@@ -46,10 +46,10 @@ pub fn none_is_caught()
     ensures { NoneIsCaught }
 {}
 
-/// Let a term be closed but for free names, and less than 2^64 deep. Let its free names be fewer than
-/// 2^32, and no two the same. If it is written with letters for its binders, it is read, with these
-/// names, as the term: no binder takes what isn't its own. Law `binder_names_are_new` of `ol_term`
-/// says that no letter is a free name.
+/// Let a term be closed but for free names, and less than 2^64 deep. Let its free names be fewer
+/// than 2^32, and no two the same. If it is written with letters for its binders, it is read, with
+/// these names, as the term: no binder takes what isn't its own. Law `binder_names_are_new` of
+/// `ol_term` says that no letter is a free name.
 pub fn letters_are_read()
     ensures { LettersAreRead }
 {}
@@ -95,18 +95,18 @@ pub fn nothing_is_left()
 
 /// As many lets as a text begins with are at the front of its term. If the redex of one of them is
 /// contracted, its binder has the let's name, and the others are left at the front, in their order.
-/// If another redex is contracted, all of them are left there. It is so with the redex of any order,
-/// and whatever names the binders have, so also if each has its own.
+/// If another redex is contracted, all of them are left there. It is so with the redex of any
+/// order, and whatever names the binders have, so also if each has its own.
 pub fn lets_are_left()
     ensures front { TextHasLets }
     ensures goes { LetGoes }
     ensures stay { LetsStay }
 {}
 
-/// Where a term of an order's walk is that of an earlier step, the order has no end: each term that
-/// it leads to from the first has a next redex. So the first term has no normal form, if the order
-/// is leftmost; no head normal form, if it is head reduction; and no weak head normal form, if it
-/// is weak head reduction.
+/// Where a term of an order's reduction is that of an earlier step, the order has no end: each term
+/// that it leads to from the first has a next redex. So the first term has no normal form, if the
+/// order is leftmost; no head normal form, if it is head reduction; and no weak head normal form,
+/// if it is weak head reduction.
 pub fn returns_are_endless()
     ensures endless { ReturnIsEndless }
     ensures none { ReturnHasNone }
@@ -124,8 +124,8 @@ pub fn redexes_are_marked()
 /// If a term is folded, the carets stand under the text of the subterm at the address of the redex
 /// that an order contracts next. What is applied there to an argument is an abstraction, or the
 /// name of a let whose value is one. Let the term's own free names have numbers below those of the
-/// lets, as the terms of a walk have. If the values are put in the places of their names, the folded
-/// term's subterm there is the redex itself.
+/// lets, as the terms of a reduction have. If the values are put in the places of their names, the
+/// folded term's subterm there is the redex itself.
 pub fn folded_redexes_are_marked()
     ensures marked { FoldedRedexIsMarked }
     ensures unfolded { UnfoldsToNext }
@@ -144,35 +144,35 @@ pub fn parts_are_subterms()
     ensures read { PartIsRead }
 {}
 
-/// What is printed of each term of a walk, if the binders keep the names that they have in the
+/// What is printed of each term of a reduction, if the binders keep the names that they have in the
 /// file, is read again, with the source's free names, as a term of the same tree: no binder takes
-/// what isn't its own. A text that is read alone has its own free names, and a term of a walk may
-/// have fewer than the source.
+/// what isn't its own. A text that is read alone has its own free names, and a term of a reduction
+/// may have fewer than the source.
 pub fn names_are_read_again()
     ensures { ReadsAgain }
 {}
 
-/// Let steps be made from the source, which has fewer than 4,294,967,296 free names. If each term of
-/// a walk is printed with letters for its binders, it is read again, with these names, as a term of
-/// the same tree. Let parts be written by the names of lets, and let the names of lets and the free
-/// names together be fewer than 4,294,967,296. Then what is printed is read again as the folded
-/// term, with all these names. If the lets' values are put in the places of their names, it is the
-/// term of the walk.
+/// Let steps be made from the source, which has fewer than 4,294,967,296 free names. If each term
+/// of a reduction is printed with letters for its binders, it is read again, with these names, as a
+/// term of the same tree. Let parts be written by the names of lets, and let the names of lets and
+/// the free names together be fewer than 4,294,967,296. Then what is printed is read again as the
+/// folded term, with all these names. If the lets' values are put in the places of their names, it
+/// is the term of the reduction.
 pub fn letters_are_read_again()
     ensures plain { LettersReadAgain }
     ensures folded { FoldedLettersReadAgain }
 {}
 
-/// What is printed of a term of a walk whose parts are written by the names of lets, if the binders
-/// keep the names that they have in the file, is read again, with the free names of the source and
-/// those of the lets. If the lets' values are put in the places of their names, it is the term of
-/// the walk. So no binder captures the name of a let.
+/// What is printed of a term of a reduction whose parts are written by the names of lets, if the
+/// binders keep the names that they have in the file, is read again, with the free names of the
+/// source and those of the lets. If the lets' values are put in the places of their names, it is
+/// the term of the reduction. So no binder captures the name of a let.
 pub fn folds_are_read_again()
     ensures { FoldedReadsAgain }
 {}
 
-/// Each step of a walk is counted, also one that only unfolds a let. So the numbers of steps are
-/// those of the order.
+/// Each step of a reduction is counted, also one that only unfolds a let. So the numbers of steps
+/// are those of the order.
 pub fn each_step_counts()
     ensures { EachStepCounts }
 {}
@@ -189,11 +189,11 @@ pub fn no_let_same_answer()
     ensures { NoLetSameAnswer }
 {}
 
-/// The steps of a walk that only unfold a let contract the redexes of the lets at the front of the
-/// text, each at most once. The names of the binders of these redexes, and those of the lets that
-/// are left at the front, are together the names of all. It is so in each order, and whatever names
-/// the binders have, so also if each has its own. A line that comes next tells how many of the last
-/// steps in a row only unfold a let.
+/// The steps of a reduction that only unfold a let contract the redexes of the lets at the front of
+/// the text, each at most once. The names of the binders of these redexes, and those of the lets
+/// that are left at the front, are together the names of all. It is so in each order, and whatever
+/// names the binders have, so also if each has its own. A line that comes next tells how many of
+/// the last steps in a row only unfold a let.
 pub fn lets_are_unfolded()
     ensures { LetsAreUnfolded }
 {}

@@ -41,7 +41,7 @@ pub struct View {
     pub lets: Lets,
 }
 
-/// A term of a walk: the names of its binders, and how far lets are unfolded before it.
+/// A term of a reduction: the names of its binders, and how far lets are unfolded before it.
 #[derive(Drop)]
 pub struct Place {
     pub term: Term,
@@ -50,7 +50,7 @@ pub struct Place {
 }
 
 impl Place {
-    /// The first term of a walk, where so many lets are at the front.
+    /// The first term of a reduction, where so many lets are at the front.
     pub fn first(term: Term, binders: BinderTree, lets: u32) -> Place
         ensures term { result.term ≡ term }
         ensures binders { result.binders ≡ binders }
