@@ -21,7 +21,7 @@ use std::rt::Files;
 use std::sync::Wait;
 use std::thread::Threads;
 
-/// How the call ended, and the adapters, which tell what passed through them.
+/// How the call ended, and the adapters, which record what passed through them.
 #[derive(Drop)]
 struct Passed<'a, R: Files + Input + Print> {
     status: Status,
@@ -29,17 +29,17 @@ struct Passed<'a, R: Files + Input + Print> {
     out: StdSink<'a, R>,
 }
 
-/// `ol` over files, standard input and standard output. The law `ends_say` of `ol_cli` derives all
-/// other facts of the status and the output from `ends` and `told`.
+/// `ol` over files, standard input and standard output. The theorem `ends_say` of `ol_cli` derives
+/// all other facts about the status and the output from `ends` and `told`.
 fn run<'a, R: Files + Input + Print + Threads + Wait + Sync>(
     rt: &'a R,
     alloc: Global,
     words: &Vec<String>,
 ) -> Passed<'a, R>
-    // In short: after `ol run NAME`, `ol demand NAME` or `ol walk NAME` with the status `Done`, where
-    // what was read are these bytes of NAME, to their end, and they are a text of a term: standard
-    // output accepted a line first, and where this line is a text of a term, this is the normal form
-    // of the term that was read.
+    // In short: after `ol run NAME`, `ol demand NAME` or `ol walk NAME` with the status `Done`,
+    // where exactly these bytes of NAME were read, to their end, and they are a text of a term:
+    // standard output accepted a line first, and where this line is a text of a term, that term is
+    // the normal form of the term that was read.
     ensures in_short { result.status ≡ Status.Done
         → (verb name bytes : List ℕ) → ArePlain words.now.items verb name
         → (verb ≡ codes "run") ⊎ ((verb ≡ codes "demand") ⊎ (verb ≡ codes "walk"))
@@ -47,14 +47,14 @@ fn run<'a, R: Files + Input + Print + Threads + Wait + Sync>(
         → (taken : List ℕ) → ⟦<StdSink<'a, R> as Sink>⟧.taken result.out ≡ Some taken
         → (source : Named) → IsText bytes source → BeginsReduced source taken }
 
-    // There are files that its readings are of: a reading has all bytes of the file of its name where
-    // its end was seen, and else its first.
+    // There are files that its readings agree with: a reading has all bytes of the file of its name
+    // where its end was seen, and otherwise the first bytes of that file.
     ensures told { (files : Files)
         × AreOfSince files [] (⟦<StdSource<'a, R> as Source>⟧.readings result.src) }
 
-    // The whole of what is written, whatever such files: with `NoMemory`, whatever its cause,
-    // standard output accepted nothing. Each other status has its cause, and standard output accepted
-    // its text, of fewer than 2^64 bytes, or a prefix of it where it failed.
+    // Everything that is written, for any such files: with `NoMemory`, whatever its cause, standard
+    // output accepted nothing. Each other status has its cause, and standard output accepted its
+    // text, of fewer than 2^64 bytes, or a prefix of the text where standard output failed.
     ensures ends { (files : Files)
         → AreOfSince files [] (⟦<StdSource<'a, R> as Source>⟧.readings result.src)
         → Ends (HasCause words.now.items
@@ -62,7 +62,7 @@ fn run<'a, R: Files + Input + Print + Threads + Wait + Sync>(
         0 (⟦<StdSink<'a, R> as Sink>⟧.faults result.out)
         (Some []) (⟦<StdSink<'a, R> as Sink>⟧.taken result.out) }
 
-    // As many names are begun at most as the job has files.
+    // At most as many names are begun as the job has files.
     ensures begins { ⟦<StdSource<'a, R> as Source>⟧.begins result.src ≤ files_of words.now.items }
 
     // What follows from `ends` for words without options, where the status is `Done`.
@@ -83,17 +83,17 @@ fn run<'a, R: Files + Input + Print + Threads + Wait + Sync>(
         (Some []) (⟦<StdSink<'a, R> as Sink>⟧.taken result.out) }
 
     // And no reduction of the term in the file to a normal form, of whatever redexes in whatever
-    // order, has fewer beta steps than the number after `beta`. Nor has a reduction by family steps,
-    // which contract any redexes of one family at once, told by Lévy's labels; and if the line is a
-    // text of a term, some reduction by family steps has exactly as many.
+    // order, has fewer beta steps than the number after `beta`. Nor has a reduction by family
+    // steps, which contract any redexes of one family, by Lévy's labels, at once; and if the line
+    // is a text of a term, some reduction by family steps has exactly as many.
     ensures plain_fewest { result.status ≡ Status.Done
         → (files : Files) → AreOfSince files [] (⟦<StdSource<'a, R> as Source>⟧.readings result.src)
         → PlainDemandSays (λ source. CountsSay (AreFewest source)) words.now.items files
         (Some []) (⟦<StdSink<'a, R> as Sink>⟧.taken result.out) }
 
-    // After `ol equal A B` the line is `equal` only where the terms in the two files are convertible,
-    // and begins with `different` only where they aren't. Beta reduction alone counts, and free names
-    // are the same where their bytes are.
+    // After `ol equal A B` the line is `equal` only where the terms in the two files are
+    // convertible, and begins with `different` only where they aren't. Beta reduction alone counts,
+    // and free names are the same where their bytes are.
     ensures plain_equal { result.status ≡ Status.Done
         → (files : Files) → AreOfSince files [] (⟦<StdSource<'a, R> as Source>⟧.readings result.src)
         → PlainEqualSays words.now.items files

@@ -8,10 +8,10 @@ use ol_limits::NoMemory;
 use ol_wire::Words;
 use std::alloc::Global;
 
-/// A text that is to be written, and the status that goes with it.
+/// A text that is to be written, and the status with which the call ends.
 ///
-/// `closed` are the closed words of the workers' table, where the job has workers and their work
-/// came to an end, or used up its fuel.
+/// `closed` are the closed words of the workers' table, where the job has workers and their run is
+/// complete or used up its fuel.
 #[derive(Drop)]
 pub struct Answer {
     pub text: Vec<u8>,
@@ -20,8 +20,7 @@ pub struct Answer {
 }
 
 impl Answer {
-    /// An answer with which nothing is handed back: its job has no workers, or their work came to
-    /// no end.
+    /// An answer without closed words: its job has no workers, or their run wasn't ended.
     pub fn text_alone(text: Vec<u8>, status: Status) -> Answer
         ensures { result ≡ record { text = text; status = status; closed = None } }
     {
@@ -33,7 +32,7 @@ impl Answer {
     }
 }
 
-/// A line that tells why there is no answer.
+/// A line that says why there is no answer.
 pub fn refusal(alloc: Global, words: &str, status: Status) -> Result<Answer, NoMemory>
     ensures text { IfOk result (λ a. a.text.items ≡ line words.now) }
     ensures status { IfOk result (λ a. a.status ≡ status) }

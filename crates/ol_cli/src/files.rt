@@ -1,4 +1,4 @@
-//! One file read to its end, under the limit of its kind, or the answer that refuses it.
+//! Reads a file to its end, under the limit of its kind, or answers why the file is refused.
 ghost use Rattle.std.specs.Prelude.{◌≡◌, ◌∷◌, true, IfOk};
 ghost use Rattle.ol_io.specs.Readings.{Reading};
 ghost use Rattle.ol_cli.specs.Called.{ReadsAtMost, OfFilesRead, seen_of};
@@ -16,7 +16,7 @@ use std::alloc::Global;
 pub enum FileKind {
     /// The text of a term.
     Term,
-    /// The text of a journal.
+    /// The text of a trace.
     Journal,
     /// The text of a net.
     Net,
@@ -34,7 +34,7 @@ impl FileKind {
         }
     }
 
-    // The line that refuses one with more.
+    // The line that refuses a file with more bytes.
     fn limit_line(self, alloc: Global) -> Result<Vec<u8>, NoMemory>
         ensures { IfOk result (λ text. text.items ≡ limit_text self) }
     {
@@ -46,7 +46,7 @@ impl FileKind {
     }
 }
 
-/// What comes of a file.
+/// A file that was read, or its refusal.
 #[derive(Drop)]
 pub enum File {
     /// All its bytes, no more than its kind may have.
@@ -55,8 +55,8 @@ pub enum File {
     Refused(Answer),
 }
 
-/// Reads the file of this name to its end. It is refused where the source fails, else where the
-/// file has more bytes than its kind may have.
+/// Reads the file of this name to its end. The file is refused where the source fails, and
+/// otherwise where it has more bytes than its kind may have.
 pub fn read_file<S: Source>(
     alloc: Global,
     kind: FileKind,

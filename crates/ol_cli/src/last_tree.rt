@@ -15,9 +15,9 @@ use std::alloc::Global;
 use std::sync::Wait;
 use std::thread::Threads;
 
-/// The tree of the net that the workers leave, each walk within twice as many crossings as that net
-/// has nodes. There is none where the fuel was used up. This holds of each term whose net it is.
-/// Its free names are those of the net's ports.
+/// The tree that is read back from the net that the workers leave, by paths of at most twice as
+/// many crossings as that net has nodes; `None` where the fuel was used up. This holds for each
+/// term that has the net `net`. The free names of the tree are those of the free ports of `net`.
 pub fn last_tree<R: Threads + Wait + Sync, G: Gate + Sync>(
     rt: &R,
     alloc: Global,

@@ -1,16 +1,16 @@
 //! The top call: from words to a text on a sink and a status.
 //!
 //! - `top`: the top call
-//! - `commands`: one module a command
-//! - `files`: one file read to its end, or the answer that refuses it
-//! - `ready`: a term file made ready: from its name to the net of its term
+//! - `commands`: a module for each command
+//! - `files`: reads a file to its end, or answers why it is refused
+//! - `ready`: reads and translates a term file, from its name to the net of its term
 //! - `last_tree`: the tree that is read back from the net that the workers leave
 //! - `answer`: an answer: a text, its status, and what is handed back with it
 //! - `status`: how a call of the program ended
 //! - `texts`: the texts that the program writes
 //! - `verdicts`: the texts of verdicts
-//! - `numbers`: the numbers of the jobs that rewrite a term's net and read it back
-//! - `laws`: the laws of answers
+//! - `numbers`: the numbers of a job that rewrites the net of a term and reads it back
+//! - `laws`: the theorems about answers
 //! - `two_calls`: two calls of `ol` that ask the same of the same files
 #![tactic(auto)]
 

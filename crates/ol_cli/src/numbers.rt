@@ -1,16 +1,16 @@
-//! The numbers of the jobs that rewrite a term's net and read it back.
+//! The numbers of a job that rewrites the net of a term and reads it back.
 ghost use Rattle.std.specs.Prelude.{◌≡◌, ◌≤◌};
 ghost use Rattle.ol_limits.specs.Limits.{most_fuel, most_workers, plain_fuel, plain_heads, plain_workers};
 
 use ol_limits::{Fuel, Heads, Workers};
 use ol_term::Translation;
 
-/// The numbers of a job that rewrites a term's net and reads it back.
+/// The numbers of a job that rewrites the net of a term and reads it back.
 ///
-/// - `translation`: by which the term becomes a net.
-/// - `workers`: how many rewrite.
-/// - `fuel`: how many interactions may be made.
-/// - `heads`: how many subterms of the answer are asked for their heads.
+/// - `translation`: the translation of the term to a net.
+/// - `workers`: how many workers rewrite the net.
+/// - `fuel`: at most how many interactions they make.
+/// - `heads`: at most how many subterms of the answer are asked for their heads.
 #[derive(Clone, Copy)]
 pub struct RunNumbers {
     pub translation: Translation,

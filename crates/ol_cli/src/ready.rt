@@ -1,4 +1,4 @@
-//! A term file made ready: from its name, or its bytes, to the net of its term.
+//! Reads and translates a term file: from its name, or its bytes, to the net of its term.
 ghost use Rattle.std.specs.Prelude.{◌≡◌, List, ℕ, ◌≤◌, ◌∷◌, length, true, IfOk};
 ghost use Rattle.ol_io.specs.Readings.{Reading};
 ghost use Rattle.ol_term.specs.declared.translations.Translation.{Translation};
@@ -18,7 +18,7 @@ use ol_term::{TermFile, Translation};
 use ol_translate::{TransFault, translate};
 use std::alloc::Global;
 
-/// What comes of a term file before any job is done on it.
+/// A term file before any job is done on it: the net of its term, or its refusal.
 #[derive(Drop)]
 pub enum Ready {
     /// The net of the file's term, and the term with its free names.
@@ -27,7 +27,7 @@ pub enum Ready {
     Refused(Answer),
 }
 
-/// Reads the term file of this name, and makes it ready.
+/// Reads the term file of this name and translates its term.
 pub fn read_term<S: Source>(
     alloc: Global,
     translation: Translation,
@@ -52,9 +52,9 @@ pub fn read_term<S: Source>(
     }
 }
 
-/// Reads the bytes of a term file, none of which are past the limit, and translates its term. A
-/// file is refused where its bytes aren't in the grammar, else where its term is too deep, else
-/// where the net has too many nodes.
+/// Parses the bytes of a term file, which are within the limit, and translates its term. The file
+/// is refused where its bytes aren't in the grammar, otherwise where its term is too deep, and
+/// otherwise where the net has too many nodes.
 pub fn make_ready(alloc: Global, bytes: &[u8], translation: Translation) -> Result<Ready, NoMemory>
     requires short { length bytes.now ≤ most_term_bytes }
     ensures ready { IfOk result (IsMadeReady translation bytes.now) }
@@ -87,7 +87,7 @@ pub fn make_ready(alloc: Global, bytes: &[u8], translation: Translation) -> Resu
     }
 }
 
-// The refusal of a file, with which nothing is handed back.
+// The refusal of a file, without closed words.
 fn refused(text: Vec<u8>, status: Status) -> Ready
     ensures { (translation : Translation) (bytes : List ℕ) →
         Refuses translation bytes status text.items → IsMadeReady translation bytes result }

@@ -36,7 +36,7 @@ pub fn spent_line(alloc: Global, fuel: u32) -> Result<Vec<u8>, NoMemory>
     count_line(alloc, "fuel", fuel)
 }
 
-/// What a journal is found to be.
+/// The line of what a trace is found to be.
 pub fn found_line(alloc: Global, found: Check) -> Result<Vec<u8>, NoMemory>
     ensures { IfOk result (λ text. text.items ≡ found_text found) }
 {

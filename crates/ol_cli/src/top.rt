@@ -32,9 +32,9 @@ use std::thread::Threads;
 
 /// How a call of `ol` ended.
 ///
-/// - `status`: what came of it.
-/// - `closed`: the closed words of the table on which the workers rewrote. They are there exactly
-///   where the job was `run`, `trace` or `gen --run` and `status` is `Done` or `Spent`.
+/// - `status`: whether the job was done, and why not.
+/// - `closed`: the closed words of the table on which the workers rewrote. They are present exactly
+///   if the job was `run`, `trace` or `gen --run` and `status` is `Done` or `Spent`.
 #[derive(Drop)]
 pub struct Outcome {
     pub status: Status,
@@ -57,19 +57,20 @@ pub struct Outcome {
 ///   with `--run` what `run` prints of it.
 ///
 /// In a printed term `...` is a part that wasn't asked for or whose path used up its crossings, and
-/// `?` a part without a head. Rules and readback are those of Gonthier, Abadi and Lévy (The Geometry
-/// of Optimal Lambda Reduction, 1992). `Status` describes the refusals.
+/// `?` a part without a head. Rules and readback are those of Gonthier, Abadi and Lévy (The
+/// Geometry of Optimal Lambda Reduction, 1992). `Status` describes the refusals.
 ///
 /// The workers are threads that share the net. Each passes `gate` before its first turn and after
-/// each turn; if fewer threads can be had, they take turns. `ol` may wait, for these threads and for
-/// the gate: what is promised here holds if it returns. The number of the workers and their
+/// each turn; if fewer threads can be had, they take turns. `ol` may wait, for these threads and
+/// for the gate: what is promised here holds if it returns. The number of the workers and their
 /// scheduling decide on nothing, except for the run that `trace` prints and for what `net` prints
 /// after nine lines (`twice`).
 ///
-/// The clause `ends` contains everything about the status and the text. The law `ends_say` derives
-/// the facts of `SaysWhenDone` and `SaysOfAnswer` from it: among others, that a job that can be done
-/// is done, that `run` with enough fuel is done exactly if the term is strongly normalising, and
-/// what a printed term says of the source. The clauses from `plain` on are four of these facts.
+/// The clause `ends` contains everything about the status and the text. The theorem `ends_say`
+/// derives the facts of `SaysWhenDone` and `SaysOfAnswer` from it: among others, that a job that
+/// can be done is done, that `run` with enough fuel is done exactly if the term is strongly
+/// normalising, and what a printed term says of the source. The clauses from `plain` on are four of
+/// these facts.
 pub fn ol<R: Threads + Wait + Sync, S: Source, W: Sink, G: Gate + Sync>(
     rt: &R,
     alloc: Global,
@@ -85,10 +86,10 @@ pub fn ol<R: Threads + Wait + Sync, S: Source, W: Sink, G: Gate + Sync>(
     // and has the bytes that it had, so `ol` can be called again.
     ensures source { ReadsAtMost S.Source (files_of words.now.items) src.old src.new }
 
-    // What is said of files below holds of any files that the readings of this call are of: of
-    // those whose bytes the source tells, and of those that the readings make (`handed`).
+    // The clauses below hold for any files that this call may have read: those whose bytes the
+    // source has, and those that consist of the readings (`handed`).
     //
-    // The whole of what is written: with `NoMemory`, whatever its cause, nothing. Each other status
+    // Everything that is written: with `NoMemory`, whatever its cause, nothing. Each other status
     // has its cause, and its text, of fewer than 2^64 bytes, is appended whole, or a prefix of it
     // where the sink failed.
     ensures ends { OfFilesRead S.Source src.old src.new (λ files.
@@ -98,14 +99,14 @@ pub fn ol<R: Threads + Wait + Sync, S: Source, W: Sink, G: Gate + Sync>(
     // Where `run`, `trace` or `gen --run` was done or its fuel was spent, the closed words are
     // those of a table that was made from the net of the job's term, with the job's fuel and as
     // many seats as the job has workers, which for `gen --run` are those of `run` without options,
-    // and the text is what their journal tells. In every other case there are none.
+    // and the text follows from their trace. In every other case there are no closed words.
     ensures closed { OfFilesRead S.Source src.old src.new (λ files.
         Hands words.now.items (seen_of S.Source files src.old src.new)
         result.status result.closed (W.taken out.old) (W.taken out.new)) }
 
-    // If the first of two files is refused for its bytes, as they were read, no second name is
-    // begun. Nor is one if its end wasn't seen, as after a read fault: it may then go on beyond the
-    // limit, and such a file is refused.
+    // If the first of two files is refused for the bytes that were read, no second name is begun.
+    // Nor is a second name begun if the end of the first file wasn't seen, as after a read fault:
+    // the file may then exceed the limit, and such a file is refused.
     ensures first_alone { OfFilesRead S.Source src.old src.new (λ files.
         (job : Job) → AskFor words.now.items job
         → RefusesFirst (files 0) job → S.begins src.new ≤ S.begins src.old + 1) }
@@ -128,17 +129,17 @@ pub fn ol<R: Threads + Wait + Sync, S: Source, W: Sink, G: Gate + Sync>(
         words.now.items files old new) }
 
     // And no reduction of the term in the file to a normal form, of whatever redexes in whatever
-    // order, has fewer beta steps than the number after `beta`. Nor has a reduction by family steps,
-    // which contract any redexes of one family at once, told by Lévy's labels; and if the line is a
-    // text of a term, some reduction by family steps has exactly as many.
+    // order, has fewer beta steps than the number after `beta`. Nor has a reduction by family
+    // steps, which contract any redexes of one family, by Lévy's labels, at once; and if the line
+    // is a text of a term, some reduction by family steps has exactly as many.
     ensures plain_fewest { WhereNoneFailed S.Source W.Sink src.old src.new out.old out.new
         (λ files old new. result.status ≡ Status.Done
         → PlainDemandSays (λ source. CountsSay (AreFewest source))
         words.now.items files old new) }
 
-    // After `ol equal A B` the line is `equal` only where the terms in the two files are convertible,
-    // and begins with `different` only where they aren't. Beta reduction alone counts, and free names
-    // are the same where their bytes are.
+    // After `ol equal A B` the line is `equal` only where the terms in the two files are
+    // convertible, and begins with `different` only where they aren't. Beta reduction alone counts,
+    // and free names are the same where their bytes are.
     ensures plain_equal { WhereNoneFailed S.Source W.Sink src.old src.new out.old out.new
         (λ files old new. result.status ≡ Status.Done
         → PlainEqualSays words.now.items files old new) }
@@ -147,7 +148,7 @@ pub fn ol<R: Threads + Wait + Sync, S: Source, W: Sink, G: Gate + Sync>(
     write(out, made)
 }
 
-// Writes an answer, if there is one, and tells how that ended.
+// Writes an answer, if there is one, and returns how that ended.
 fn write<W: Sink>(out: &mut W, made: Result<Answer, NoMemory>) -> Outcome
     ensures told { Writes made result
         (W.faults out.old) (W.faults out.new) (W.taken out.old) (W.taken out.new) }
@@ -206,7 +207,7 @@ fn answer_words<R: Threads + Wait + Sync, S: Source, G: Gate + Sync>(
     }
 }
 
-// The answer to a job: one arm a command.
+// The answer to a job: an arm for each command.
 fn answer_job<R: Threads + Wait + Sync, S: Source, G: Gate + Sync>(
     rt: &R,
     alloc: Global,

@@ -11,9 +11,9 @@ use ol_beta::{Address, Road, Verdict};
 use ol_limits::NoMemory;
 use std::alloc::Global;
 
-/// What is told of a verdict by at most `steps` steps: `incomplete`; `deep D` with the depth;
+/// The text of a verdict by at most `steps` steps: `incomplete`; `deep D` with the depth;
 /// `past at step S` with the step; `beta steps B` with `steps`; or `differs` or `agreed`, and then
-/// how many steps the road has and a line for each of its addresses.
+/// how many steps the reduction has and a line for the address of each step.
 pub fn verdict_lines(alloc: Global, verdict: Verdict, steps: u32) -> Result<Vec<u8>, NoMemory>
     ensures { IfOk result (λ text. text.items ≡ verdict_text steps verdict) }
 {

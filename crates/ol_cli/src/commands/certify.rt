@@ -1,4 +1,4 @@
-//! The command `certify`: a term's own reduction beside that of its net.
+//! The command `certify`: the leftmost reduction of a term against the reduction of its net.
 ghost use Rattle.std.specs.Prelude.{◌≡◌, ◌+◌, true, IfOk, None};
 ghost use Rattle.ol_term.specs.Trees.{tree_of};
 ghost use Rattle.ol_cli.specs.Called.{ReadsAtMost, OfFilesRead, seen_of};

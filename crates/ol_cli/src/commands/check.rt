@@ -1,4 +1,4 @@
-//! The command `check`: the text of a journal against a term.
+//! The command `check`: the text of a trace against a term.
 ghost use Rattle.std.specs.Prelude.{◌≡◌, ◌≤◌, ◌+◌, true, IfOk, None};
 ghost use Rattle.ol_wire.specs.Sizes.{IsSmallNet};
 ghost use Rattle.ol_words.specs.declared.jobs.Job.TheVariants as jobs;
@@ -23,8 +23,8 @@ use ol_term::Translation;
 use ol_view::check;
 use std::alloc::Global;
 
-/// The answer of `check` to the term file and the journal file of these names. The second is begun
-/// where the first is no refusal.
+/// The answer of `check` to the term file and the trace file of these names. The second file is
+/// begun where the first isn't refused.
 pub fn answer_check<S: Source>(
     alloc: Global,
     translation: Translation,
@@ -52,7 +52,7 @@ pub fn answer_check<S: Source>(
     }
 }
 
-// The answer of `check` to a journal file, against a net. It holds of each term whose net it is.
+// The answer of `check` to a trace file, against a net. It holds for each term that has this net.
 fn answer_journal<S: Source>(
     alloc: Global,
     net: &Net,

@@ -1,5 +1,5 @@
-//! The command `demand`: a term's net is read back, and only the pairs that the reading meets are
-//! rewritten.
+//! The command `demand`: reads the net of a term back, and rewrites only the active pairs that the
+//! paths of the readback meet.
 ghost use Rattle.std.specs.Prelude.{◌≡◌, true, IfOk, None};
 ghost use Rattle.ol_term.specs.Trees.{tree_of};
 ghost use Rattle.ol_words.specs.declared.jobs.Job.TheVariants as jobs;
@@ -20,8 +20,8 @@ use ol_rules::counts;
 use ol_term::{TermFile, Translation};
 use std::alloc::Global;
 
-/// The answer of `demand` to the term file of this name: of its term the first `heads` subterms are
-/// asked, and at most `fuel` pairs are rewritten.
+/// The answer of `demand` to the term file of this name: the first `heads` subterms are asked for,
+/// and at most `fuel` active pairs are rewritten.
 pub fn answer_demand<S: Source>(
     alloc: Global,
     translation: Translation,

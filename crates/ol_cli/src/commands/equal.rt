@@ -1,4 +1,4 @@
-//! The command `equal`: two terms, each read back from the net that its workers leave.
+//! The command `equal`: compares two terms, each read back from the net that its workers leave.
 ghost use Rattle.std.specs.Prelude.{◌≡◌, ◌≤◌, ◌+◌, ◌∷◌, length, true, IfOk, None};
 ghost use Rattle.ol_io.specs.Readings.{Reading};
 ghost use Rattle.ol_readback.specs.Texts.{AreNamed};
@@ -22,16 +22,16 @@ use std::alloc::Global;
 use std::sync::Wait;
 use std::thread::Threads;
 
-/// What comes of one of the two files: a refusal, or the tree that is read back of its term, with
-/// the free names of the term.
+/// The result for each of the two files: a refusal, or the tree that is read back for its term,
+/// with the free names of the term.
 #[derive(Drop)]
 pub enum Side {
     Refused(Answer),
     Read { tree: ReadTree, names: Names },
 }
 
-/// The answer of `equal` to the term files of these names. The second is begun where the first is
-/// no refusal.
+/// The answer of `equal` to the term files of these names. The second file is begun where the first
+/// isn't refused.
 pub fn answer_equal<R: Threads + Wait + Sync, S: Source, G: Gate + Sync>(
     rt: &R,
     alloc: Global,
@@ -96,7 +96,7 @@ fn answer_second<R: Threads + Wait + Sync, S: Source, G: Gate + Sync>(
     }
 }
 
-// What comes of the file of this name.
+// The result for the file of this name.
 fn read_side<R: Threads + Wait + Sync, S: Source, G: Gate + Sync>(
     rt: &R,
     alloc: Global,

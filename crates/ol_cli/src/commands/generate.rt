@@ -1,4 +1,4 @@
-//! The command `gen`: a term that is made, printed or evaluated.
+//! The command `gen`: makes a term, and prints it or prints what `run` prints of it.
 ghost use Rattle.std.specs.Prelude.{◌≡◌, ◌≤◌, length, IfOk};
 ghost use Rattle.ol_words.specs.declared.jobs.Job.TheVariants as jobs;
 ghost use Rattle.ol_cli.specs.Cases.{FileAnswer};
@@ -21,8 +21,8 @@ use std::alloc::Global;
 use std::sync::Wait;
 use std::thread::Threads;
 
-/// The answer of `gen`: the text of a term that is doubled k times; or where it is run, the answer
-/// of `run` to that, without options but the translation. It reads nothing.
+/// The answer of `gen`: the text of a term that is doubled k times; or, if `run`, the answer of the
+/// command `run` to this text, without options except the translation. It reads nothing.
 pub fn answer_gen<R: Threads + Wait + Sync, G: Gate + Sync>(
     rt: &R,
     alloc: Global,

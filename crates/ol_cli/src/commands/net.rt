@@ -1,4 +1,5 @@
-//! The command `net`: the net of a file is rewritten and written, or the net of a term is written.
+//! The command `net`: reduces the net of a file and prints what is left, or prints the net of a
+//! term.
 ghost use Rattle.std.specs.Prelude.{◌≡◌, ◌≤◌, ◌<◌, ◌+◌, ℕ, true, false, length, count_by, is_some, IfOk, None};
 ghost use Rattle.ol_net.specs.Numbered.{net_of};
 ghost use Rattle.ol_wire.specs.Sizes.{IsSmallNet};
@@ -27,7 +28,7 @@ use std::alloc::Global;
 use std::sync::Wait;
 use std::thread::Threads;
 
-/// The answer of `net` with its flag to the term file of this name: the text of the term's net.
+/// The answer of `net --from-term` to the term file of this name: the text of the term's net.
 pub fn answer_net_of_term<S: Source>(
     alloc: Global,
     translation: Translation,
@@ -51,7 +52,7 @@ pub fn answer_net_of_term<S: Source>(
     }
 }
 
-// The text of a net. It is that of the net of each term whose net it is.
+// The text of a net. It is the text for each term that has this net.
 fn net_text(alloc: Global, net: &Net) -> Result<Vec<u8>, NoMemory>
     requires whole { count_by is_some net.now.nodes ≡ length net.now.nodes }
     requires small { IsSmallNet net.now }
@@ -63,7 +64,7 @@ fn net_text(alloc: Global, net: &Net) -> Result<Vec<u8>, NoMemory>
     write_net(alloc, net)
 }
 
-/// The answer of `net` without its flag to the net file of this name.
+/// The answer of `net` without `--from-term` to the net file of this name.
 pub fn answer_net<R: Threads + Wait + Sync, S: Source, G: Gate + Sync>(
     rt: &R,
     alloc: Global,
@@ -90,7 +91,7 @@ pub fn answer_net<R: Threads + Wait + Sync, S: Source, G: Gate + Sync>(
     }
 }
 
-// The answer to the bytes of a file with a net, none of which are past the limit.
+// The answer to the bytes of a file with a net, which are within the limit.
 fn evaluate_file<R: Threads + Wait + Sync, G: Gate + Sync>(
     rt: &R,
     alloc: Global,

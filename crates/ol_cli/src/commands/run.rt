@@ -1,4 +1,4 @@
-//! The command `run`: a term's net is rewritten by workers, and read back.
+//! The command `run`: workers reduce the net of a term, and the result is read back.
 ghost use Rattle.std.specs.Prelude.{◌≡◌, ◌+◌, ◌*◌, true, IfOk};
 ghost use Rattle.ol_term.specs.Trees.{tree_of};
 ghost use Rattle.ol_cli.specs.Called.{ReadsAtMost, OfFilesRead, seen_of};
@@ -21,7 +21,7 @@ use std::sync::Wait;
 use std::thread::Threads;
 
 /// The answer of `run` to the term file of this name. The closed words of the workers' table are
-/// handed back where their work came to an end, or used up its fuel.
+/// returned where their run is complete or used up its fuel.
 pub fn answer_run<R: Threads + Wait + Sync, S: Source, G: Gate + Sync>(
     rt: &R,
     alloc: Global,
@@ -43,8 +43,8 @@ pub fn answer_run<R: Threads + Wait + Sync, S: Source, G: Gate + Sync>(
     }
 }
 
-/// The net is rewritten by the workers, and the last net is read back, each walk within twice as
-/// many crossings as that net has nodes.
+/// The workers reduce the net, and the last net is read back, by paths of at most twice as many
+/// crossings as that net has nodes.
 pub fn run_net<R: Threads + Wait + Sync, G: Gate + Sync>(
     rt: &R,
     alloc: Global,

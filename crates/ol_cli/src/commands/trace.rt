@@ -1,4 +1,4 @@
-//! The command `trace`: a term's net is rewritten by workers, and their journal is told.
+//! The command `trace`: workers reduce the net of a term, and the trace of their run is printed.
 ghost use Rattle.std.specs.Prelude.{◌≡◌, ◌+◌, true, length, count_by, is_some, IfOk};
 ghost use Rattle.ol_wire.specs.Sizes.{IsSmallNet};
 ghost use Rattle.ol_words.specs.declared.jobs.Job.TheVariants as jobs;
@@ -21,7 +21,7 @@ use std::sync::Wait;
 use std::thread::Threads;
 
 /// The answer of `trace` to the term file of this name. The closed words of the workers' table are
-/// handed back where their work came to an end, or used up its fuel.
+/// returned where their run is complete or used up its fuel.
 pub fn answer_trace<R: Threads + Wait + Sync, S: Source, G: Gate + Sync>(
     rt: &R,
     alloc: Global,
@@ -45,8 +45,8 @@ pub fn answer_trace<R: Threads + Wait + Sync, S: Source, G: Gate + Sync>(
     }
 }
 
-// The net is rewritten by the workers, and their journal is traced. This holds of each term whose
-// net it is.
+// The workers reduce the net, and the trace of their run is printed. This holds for each term that
+// has this net.
 fn trace_net<R: Threads + Wait + Sync, G: Gate + Sync>(
     rt: &R,
     alloc: Global,

@@ -1,4 +1,4 @@
-//! The command `view`: a term's net is rewritten by some leads, and shown.
+//! The command `view`: the net of a term after some leads, as a text.
 ghost use Rattle.std.specs.Prelude.{◌≡◌, true, IfOk};
 ghost use Rattle.ol_wire.specs.Sizes.{IsSmallNet};
 ghost use Rattle.ol_words.specs.declared.jobs.Job.TheVariants as jobs;
@@ -42,8 +42,7 @@ pub fn answer_view<S: Source>(
     }
 }
 
-// The net is rewritten by leads, one after another, and shown. This holds of each term whose net it
-// is.
+// The text of the net after leads, one after another. This holds for each term that has this net.
 fn view_net(alloc: Global, net: &Net, leads: Fuel) -> Result<Vec<u8>, NoMemory>
     requires small { IsSmallNet net.now }
     ensures { IfOk result (λ text. HoldsOfTerms net.now (λ translation t names.

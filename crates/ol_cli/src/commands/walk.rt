@@ -1,4 +1,4 @@
-//! The command `walk`: a term is read back from its untouched net.
+//! The command `walk`: reads a term back from its net before any step.
 ghost use Rattle.std.specs.Prelude.{◌≡◌, true, length, IfOk};
 ghost use Rattle.ol_term.specs.Trees.{tree_of};
 ghost use Rattle.ol_net.specs.Numbered.{net_of};
@@ -19,8 +19,8 @@ use ol_readback::{read_back, tree_text};
 use ol_term::{TermFile, Translation};
 use std::alloc::Global;
 
-/// The answer of `walk` to the term file of this name: the first `heads` subterms are asked, each
-/// walk by at most `edges` crossings.
+/// The answer of `walk` to the term file of this name: the first `heads` subterms are asked for, by
+/// paths of at most `edges` crossings.
 pub fn answer_walk<S: Source>(
     alloc: Global,
     translation: Translation,
