@@ -18,6 +18,7 @@ mod EveryRun
 mod AnyRun
 mod Sourced
 mod SourceTrees
+mod VerdictTexts
 mod NormalLines
 mod DemandedLines
 mod ComparedLines

@@ -38,6 +38,7 @@ use Rattle.ol_cli.specs.View.{Views}
 use Rattle.ol_cli.specs.EveryRun.{PrintsOf}
 use Rattle.ol_cli.proofs.ListedOnce.{same_length}
 use Rattle.ol_cli.proofs.TreeTransport.{tree_same}
+use Rattle.ol_cli.proofs.VerdictTexts.{verdict_of}
 
 -- a list of places has one text
 pub one_text : (names : List (List ℕ)) (ns : List ReadNode) (a b : List ℕ) → IsTextOf names ns a →
@@ -129,9 +130,10 @@ module _ (tr : Translation) (t : Tree) (names : List (List ℕ))
       Certifies tr t names steps fuel heads text → Certifies tr t names steps fuel heads text' → text ≡ text'
   one_certified steps fuel heads text text' c c' =
       let tree = one_last_tree fuel heads c.tree c'.tree c.last c'.last in
-      let verdict = verdict_one t c'.tree steps c.verdict c'.verdict
-      (subst (λ ns. IsVerdict t ns steps c.verdict) tree c.holds) c'.holds in
-      c.written ∙ ap (verdict_text steps) verdict ∙ sym c'.written
+      let v = verdict_of t c.tree steps text c.written in
+      let v' = verdict_of t c'.tree steps text' c'.written in
+      let verdict = verdict_one t c'.tree steps v.0 v'.0 (subst (λ ns. IsVerdict t ns steps v.0) tree v.1) v'.1 in
+      v.2 ∙ ap (verdict_text steps) verdict ∙ sym v'.2
 
   -- the untouched net is read in one way
   walks_tree : (edges heads : ℕ) (text text' : List ℕ) (w : Walks tr t names edges heads text)

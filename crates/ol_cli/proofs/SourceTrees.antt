@@ -1,20 +1,13 @@
 -- What `equal` and `certify` tell of the terms of their files.
-use Rattle.std.proofs.Common.{◌≡◌, ℕ, ◌*◌, true, List, Option, length, sym, ◌∙◌, subst, subst₂, inr, String, Global}
+use Rattle.std.proofs.Common.{◌≡◌, ℕ, ◌*◌, true, List, Option, sym, subst, subst₂, inr, String, Global}
 use Rattle.ol_term.specs.declared.translations.Translation.{Translation}
 use Rattle.ol_term.specs.Trees.{Tree}
-use Rattle.ol_rules.proofs.LeadRuns.{as_run}
-use Rattle.ol_translate.specs.Names.{HasNames}
 use Rattle.ol_readback.specs.Heads.{live}
 use Rattle.ol_readback.specs.Whole.{IsWholeTree}
-use Rattle.ol_readback.specs.declared.answers.ReadNode.{ReadNode}
 use Rattle.ol_readback.proofs.Forests.{tree_is_whole}
 use Rattle.ol_law_meaning.specs.Meaning.{SaysOf}
-use Rattle.ol_law_meaning.proofs.Based.{places_say}
 use Rattle.ol_law_meaning.proofs.FileNames.{file_names}
 use Rattle.ol_law_confluence.proofs.ComparedTrees.{comparison_tells, not_apart}
-use Rattle.ol_law_levels.proofs.Sources.{last_places}
-use Rattle.ol_law_confluence.proofs.PrintedTrees.{never_differs}
-use Rattle.ol_beta.specs.Verdicts.{IsVerdict}
 use Rattle.ol_equal.specs.declared.answers.Compared.{Compared}
 use Rattle.ol_equal.specs.Comparing.{TreeWithNames, place_at, IsFirstApart, IsComparison}
 use Rattle.ol_equal.specs.Texts.{compared_text}
@@ -33,22 +26,11 @@ use Rattle.ol_cli.specs.Equal.{HasTree}
 use Rattle.ol_cli.specs.Cases.{FileAnswer, JobAnswer, of_file, of_first, of_second, of_both}
 use Rattle.ol_cli.specs.Answers.{IsAnswer}
 use Rattle.ol_cli.specs.Jobs.{Files}
-use Rattle.ol_cli.specs.Run.{start_net_of_term, ReadsLast}
 use Rattle.ol_cli.specs.Certify.{Certifies}
 use Rattle.ol_cli.specs.SourceLaws.{TellsOfTwo, TellsSources, WritesOfSources, ComparisonTellsSources}
-use Rattle.ol_cli.specs.SourceLaws.{HeadBesideLostTellsSources, CertifyNeverDiffers}
+use Rattle.ol_cli.specs.SourceLaws.{HeadBesideLostTellsSources}
 use Rattle.ol_cli.proofs.OneAnswer.{own_job, one_bytes}
-
-says : (tr : Translation) (t : Tree) (names : List (List ℕ)) (fuel heads : ℕ)
-    (tree : List ReadNode) → HasNames t (length names) → ReadsLast tr t names fuel heads tree →
-    SaysOf t true tree
-says tr t names fuel heads tree has r =
-    let ran = as_run (start_net_of_term tr t names) r.ends.net 0 r.ends.journal r.ends.run.leads in
-    let own =
-    last_places tr t (length names) has r.ends.journal r.ends.net ran r.ends.complete heads (2 * live r.ends.net) tree
-    r.read in
-    let whole = tree_is_whole r.ends.net heads (2 * live r.ends.net) tree r.read in
-    places_say tr t (length names) has true whole.tree tree whole.is_list own
+use Rattle.ol_cli.proofs.VerdictTexts.{says}
 
 says_of : (tr : Translation) (bytes : List ℕ) (fuel heads : ℕ) (x : HasTree tr bytes fuel heads) →
     SaysOf x.term true x.tree
@@ -79,11 +61,6 @@ pub lost_tells_sources : HeadBesideLostTellsSources
 lost_tells_sources tr bytes bytes' fuel heads x y k path apart lost z =
     not_apart (record { a = x.names; b = y.names }) true true x.term y.term x.tree y.tree
     (are_printed tr bytes bytes' fuel heads x y) k path apart (inr lost) z
-
-pub certify_never_differs : CertifyNeverDiffers
-certify_never_differs tr bytes t names f steps fuel heads text c road e =
-    never_differs (says tr t names fuel heads c.tree (file_names bytes t names f) c.last)
-    (subst (λ v. IsVerdict t c.tree steps v) e c.holds)
 
 -- ---- the line of `equal`
 
@@ -164,7 +141,6 @@ certifies files tr b w fuel heads name old new s text done ap (of_file {bytes = 
     (subst (λ ns. Certifies tr x.0 ns b fuel heads text) q.1 x.3) in (
       text,
       c,
-      (λ road d. certify_never_differs tr m' t names f b fuel heads text c road d),
       ap,
     )
 

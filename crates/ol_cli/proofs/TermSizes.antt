@@ -9,9 +9,9 @@ use Rattle.ol_law_meaning.proofs.FileNames.{file_names}
 
 -- the term of a file within the limits can be reduced
 pub reducible : (tr : Translation) (bytes : List ℕ) (t : Tree) (names : List (List ℕ)) →
-    IsTermFile tr bytes t names → IsReducible t
+    IsTermFile tr bytes t names → IsReducible t names
 reducible tr bytes t names i = record {
   shallow = i.shallow;
-  bound = (file_names bytes t names i.file).bound;
+  named = file_names bytes t names i.file;
   few = counted tr t i.small;
 }

@@ -1,12 +1,13 @@
 -- Private: words of private contracts alone: a term file made ready, which is the net of its term,
 -- or the answer that refuses it, whatever the job.
-use Rattle.std.specs.Prelude.{◌≡◌, ℕ, ◌≤◌, ◌<◌, ◌^◌, true, List, length, None, count_by, is_some}
+use Rattle.std.specs.Prelude.{◌≡◌, ℕ, ◌≤◌, ◌<◌, ◌^◌, List, length, None, count_by, is_some}
 use Rattle.ol_term.specs.declared.translations.Translation.{Translation}
-use Rattle.ol_term.specs.Trees.{Tree, tree_of, is_below, depth, term_size}
+use Rattle.ol_term.specs.Trees.{Tree, tree_of, depth, term_size}
 use Rattle.ol_parse.specs.Texts.{IsRefusedAt}
 use Rattle.ol_net.specs.Graph.{Graph}
 use Rattle.ol_net.specs.Nets.{SameNet}
 use Rattle.ol_net.specs.Numbered.{net_of}
+use Rattle.ol_translate.specs.Names.{HasNames}
 use Rattle.ol_translate.specs.Translation.{translation_of}
 use Rattle.ol_wire.specs.Sizes.{IsSmallNet}
 use Rattle.ol_cli.specs.declared.status.Status.{Status}
@@ -34,10 +35,10 @@ pub record IsNetOf (translation : Translation) (t : Tree) (names : List (List �
   pub small : IsSmallNet net
   pub few : length net.nodes ≤ most_nodes
 
--- the term isn't deep, each variable is bound, and its size is counted in 64 bits, so that it can be reduced
-pub record IsReducible (t : Tree) : Type 0 where
+-- the term isn't deep, has just these free names, and its size is counted in 64 bits, so that it can be reduced
+pub record IsReducible (t : Tree) (names : List (List ℕ)) : Type 0 where
   pub shallow : depth t ≤ most_depth
-  pub bound : is_below 0 t ≡ true
+  pub named : HasNames t (length names)
   pub few : term_size t < 2 ^ 64
 
 -- this holds of each term whose net it is by a translation, with its free names
@@ -60,7 +61,7 @@ IsMadeReady translation bytes (ready.Refused answer) =
 -- the net, if there is one, is that of the term, which can be reduced
 abbrev pub IsNetReady : Translation → Ready → Type 0
 IsNetReady translation (ready.Net net file) =
-    IsNetOf translation (tree_of file.term) file.names net × IsReducible (tree_of file.term)
+    IsNetOf translation (tree_of file.term) file.names net × IsReducible (tree_of file.term) file.names
 IsNetReady translation (ready.Refused answer) = Unit {0}
 
 -- the term file is refused so: the source failed, or gave too many bytes, or its bytes are refused

@@ -1,10 +1,12 @@
 -- What `equal` and `certify` tell of the terms of their files.
-use Rattle.std.specs.Prelude.{◌≡◌, ℕ, true, List, Option, Some, String}
+use Rattle.std.specs.Prelude.{◌≡◌, ◌↔◌, ℕ, true, List, Option, Some, String}
 use Rattle.std.specs.declared.alloc.Global.{Global}
 use Rattle.ol_io.specs.Outside.{Appended}
 use Rattle.ol_term.specs.declared.translations.Translation.{Translation}
 use Rattle.ol_term.specs.Trees.{Tree}
 use Rattle.ol_parse.specs.Parsed.{IsFileOf}
+use Rattle.ol_beta.specs.Verdicts.{IsVerdict}
+use Rattle.ol_beta.specs.declared.certifying.Verdict.{Verdict}
 use Rattle.ol_beta.specs.declared.certifying.Verdict.TheVariants.{Differs}
 use Rattle.ol_equal.specs.declared.answers.Compared.{Compared}
 use Rattle.ol_equal.specs.Comparing.{TreeWithNames, place_at, IsFirstApart, IsComparison}
@@ -15,7 +17,9 @@ use Rattle.ol_words.specs.declared.jobs.Job.{Job}
 use Rattle.ol_words.specs.declared.jobs.Job.TheVariants as jobs
 use Rattle.ol_cli.specs.Texts.{line}
 use Rattle.ol_cli.specs.Jobs.{AskFor, Files}
-use Rattle.ol_cli.specs.Certify.{Certifies}
+use Rattle.ol_readback.specs.declared.answers.ReadNode.{ReadNode}
+use Rattle.ol_cli.specs.Certify.{Certifies, IsVerdictText, verdict_text}
+use Rattle.ol_cli.specs.Run.{ReadsLast}
 use Rattle.ol_cli.specs.Equal.{HasTree}
 
 -- What the line of `equal` tells of the terms of its two files: `equal`, that they have one normal
@@ -43,8 +47,8 @@ TellsSources (jobs.Equal translation workers fuel heads a b) files old new =
     TellsOfTwo translation fuel heads bytes bytes' (record { a = names; b = others }) t u old new
 TellsSources (jobs.Certify translation steps workers fuel heads name) files old new =
     (bytes : List ℕ) → files 0 name ≡ Some bytes → (t : Tree) (names : List (List ℕ)) →
-    IsFileOf bytes t names → (text : List ℕ) × (c : Certifies translation t names steps fuel heads text)
-    × ((road : List (List ℕ)) → c.verdict ≡ Differs road → ⊥) × Appended old text new
+    IsFileOf bytes t names → (text : List ℕ) × Certifies translation t names steps fuel heads text
+    × Appended old text new
 TellsSources _ files old new = Unit {0}
 
 -- the same of the words
@@ -70,9 +74,17 @@ HeadBesideLostTellsSources = (translation : Translation) (bytes bytes' : List �
     IsHeadBesideLost true true (place_at x.tree k) (place_at y.tree k) →
     Convertible (by_bytes x.names x.term) (by_bytes y.names y.term) → ⊥
 
--- `certify` never tells that leftmost reduction of a file's term ends in another term than its
--- tree's
+-- `certify` never finds that leftmost reduction of a file's term ends in another term than its tree's
 abbrev pub CertifyNeverDiffers : Type 0
-CertifyNeverDiffers = (translation : Translation) (bytes : List ℕ) (t : Tree)
-    (names : List (List ℕ)) → IsFileOf bytes t names → (steps fuel heads : ℕ) (text : List ℕ)
-    (c : Certifies translation t names steps fuel heads text) (road : List (List ℕ)) → c.verdict ≡ Differs road → ⊥
+CertifyNeverDiffers = (translation : Translation) (bytes : List ℕ) (t : Tree) (names : List (List ℕ)) →
+    IsFileOf bytes t names → (steps fuel heads : ℕ) (tree : List ReadNode) →
+    ReadsLast translation t names fuel heads tree → (road : List (List ℕ)) →
+    IsVerdict t tree steps (Differs road) → ⊥
+
+-- and a text is one that it writes exactly if it is the text of the verdict
+abbrev pub CertifyTellsVerdict : Type 0
+CertifyTellsVerdict = (translation : Translation) (bytes : List ℕ) (t : Tree) (names : List (List ℕ)) →
+    IsFileOf bytes t names → (steps fuel heads : ℕ) (tree : List ReadNode) →
+    ReadsLast translation t names fuel heads tree → (text : List ℕ) →
+    IsVerdictText t tree steps text
+    ↔ ((verdict : Verdict) × IsVerdict t tree steps verdict × (text ≡ verdict_text steps verdict))

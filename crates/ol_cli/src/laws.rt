@@ -3,7 +3,7 @@
 ghost use Rattle.ol_cli.specs.DemandFuel.{DemandHasFuel, HeadHasFuel};
 ghost use Rattle.ol_cli.specs.EveryRun.{EveryRunIsLonger, EveryRunPrints, AnyRunEnds, AnyRunPrints, AnyRunRunsOut, OneThreadIsThere};
 ghost use Rattle.ol_cli.specs.Follows.{EndsSay, FirstEndsSay, HandedFollows};
-ghost use Rattle.ol_cli.specs.SourceLaws.{CertifyNeverDiffers, ComparisonTellsSources, HeadBesideLostTellsSources};
+ghost use Rattle.ol_cli.specs.SourceLaws.{CertifyNeverDiffers, CertifyTellsVerdict, ComparisonTellsSources, HeadBesideLostTellsSources};
 ghost use Rattle.ol_cli.specs.Laws.{
   OneAnswer,
   OneNetIsLeft,
@@ -59,12 +59,14 @@ pub fn any_run_tells()
 /// Where `equal` compares the trees of two files, and all places agree, their terms have the same
 /// normal form; where it finds a place with two heads that don't agree, the terms aren't
 /// convertible (`equal`). Nor are they convertible where the first place at which the trees differ
-/// has a head in one tree and is a `?` in the other (`lost`). And `certify` never prints that
-/// leftmost reduction of a term ends in another term than that of its tree (`certify`).
+/// has a head in one tree and is a `?` in the other (`lost`). And `certify` never finds that
+/// leftmost reduction of a term ends in another term than that of its tree (`certify`); its text is
+/// that of the verdict of `ol_beta` (`verdict`).
 pub fn sources_are_told()
     ensures equal { ComparisonTellsSources }
     ensures lost { HeadBesideLostTellsSources }
     ensures certify { CertifyNeverDiffers }
+    ensures verdict { CertifyTellsVerdict }
 {}
 
 /// The net of the term, before any step, determines how much fuel, in interactions, is enough for

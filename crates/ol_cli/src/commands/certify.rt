@@ -56,7 +56,7 @@ fn certify_net<R: Threads + Wait + Sync, G: Gate + Sync>(
     gate: &G,
 ) -> Result<Answer, NoMemory>
     requires net { IsNetOf numbers.translation (tree_of file.now.term) file.now.names net.now }
-    requires term { IsReducible (tree_of file.now.term) }
+    requires term { IsReducible (tree_of file.now.term) file.now.names }
     ensures answer { IfOk result (λ a.
         AnswersTerm (certify_by numbers steps) file.now a.status a.text.items) }
     ensures closed { IfOk result (λ a. a.closed ≡ None) }
