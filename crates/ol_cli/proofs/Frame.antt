@@ -1,7 +1,7 @@
 -- What one call after another does to a source.
-use Rattle.std.proofs.Common.{ℕ, ◌≤◌, ◌+◌, ◌∙◌, refl, arith}
+use Rattle.std.proofs.Common.{ℕ, ◌+◌, ◌∙◌, arith}
 use Rattle.ol_io.specs.declared.outside.Source.{Ghosts as SourceGhosts}
-use Rattle.ol_io.proofs.Readings.{AreOfSince-then, AreOfSince-nothing}
+use Rattle.ol_io.proofs.Readings.{AreOfSince-then}
 use Rattle.ol_cli.specs.Called.{ReadsAtMost}
 
 module _ {S : Type 0} (g : SourceGhosts S) where
@@ -18,23 +18,3 @@ module _ {S : Type 0} (g : SourceGhosts S) where
         told = AreOfSince-then (g.contents old) (g.readings old) (g.readings mid) (g.readings new)
             a.told (rw a.contents at b.told);
       }
-
-  -- a call that begins fewer names
-  pub reads_more : (m n : ℕ) (old new : S) → m ≤ n → ReadsAtMost g m old new → ReadsAtMost g n old new
-  reads_more m n old new le a =
-      let x = a.begins in
-      record {
-        begins = omega (arith, x, le);
-        knows = a.knows;
-        contents = a.contents;
-        told = a.told;
-      }
-
-  -- no call at all
-  pub reads_nothing : (n : ℕ) (s : S) → ReadsAtMost g n s s
-  reads_nothing n s = record {
-    begins = omega (arith);
-    knows = refl;
-    contents = refl;
-    told = AreOfSince-nothing (λ _. g.contents s) (g.readings s);
-  }

@@ -35,7 +35,6 @@ use Rattle.ol_cli.specs.Laws.{OneTreeIsPrinted, OneTreeIsWalked}
 use Rattle.ol_cli.specs.Run.{start_net_of_term, Shows, Prints, RunsOut, RunEnds, ReadsLast}
 use Rattle.ol_cli.specs.Walk.{Walks}
 use Rattle.ol_cli.specs.View.{Views}
-use Rattle.ol_cli.specs.EveryRun.{PrintsOf}
 use Rattle.ol_cli.proofs.ListedOnce.{same_length}
 use Rattle.ol_cli.proofs.TreeTransport.{tree_same}
 use Rattle.ol_cli.proofs.VerdictTexts.{verdict_of}
@@ -69,14 +68,6 @@ one_show names heads journal M N text text' same s s' =
     let x = shows_tree names heads journal journal M N text text' same s s' in
     s.written ∙ ap (λ x. answer_text x (counts_of journal) s.stuck) x.1
     ∙ ap (λ n. answer_text s'.term (counts_of journal) n) x.2 ∙ sym s'.written
-
--- a complete run shows one text
-pub one_shown : (names : List (List ℕ)) (fuel heads : ℕ) (journal : List Entry)
-    (net : NamedNet NodeName) (text text' : List ℕ) → PrintsOf names fuel heads journal net text →
-    PrintsOf names fuel heads journal net text' → text ≡ text'
-one_shown names fuel heads journal net text text' p p' =
-    one_show names heads journal p.listed p'.listed text text'
-    (same_trans p.listed net p'.listed (same_sym net p.listed p.same) p'.same) p.shows p'.shows
 
 module _ (tr : Translation) (t : Tree) (names : List (List ℕ))
     (is_net : IsNet (translation_of tr t (length names))) where
