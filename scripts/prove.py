@@ -1,8 +1,8 @@
-"""Proves the crates below a program side by side, each once those that it stands on are proved, and then builds it. See ../prove.
+"""Proves the crates below a program by `rt ci`, and builds it. See ../prove.
 
-A crate is proved by `rt lib`, which keeps other commands out of its folder and out of those of all crates below it, so that two
-commands in one checkout wait for each other. Here each runs in a room of its own, out/prove/NAME: the sources of the crate and of those
-below it, with the libraries of these, all by hard links, and its own out/, which is moved there and back again.
+`rt ci` runs in a folder of its own, out/prove, that has the sources of these crates by hard links, and neither must-fail edits nor the
+other crates. It proves several crates side by side, each over the statements of those below it, and keeps what is proved beside the
+kit: a call after one that was interrupted, in whatever clone of the same sources, goes on from there.
 """
 import fcntl
 import os
@@ -16,10 +16,9 @@ import time
 import made_from
 
 TOP = made_from.TOP
-ROOMS = TOP + '/out/prove'
+ROOM = TOP + '/out/prove'
 LOGIC = 'dac8208d650f15bf'  # the program logic that the proofs were last checked with
 SPACE = 10  # GB of disk that all proofs take
-ROOMY = 12  # GB of free memory, with which more than two processes may prove one crate
 
 
 def tell(text):
@@ -37,7 +36,7 @@ def check_the_machine():
     said = subprocess.run(['rt', 'version'], capture_output=True, text=True).stdout
     if LOGIC not in said:
         tell(f'this kit has another program logic than the proofs were last checked with ({LOGIC}): {said.strip()}. Going on.')
-    if not os.path.isdir(TOP + '/crates/ol_cli/out/rlib') and shutil.disk_usage(TOP).free < SPACE * 10**9:
+    if shutil.disk_usage(TOP).free < SPACE * 10**9:
         stop(f'less than {SPACE} GB of disk are free, which the proofs take.')
 
 
@@ -46,107 +45,37 @@ def clock(start):
     return f'{took // 60:3}:{took % 60:02}'
 
 
-def is_roomy():
-    with open('/proc/meminfo', encoding='ascii') as file:
-        sizes = dict(line.split(':') for line in file)
-    return int(sizes['MemAvailable'].split()[0]) >= ROOMY * 10**6
+def make_room(rows):
+    """The folder in which `rt ci` runs, with the sources of these crates."""
+    shutil.rmtree(ROOM, ignore_errors=True)
+    os.makedirs(ROOM + '/.git')  # `rt ci` runs at the top of a repository only
+    for crate in rows:
+        shutil.copytree(f'{TOP}/crates/{crate}', f'{ROOM}/crates/{crate}', copy_function=os.link,
+                        ignore=shutil.ignore_patterns('out', 'must-fail'))
+    shutil.copy(TOP + '/HANDLES', ROOM)
+    with open(ROOM + '/crates.txt', 'w', encoding='utf-8') as file:
+        file.writelines(' '.join(row).replace(' :', ':') + '\n' for row in rows.values())
 
 
-def lines_of(crate):
-    count = 0
-    for part in made_from.PARTS['proved']:
-        for path in made_from.files_below(f'{TOP}/crates/{crate}/{part}'):
-            with open(path, 'rb') as file:
-                count += file.read().count(b'\n')
-    return count
-
-
-def chains(below):
-    """For each crate the lines of the longest chain of crates that begins with it and goes on with one that stands on it."""
-    longest = {}
-    for it in sorted(below, key=lambda it: -len(below[it])):
-        longest[it] = lines_of(it) + max((longest[other] for other in below if it in below[other]), default=0)
-    return longest
-
-
-class Proof:
-    """A crate's proof that is running, by some processes, in the crate's room."""
-
-    def __init__(self, crate, below, processes):
-        self.crate, self.processes = crate, processes
-        self.room = f'{ROOMS}/{crate}'
-        for it in (crate, *below):
-            for part in made_from.PARTS['proved']:
-                self.link(f'crates/{it}/{part}')
-        for it in below:
-            self.link(f'crates/{it}/out/rlib')
-        with open(self.room + '/crates.txt', 'w', encoding='utf-8') as file:
-            file.writelines(' '.join(row).replace(' :', ':') + '\n' for row in made_from.rows_below(crate).values())
-        self.move(TOP, self.room)
-        with open(self.room + '/said', 'wb') as said:
-            self.running = subprocess.Popen(['rt', 'lib', '--jobs', str(processes)], cwd=f'{self.room}/crates/{crate}',
-                                            stdin=subprocess.DEVNULL, stdout=said, stderr=said)
-
-    def link(self, path):
-        """Gives the files of a folder a second name in the room."""
-        if os.path.isdir(f'{TOP}/{path}'):
-            shutil.copytree(f'{TOP}/{path}', f'{self.room}/{path}', copy_function=os.link)
-
-    def move(self, one, other):
-        """Moves the crate's out/ between the checkout and the room."""
-        if os.path.isdir(f'{one}/crates/{self.crate}/out'):
-            shutil.rmtree(f'{other}/crates/{self.crate}/out', ignore_errors=True)
-            os.rename(f'{one}/crates/{self.crate}/out', f'{other}/crates/{self.crate}/out')
-
-    def end(self):
-        """Takes over what is proved, or was proved so far, and gives the status and what was said."""
-        if self.running.poll() is None:
-            self.running.terminate()
-        status = self.running.wait()
-        with open(self.room + '/said', encoding='utf-8', errors='replace') as file:
-            said = file.read()
-        self.move(self.room, TOP)
-        shutil.rmtree(self.room)
-        return status, said
-
-
-def prove_all(below, lanes, tell_of):
-    """Proves these crates by at most so many processes, and tells of each when its proof ends. `below` has the crates below each. Of those
-    that could be proved that one comes first which has the longest chain of others behind it. If these are fewer than the processes
-    left, each gets a part of these, and at most two if memory is short (`ol_cli` by four takes 8.5 GB, by two 6.2)."""
-    left, longest, running = set(below), chains(below), []
-    shutil.rmtree(ROOMS, ignore_errors=True)
-    try:
-        while left or running:
-            unproved = left | {it.crate for it in running}
-            ready = sorted((it for it in left if not below[it] & unproved), key=longest.get)
-            while ready and (free := lanes - sum(it.processes for it in running)):
-                share = max(1, free // len(ready))
-                crate = ready.pop()
-                left.remove(crate)
-                running.append(Proof(crate, below[crate], share if is_roomy() else min(share, 2)))
-            while not (ended := [it for it in running if it.running.poll() is not None]):
-                time.sleep(0.1)
-            for it in ended:
-                running.remove(it)
-                status, said = it.end()
-                if status:
-                    print(said, end='')
-                    stop(f"{it.crate} is not proved: above is what `rt` printed; `rt check` in its folder says more.")
-                tell_of(it.crate)
-    finally:
-        for it in running:
-            it.end()
-        shutil.rmtree(ROOMS, ignore_errors=True)
-
-
-def build(crate):
-    """Builds the program over what is proved, by one process: most of the time is reading the libraries, which each process would do.
-    Without words the program prints how it is used, and fails."""
-    ran = subprocess.run(['rt', 'run', '--jobs', '1'], cwd=f'{TOP}/crates/{crate}', stdin=subprocess.DEVNULL, stdout=subprocess.PIPE,
-                         stderr=subprocess.STDOUT, text=True, errors='replace')
-    if ran.returncode != 0 and not re.search(r'(?im)^usage: ', ran.stdout):
-        print(ran.stdout)
+def prove(lanes, tell_of):
+    """Proves all crates in the room by at most so many processes, tells of each when it is proved, and builds the program. What `rt` says
+    of a crate comes before the line that the crate is proved, or isn't."""
+    said = []
+    with subprocess.Popen(['rt', 'ci'], cwd=ROOM, env={**os.environ, 'RT_JOBS': str(lanes)}, stdin=subprocess.DEVNULL,
+                          stdout=subprocess.PIPE, stderr=subprocess.STDOUT, text=True, errors='replace') as running:
+        try:
+            for line in running.stdout:
+                said.append(line)
+                if found := re.match(r'rt: (\w+) (proved|is kept|NOT PROVED)', line):
+                    if found[2] == 'NOT PROVED':
+                        print(''.join(said[:-1]), end='')
+                        stop(f"{found[1]} is not proved: above is what `rt` printed; `rt check` in its folder says more.")
+                    tell_of(found[1])
+                    said = []
+        finally:
+            running.terminate()
+    if running.returncode:
+        print(''.join(said), end='')
         stop('the program is not built: above is what `rt` printed.')
 
 
@@ -175,20 +104,24 @@ def main():
     name, lanes = words_of(sys.argv[1:])
     check_the_machine()
     crate, start, sources = made_from.CRATES[name], time.time(), made_from.sources(name)
-    below = {it: set(made_from.rows_below(it)) - {it} for it in made_from.rows_below(crate) if it != crate}
-    count, ended = len(below) + 1, []
+    rows, ended = made_from.rows_below(crate), []
 
     def tell_of(crate):
         ended.append(crate)
-        tell(f'{len(ended):2} of {count} {clock(start)}  {crate}')
+        tell(f'{len(ended):2} of {len(rows)} {clock(start)}  {crate}')
 
-    tell(f'{count} crates, by at most {lanes} processes.')
+    tell(f'{len(rows)} crates, by at most {lanes} processes.')
     with only_one():
-        prove_all(below, lanes, tell_of)
-        build(crate)
+        try:
+            make_room(rows)
+            prove(lanes, tell_of)
+            made = made_from.program(name, 'proved')
+            os.makedirs(os.path.dirname(made), exist_ok=True)
+            shutil.move(f'{ROOM}/crates/{crate}/out/{crate}', made)
+        finally:
+            shutil.rmtree(ROOM, ignore_errors=True)
         made_from.note(name, 'proved', sources)
-    tell_of(crate)
-    tell(f"proved and built: {os.path.relpath(made_from.program(name, 'proved'))}. ./{name} runs it from now on.")
+    tell(f"proved and built in{clock(start)}: {os.path.relpath(made)}. ./{name} runs it from now on.")
 
 
 if __name__ == '__main__':

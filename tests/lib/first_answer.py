@@ -27,9 +27,11 @@ KIT = 'kit logic dac8208d650f15bf\n'
 # A command `rt` that proves all but what is broken, and builds a program that says that it is proved.
 RT = r"""
 [ "$1" = version ] && cat "${0%/*}/../KIT-ID" && exit 0
-[ "$1" = lib ] && grep -q broken src/main.rt && echo 'no proof' && exit 1
-[ "$1" = lib ] && mkdir -p out/rlib && exit 0
-mkdir -p out && it=out/${PWD##*/} && printf '#!/bin/sh\necho proved\n' >$it && chmod +x $it && echo 'usage: ol' && echo 'usage: ol run'; exit 1
+while IFS=: read -r crate rest; do
+    grep -q broken "crates/$crate/src/main.rt" && echo 'no proof' && echo "rt: $crate NOT PROVED" && exit 1
+    echo "rt: $crate proved" && mkdir -p "crates/$crate/out" && it=crates/$crate/out/$crate
+    printf '#!/bin/sh\necho proved\n' >"$it" && chmod +x "$it"
+done <crates.txt
 """
 BUILDS = r"""
 mkdir -p "$(dirname "$1")" && printf '#!/bin/sh\necho unproved\n' >"$1"; chmod +x "$1"
