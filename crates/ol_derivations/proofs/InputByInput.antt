@@ -1,31 +1,24 @@
 -- Inputs one after another, and students.
 use Rattle.std.proofs.Common.{◌≡◌, ℕ, zero, suc, ◌+◌, ◌<◌, ◌≤◌, Bool, true, false, List, [], ◌∷◌, ◌++◌, append_assoc, append-nil, length, take, drop, refl, sym, ap, ◌∙◌, subst, arith}
-use Rattle.std.specs.Prelude.{◌&&◌, ◌≢◌, get_or}
-use Rattle.std.specs.Borrow.{Bor}
+use Rattle.std.specs.Prelude.{◌&&◌, ◌≢◌, All, get_or}
 use Rattle.std.specs.List.{AllZip}
-use Rattle.std.proofs.lemmas.List.{length-append, take-append-drop}
+use Rattle.std.proofs.lemmas.List.{take-append-drop}
+use Rattle.std.proofs.lemmas.List.Elements.{All-append}
 use Rattle.std.proofs.Math.Bool.{and_assoc, and-true}
-use Rattle.ol_limits.specs.Limits.{most_term_bytes}
 use Rattle.ol_term.specs.Trees.{Tree}
 use Rattle.ol_derivations.specs.Lines.{is_left_out}
 use Rattle.ol_derivations.specs.Derivations.{IsTermLine, IsNoTermLine, line_text}
 use Rattle.ol_derivations.specs.declared.reading.Bounds.{Bounds}
 use Rattle.ol_derivations.specs.declared.read_trees.Seen.{Seen}
+use Rattle.ol_derivations.specs.declared.applying.Input.{Input}
 use Rattle.ol_derivations.specs.declared.grading.Student.{Student}
+use Rattle.ol_derivations.specs.Applications.{IsInput}
 use Rattle.ol_derivations.specs.Reads.{HasWholeTree, HasNoWholeTree}
 use Rattle.ol_derivations.specs.Grades.{AreInputs, HasNoInputs, IsTermText, IsNoTermText, IsRight, IsWrong, IsGrade, IsGradeOf, AreGrades, IsNoSolution, on_input, file_line}
-use Rattle.ol_derivations.specs.StudentsSoFar.{AreFunctions, AreWanted, seen_lines}
+use Rattle.ol_derivations.specs.StudentsSoFar.{AreWanted, texts_of}
 use Rattle.ol_readback.specs.Texts.{AreNamed}
-use Rattle.ol_derivations.proofs.Spelled.{text_of}
 
 -- ---- lists
-
-pub text_short : (function line : List ℕ) → length function ≤ most_term_bytes → length line ≤ most_term_bytes →
-    length (text_of function line) ≤ 1073741824
-text_short function line f l =
-    let a = length-append (40 ∷ function) (10 ∷ (41 ∷ (32 ∷ []))) in
-    let b = length-append ((40 ∷ function) ++ (10 ∷ (41 ∷ (32 ∷ [])))) line in
-    omega (arith, a, b, f, l)
 
 one_up : (k : ℕ) → suc k ≡ k + 1
 one_up k = omega arith
@@ -93,57 +86,59 @@ zip_long R [] (z ∷ ys) h = absurd h
 zip_long R (z ∷ xs) [] h = absurd h
 zip_long R (z ∷ xs) (w ∷ ys) h = ap (λ n. suc n) (zip_long R xs ys h.1)
 
-pub seen_push : (lines : List (Bor (List ℕ))) (x : Bor (List ℕ)) →
-    seen_lines (lines ++ (x ∷ [])) ≡ seen_lines lines ++ (x.now ∷ [])
-seen_push [] x = refl
-seen_push (y ∷ lines) x = ap (λ l. y.now ∷ l) (seen_push lines x)
+pub texts_push : (inputs : List Input) (x : Input) → texts_of (inputs ++ (x ∷ [])) ≡ texts_of inputs ++ (x.text.now ∷ [])
+texts_push [] x = refl
+texts_push (y ∷ inputs) x = ap (λ l. y.text.now ∷ l) (texts_push inputs x)
 
-pub seen_long : (lines : List (Bor (List ℕ))) → length (seen_lines lines) ≡ length lines
-seen_long [] = refl
-seen_long (y ∷ lines) = ap (λ n. suc n) (seen_long lines)
+pub texts_long : (inputs : List Input) → length (texts_of inputs) ≡ length inputs
+texts_long [] = refl
+texts_long (y ∷ inputs) = ap (λ n. suc n) (texts_long inputs)
 
--- what a slice without the place gives
-abbrev pub no_line : Bor (List ℕ)
-no_line = record { ref_ptr = (0, 0); now = [] }
+text_at : (inputs : List Input) (k : ℕ) (x : Input) → k < length inputs → x ≡ get_or inputs k x →
+    drop k (texts_of inputs) ≡ x.text.now ∷ drop (suc k) (texts_of inputs)
+text_at [] k x l e = absurd (omega arith)
+text_at (y ∷ inputs) zero x l e = ap (λ (y : Input). y.text.now ∷ texts_of inputs) (sym e)
+text_at (y ∷ inputs) (suc k) x l e = text_at inputs k x (omega arith) e
 
-seen_at : (lines : List (Bor (List ℕ))) (k : ℕ) (d : Bor (List ℕ)) → k < length lines →
-    drop k (seen_lines lines) ≡ (get_or lines k d).now ∷ drop (suc k) (seen_lines lines)
-seen_at [] k d l = absurd (omega arith)
-seen_at (y ∷ lines) zero d l = refl
-seen_at (y ∷ lines) (suc k) d l = seen_at lines k d (omega arith)
+pub text_here : (inputs : List Input) (k : ℕ) (x : Input) → k < length inputs → x ≡ get_or inputs k x →
+    drop k (texts_of inputs) ≡ x.text.now ∷ drop (k + 1) (texts_of inputs)
+text_here inputs k x l e = text_at inputs k x l e ∙ ap (λ n. x.text.now ∷ drop n (texts_of inputs)) (one_up k)
 
-pub seen_here : (lines : List (Bor (List ℕ))) (k : ℕ) (d : Bor (List ℕ)) → k < length lines →
-    drop k (seen_lines lines) ≡ (get_or lines k d).now ∷ drop (k + 1) (seen_lines lines)
-seen_here lines k d l = seen_at lines k d l ∙ ap (λ n. (get_or lines k d).now ∷ drop n (seen_lines lines)) (one_up k)
+pub input_here : (inputs : List Input) (k : ℕ) (x : Input) → All IsInput inputs → k < length inputs →
+    x ≡ get_or inputs k x → IsInput x
+input_here inputs k x all l e = subst IsInput (sym e) (all k x l)
 
-pub some_seen : (lines : List (Bor (List ℕ))) → 0 < length lines → seen_lines lines ≢ []
-some_seen [] l e = omega (arith, l)
-some_seen (y ∷ lines) l e = absurd (cc)
+pub no_input : All IsInput []
+no_input k d l = absurd (omega (arith, l))
 
-pub none_seen : (lines : List (Bor (List ℕ))) → length lines ≡ 0 → seen_lines lines ≡ []
-none_seen [] e = refl
-none_seen (y ∷ lines) e = absurd (omega (arith, e))
+pub one_more_input : (inputs : List Input) (x : Input) → All IsInput inputs → IsInput x → All IsInput (inputs ++ (x ∷ []))
+one_more_input inputs x all i = All-append IsInput inputs (x ∷ []) all only
+  where
+    only : All IsInput (x ∷ [])
+    only zero d l = i
+    only (suc k) d l = absurd (omega (arith, l))
+
+pub some_texts : (inputs : List Input) → 0 < length inputs → texts_of inputs ≢ []
+some_texts [] l e = omega (arith, l)
+some_texts (y ∷ inputs) l e = absurd (cc)
+
+pub no_texts : (inputs : List Input) → length inputs ≡ 0 → texts_of inputs ≡ []
+no_texts [] e = refl
+no_texts (y ∷ inputs) e = absurd (omega (arith, e))
 
 -- ---- inputs
 
 pub function_of : (line : List ℕ) (t : Tree) (names : List (List ℕ)) → IsTermLine line t names → IsTermText line
 function_of line t names h = record { term = t; names = names; short = h.short; file = h.file; shallow = h.within.1 }
 
+abbrev pub AreFunctions : List (List ℕ) → Type 0
+AreFunctions [] = Unit {0}
+AreFunctions (line ∷ lines) = IsTermText line × AreFunctions lines
+
 pub are_functions : {lines inputs : List (List ℕ)} → AreInputs lines inputs → AreFunctions inputs
 are_functions AreInputs.none = tt
 are_functions (AreInputs.left_out e h) = are_functions h
 are_functions (AreInputs.input {line = line} {t = t} {names = names} e i h) = (function_of line t names i, are_functions h)
-
-function_at : (lines : List (List ℕ)) (k : ℕ) (line : List ℕ) → AreFunctions lines →
-    drop k lines ≡ line ∷ drop (suc k) lines → IsTermText line
-function_at [] zero line h d = absurd (cc)
-function_at [] (suc k) line h d = absurd (cc)
-function_at (y ∷ lines) zero line h d = let e : y ≡ line = cc in subst IsTermText e h.0
-function_at (y ∷ lines) (suc k) line h d = function_at lines k line h.1 d
-
-pub function_here : (lines : List (List ℕ)) (k : ℕ) (line : List ℕ) → AreFunctions lines →
-    drop k lines ≡ line ∷ drop (k + 1) lines → IsTermText line
-function_here lines k line h d = function_at lines k line h (at lines k line d)
 
 -- ---- wanted trees
 

@@ -15,6 +15,8 @@ pub mod Plain
 pub mod Parted
 pub mod OneTextOneHead
 pub mod Spelled
+pub mod Counted
+pub mod Joined
 pub mod InputByInput
 pub mod Said
 pub mod Wholes

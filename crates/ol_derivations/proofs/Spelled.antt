@@ -2,15 +2,13 @@
 use Rattle.std.proofs.Common.{◌≡◌, ℕ, Bool, true, false, List, [], ◌∷◌, ◌++◌, append_assoc, refl, sym, ap, ◌∙◌, subst, codes}
 use Rattle.ol_term.specs.Trees.{Tree}
 use Rattle.ol_parse.specs.Grammar.{Named, app, Token, open_bracket, close_bracket, IsTerm, IsSpine, IsAtom}
-use Rattle.ol_parse.specs.Grammar.{term_body, term_spine, term_both, spine_one, spine_more, atom_brackets}
+use Rattle.ol_parse.specs.Grammar.{term_spine, term_both, spine_one, spine_more, atom_brackets}
 use Rattle.ol_parse.specs.Texts.{class_of, IsGap, gap_none, gap_blank, gap_comment, last_gap, last_comment}
-use Rattle.ol_parse.specs.Texts.{IsToken, token_sign, Spells, spells_none, spells_one, IsText, IsRefusedAt}
-use Rattle.ol_parse.specs.Numbered.{names_of, number}
+use Rattle.ol_parse.specs.Texts.{IsToken, token_sign, Spells, spells_none, spells_one}
 use Rattle.ol_parse.specs.Parsed.{IsFileOf}
-use Rattle.ol_parse.proofs.Exact.{one_file}
 use Rattle.ol_derivations.specs.Applied.{ToAtoms, one, more, ToArguments, atoms, body, both, IsApplied}
 
-clash : {P : Type 0} → false ≡ true → P
+pub clash : {P : Type 0} → false ≡ true → P
 clash e = absurd (cc)
 
 -- ---- bytes
@@ -27,22 +25,22 @@ unfolding class_of
 line_feed = gap_blank refl gap_none
 
 -- a gap before tokens, where no word stands before
-spaced : {ks : List Token} {h bs : List ℕ} → IsGap h → Spells false ks bs → Spells false ks (h ++ bs)
+pub spaced : {ks : List Token} {h bs : List ℕ} → IsGap h → Spells false ks bs → Spells false ks (h ++ bs)
 spaced i (spells_none (last_gap j)) = spells_none (last_gap (gaps i j))
 spaced {h = h} i (spells_none (last_comment {g = g} j b q c l)) =
     subst (Spells false []) (append_assoc h g (b ∷ c)) (spells_none (last_comment (gaps i j) b q c l))
 spaced {h = h} i (spells_one {k = k} {ks = ks} {g = g} {a = a} {bs = bs} j n t s) =
     subst (Spells false (k ∷ ks)) (append_assoc h g (a ++ bs)) (spells_one (gaps i j) (λ e _. clash e) t s)
 
-space : IsGap (32 ∷ [])
+pub space : IsGap (32 ∷ [])
 unfolding class_of
 space = gap_blank refl gap_none
 
-close_token : IsToken close_bracket (41 ∷ [])
+pub close_token : IsToken close_bracket (41 ∷ [])
 unfolding class_of
 close_token = token_sign refl
 
-open_token : IsToken open_bracket (40 ∷ [])
+pub open_token : IsToken open_bracket (40 ∷ [])
 unfolding class_of
 open_token = token_sign refl
 
@@ -61,38 +59,10 @@ closed {after = after} {js = js} {cs = cs} (spells_one {k = k} {ks = ks} {g = g}
     (ap (λ x. g ++ x) (sym (append_assoc a bs (10 ∷ (41 ∷ cs)))) ∙ sym (append_assoc g (a ++ bs) (10 ∷ (41 ∷ cs))))
     (spells_one i n t (closed r s))
 
--- ---- tokens
-
--- a spine, with one more atom before it
-abbrev Before : List Token → Named → List Token → Type 0
-Before a f b = (t : Named) × ToAtoms f b t × IsSpine (a ++ b) t
-
-before : {a b : List Token} {f s : Named} → IsAtom a f → IsSpine b s → Before a f b
-before {f = f} i (spine_one {t = t} j) = (app f t, one j, spine_more (spine_one i) j)
-before {a = a} i (spine_more {a = b} {b = c} {t = t} r j) =
-    let h = before i r in
-    (app h.0 t, more h.1 j, subst (λ ks. IsSpine ks (app h.0 t)) (append_assoc a b c) (spine_more h.2 j))
-
-abbrev Applies : List Token → Named → List Token → Type 0
-Applies a f b = (t : Named) × ToArguments f b t × IsTerm (a ++ b) t
-
-applies : {a b : List Token} {f l : Named} → IsAtom a f → IsTerm b l → Applies a f b
-applies {f = f} i (term_body {t = t} j) = (app f t, body j, term_both (spine_one i) j)
-applies i (term_spine j) = let h = before i j in (h.0, atoms h.1, term_spine h.2)
-applies {a = a} i (term_both {a = b} {b = c} {t = t} j k) =
-    let h = before i j in
-    (app h.0 t, both h.1 k, subst (λ ks. IsTerm ks (app h.0 t)) (append_assoc a b c) (term_both h.2 k))
-
 -- ---- texts
 
 abbrev pub text_of : (function line : List ℕ) → List ℕ
 text_of function line = codes "(" ++ function ++ codes "\n) " ++ line
-
--- the application has a text, and it is one of a term that is the function applied to the line's arguments
-pub record IsTextOf (function line : List ℕ) : Type 0 where
-  pub whole : Named
-  pub text : IsText (text_of function line) whole
-  pub applied : IsApplied function line (number whole) (names_of whole)
 
 -- the tokens of the application, in its text
 abbrev tokens_of : (function line : List Token) → List Token
@@ -112,35 +82,13 @@ bracketed : (ks js : List Token) (t : Named) → IsTerm ((open_bracket ∷ ks ++
 bracketed ks js t h =
     subst (λ x. IsTerm x t) (ap (λ x. open_bracket ∷ x) (append_assoc ks (close_bracket ∷ []) js)) h
 
-pub has_text : (function line : List ℕ) (f l : Named) → IsText function f → IsText line l → IsTextOf function line
-has_text function line f l p q =
-    let h = applies (atom_brackets p.term) q.term in
-    record {
-      whole = h.0;
-      text = record {
-        tokens = tokens_of p.tokens q.tokens;
-        spelled = spelled_of function line p.tokens q.tokens p.spelled q.spelled;
-        term = bracketed p.tokens q.tokens h.0 h.2;
-      };
-      applied = record {
-        of = f;
-        text = p;
-        tokens = q.tokens;
-        spelled = q.spelled;
-        whole = h.0;
-        applied = h.1;
-        tree = refl;
-        free_names = refl;
-      };
-    }
-
--- and each term that is the function applied to the line's arguments is one of that text
+-- each term that is the function applied to the line's arguments is one of that text
 to_spine : {a : List Token} {f : Named} {b : List Token} {t : Named} → IsAtom a f → ToAtoms f b t → IsSpine (a ++ b) t
 to_spine i (one j) = spine_more (spine_one i) j
 to_spine {a = a} i (more {a = b} {b = c} {g = g} {t = t} h j) =
     subst (λ ks. IsSpine ks (app g t)) (append_assoc a b c) (spine_more (to_spine i h) j)
 
-to_term : {a : List Token} {f : Named} {b : List Token} {t : Named} → IsAtom a f → ToArguments f b t → IsTerm (a ++ b) t
+pub to_term : {a : List Token} {f : Named} {b : List Token} {t : Named} → IsAtom a f → ToArguments f b t → IsTerm (a ++ b) t
 to_term i (atoms h) = term_spine (to_spine i h)
 to_term i (body j) = term_both (spine_one i) j
 to_term {a = a} i (both {a = b} {b = c} {g = g} {t = t} h j) =
@@ -158,17 +106,3 @@ application_file {function} {line} h = record {
   tree = h.tree;
   free_names = h.free_names;
 }
-
--- so what that text reads as is the application
-pub is_applied : (function line : List ℕ) (t : Tree) (names : List (List ℕ)) → IsTextOf function line →
-    IsFileOf (text_of function line) t names → IsApplied function line t names
-is_applied function line t names h file =
-    let own : IsFileOf (text_of function line) (number h.whole) (names_of h.whole) =
-    record { named = h.whole; text = h.text; tree = refl; free_names = refl } in
-    let same = one_file (text_of function line) t (number h.whole) names (names_of h.whole) file own in
-    subst (λ t. IsApplied function line t names) (sym same.0)
-    (subst (λ names. IsApplied function line (number h.whole) names) (sym same.1) h.applied)
-
-pub never_refused : (function line : List ℕ) (at : ℕ) → IsTextOf function line →
-    IsRefusedAt (text_of function line) at → ⊥
-never_refused function line at h r = r.0 h.whole h.text

@@ -21,11 +21,10 @@ use Rattle.ol_derivations.specs.declared.read_trees.Seen.{Seen}
 use Rattle.ol_derivations.specs.declared.grading.Work.{Work}
 use Rattle.ol_derivations.specs.Reads.{HasWholeTree, lack_words}
 use Rattle.ol_derivations.specs.Grades.{IsTermText, IsNoTermText, place_words, on_input, IsRight, heads_words, IsWrong, IsGrade, IsGradeOf}
-use Rattle.ol_derivations.specs.StudentsSoFar.{AreFunctions}
 use Rattle.ol_derivations.specs.GradeLaws.{NoHeadTwice}
 use Rattle.ol_derivations.proofs.Commas.{colon, comma, decimal_lacks, lacks_by, lacks_no_more, path_lacks, same_twice, text_lacks}
 use Rattle.ol_derivations.proofs.Differing.{heads_differ, names_are}
-use Rattle.ol_derivations.proofs.InputByInput.{are_functions}
+use Rattle.ol_derivations.proofs.InputByInput.{AreFunctions, are_functions}
 
 -- ---- texts without a colon
 

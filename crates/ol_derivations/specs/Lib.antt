@@ -17,4 +17,5 @@ pub mod GradeLaws
 pub mod StepsFound
 pub mod Searches
 pub mod PlacesOfPaths
+pub mod Applications
 pub mod StudentsSoFar

@@ -1,6 +1,6 @@
 -- Private: what is found on the way to an answer.
-use Rattle.std.specs.Prelude.{◌≡◌, ◌≢◌, ℕ, ◌<◌, ◌≤◌, Bool, if◌then◌else◌, List, [], ◌∷◌, ◌++◌, length, map}
-use Rattle.std.specs.Prelude.{Option, Some, None}
+use Rattle.std.specs.Prelude.{◌≡◌, ◌≢◌, ℕ, ◌<◌, ◌≤◌, Bool, if◌then◌else◌, List, ◌++◌, length, map}
+use Rattle.std.specs.Prelude.{Option, Some, None, All}
 use Rattle.std.specs.List.{AllZip}
 use Rattle.std.specs.Borrow.{Bor}
 use Rattle.std.specs.declared.vec.Vec.{Vec}
@@ -9,6 +9,10 @@ use Rattle.ol_limits.specs.Limits.{most_depth}
 use Rattle.ol_term.specs.Trees.{Tree, tree_of, depth, EachOccurs}
 use Rattle.ol_term.specs.declared.term_file.TermFile.{TermFile}
 use Rattle.ol_derivations.specs.Applied.{IsApplied}
+use Rattle.ol_derivations.specs.Applications.{IsFunction, IsInput}
+use Rattle.ol_derivations.specs.declared.applying.Input.{Input}
+use Rattle.ol_derivations.specs.declared.functions.Parsed.{Parsed}
+use Rattle.ol_derivations.specs.declared.functions.Parsed.TheVariants as parsed
 use Rattle.ol_derivations.specs.Reads.{HasTree, HasNoTree, HasWholeTree, HasNoWholeTree}
 use Rattle.ol_net.specs.Graph.{Graph}
 use Rattle.ol_rules.specs.declared.journal.Entry.{Entry}
@@ -42,6 +46,10 @@ use Rattle.ol_derivations.specs.declared.grading.Wanted.TheVariants as wanting
 abbrev pub seen_lines : List (Bor (List ℕ)) → List (List ℕ)
 seen_lines lines = map (λ x. x.now) lines
 
+-- the lines of inputs
+abbrev pub texts_of : List Input → List (List ℕ)
+texts_of inputs = map (λ i. i.text.now) inputs
+
 -- the term of the function applied to the line, or None where it is too deep
 abbrev pub IsAppliedFile : (function line : List ℕ) → Option TermFile → Type 0
 IsAppliedFile function line (Some file) = IsApplied function line (tree_of file.term) file.names
@@ -61,10 +69,10 @@ IsReadOf g names bounds (found.Tree seen) = (seen.names ≡ names) × AreNamed (
 IsReadOf g names bounds (found.Without lack) =
     (lack ≡ lacks.Fuel) × HasMoreSteps (start_of g) bounds.heads.most bounds.fuel.most
 
--- the words that say why bytes are no function, or None where they are one
-abbrev pub IsFault : List ℕ → Option (Vec ℕ Global) → Type 0
-IsFault bytes None = IsTermText bytes
-IsFault bytes (Some words) = IsNoTermText bytes words.items
+-- the function of a text, or the words that say why the text is none
+abbrev pub IsParsed : List ℕ → Parsed → Type 0
+IsParsed text (parsed.Function f) = (f.text.now ≡ text) × IsFunction f
+IsParsed text (parsed.Fault words) = IsNoTermText text words.items
 
 -- what is said on input k, where it isn't right
 abbrev pub IsOn : Bounds → (student line : List ℕ) → Seen → ℕ → Option (Vec ℕ Global) → Type 0
@@ -109,7 +117,7 @@ pub record AreAllGrades (bounds : Bounds) (inputs : List (List ℕ)) (wanted : L
   pub end_is : end ≡ (if all then Yes else No)
 
 abbrev pub IsInputs : List (List ℕ) → Inputs → Type 0
-IsInputs lines (inputs.Lines kept) = AreInputs lines (seen_lines kept.items)
+IsInputs lines (inputs.Lines kept) = AreInputs lines (texts_of kept.items) × All IsInput kept.items
 IsInputs lines (inputs.Fault text) = HasNoInputs 1 lines text.items
 
 -- what a solution has on input k, which is this line
@@ -126,7 +134,3 @@ IsSolved bounds inputs solution (solved.Fault words) = IsNoSolution bounds input
 -- there is a wanted tree for each input, and each free name in it is one of its names
 abbrev pub AreWanted : List (List ℕ) → List Seen → Type 0
 AreWanted inputs wanted = AllZip (λ line w. AreNamed (length w.names) w.tree) inputs wanted
-
-abbrev pub AreFunctions : List (List ℕ) → Type 0
-AreFunctions [] = Unit {0}
-AreFunctions (line ∷ lines) = IsTermText line × AreFunctions lines

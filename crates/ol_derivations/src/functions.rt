@@ -1,10 +1,11 @@
-//! The text of a function by itself.
+//! The function of a text.
 
 ghost use Rattle.std.specs.Prelude.{◌≡◌, ◌+◌, ◌-◌, ◌≤◌, ◌++◌, [], length, take, slice_index_or, codes, IfOk};
 ghost use Rattle.ol_derivations.specs.Lines.{lines_of};
 ghost use Rattle.ol_derivations.specs.Grades.{place_words};
-ghost use Rattle.ol_derivations.specs.StudentsSoFar.{IsFault, seen_lines};
+ghost use Rattle.ol_derivations.specs.StudentsSoFar.{IsParsed, seen_lines};
 
+use crate::applying::Function;
 use crate::lines::{lines_of, words_of};
 use ol_limits::{MOST_TERM_BYTES, NoMemory};
 use ol_parse::{ParseFault, parse};
@@ -40,25 +41,34 @@ fn syntax_words(alloc: Global, bytes: &[u8], at: usize) -> Result<Vec<u8>, NoMem
     Ok(text)
 }
 
-/// The words that say why these bytes are no function. None comes exactly where they are one.
-pub fn fault_of(alloc: Global, bytes: &[u8]) -> Result<Option<Vec<u8>>, NoMemory>
-    ensures { IfOk result (IsFault bytes.now) }
+/// What comes of a text.
+#[derive(Drop)]
+pub enum Parsed<'a> {
+    /// A function.
+    Function(Function<'a>),
+    /// The words that say why it is none.
+    Fault(Vec<u8>),
+}
+
+/// The function of a text, or why the text is none. `NoMemory`: no memory was found.
+pub fn function_of<'a>(alloc: Global, text: &'a [u8]) -> Result<Parsed<'a>, NoMemory>
+    ensures { IfOk result (IsParsed text.now) }
 {
-    if bytes.len() > MOST_TERM_BYTES as usize {
+    if text.len() > MOST_TERM_BYTES as usize {
         let words = words_of(alloc, b"limit bytes 1048576")?;
-        return Ok(Some(words));
+        return Ok(Parsed::Fault(words));
     }
-    match parse(alloc, bytes) {
-        Ok(_file) => Ok(None),
+    match parse(alloc, text) {
+        Ok(file) => Ok(Parsed::Function(Function { text, file })),
         Err(fault) => match fault {
             ParseFault::NoMemory => Err(NoMemory),
             ParseFault::Syntax { at } => {
-                let words = syntax_words(alloc, bytes, at)?;
-                Ok(Some(words))
+                let words = syntax_words(alloc, text, at)?;
+                Ok(Parsed::Fault(words))
             }
             ParseFault::Depth { .. } => {
                 let words = words_of(alloc, b"limit depth 1000")?;
-                Ok(Some(words))
+                Ok(Parsed::Fault(words))
             }
         },
     }

@@ -1,14 +1,16 @@
 //! A student against the solution, and all of them.
 
-ghost use Rattle.std.specs.Prelude.{◌≡◌, ℕ, false, List, ◌+◌, ◌<◌, ◌++◌, [], ◌∷◌, length, drop, if◌then◌else◌, codes, MatchOption, IfOk, OnOk};
+ghost use Rattle.std.specs.Prelude.{◌≡◌, ℕ, false, List, ◌+◌, ◌<◌, ◌++◌, [], ◌∷◌, length, drop, if◌then◌else◌, codes, All, MatchOption, IfOk, OnOk};
 ghost use Rattle.std.specs.Fmt.{decimal};
 ghost use Rattle.std.specs.List.{AllZip};
+ghost use Rattle.ol_derivations.specs.Applications.{IsFunction, IsInput};
 ghost use Rattle.ol_readback.specs.Texts.{AreNamed};
 ghost use Rattle.ol_derivations.specs.Lines.{lines_of};
-ghost use Rattle.ol_derivations.specs.Grades.{AreInputs, IsTermText, IsGrade, IsGradeOf, IsGraded, file_line, on_input};
-ghost use Rattle.ol_derivations.specs.StudentsSoFar.{AreAllGrades, AreFunctions, AreWanted, AddsHeads, IsOn, IsPathOf, IsSaid, IsSolved, IsWanted, seen_lines};
+ghost use Rattle.ol_derivations.specs.Grades.{AreInputs, IsGrade, IsGradeOf, IsGraded, file_line, on_input};
+ghost use Rattle.ol_derivations.specs.StudentsSoFar.{AreAllGrades, AreWanted, AddsHeads, IsOn, IsPathOf, IsSaid, IsSolved, IsWanted, texts_of};
 
-use crate::functions::fault_of;
+use crate::applying::{Function, Input};
+use crate::functions::{Parsed, function_of};
 use crate::inputs::{Inputs, inputs_of};
 use crate::lines::words_of;
 use crate::naming::all_names;
@@ -74,19 +76,19 @@ fn words_on(alloc: Global, words: &[u8], k: usize) -> Result<Vec<u8>, NoMemory>
     Ok(text)
 }
 
-// What a solution has on input k, which is this line.
+// What a solution has on input k.
 fn wanted_on(
     alloc: Global,
-    solution: &[u8],
-    line: &[u8],
+    solution: &Function<'_>,
+    input: &Input<'_>,
     k: usize,
     bounds: Bounds,
 ) -> Result<Wanted, NoMemory>
-    requires function { IsTermText solution.now }
-    requires line { IsTermText line.now }
-    ensures { IfOk result (IsWanted bounds solution.now line.now k) }
+    requires function { IsFunction solution.now }
+    requires input { IsInput input.now }
+    ensures { IfOk result (IsWanted bounds solution.now.text.now input.now.text.now k) }
 {
-    match read_on(alloc, solution, line, bounds)? {
+    match read_on(alloc, solution, input, bounds)? {
         Found::Tree(seen) => {
             if is_whole(&seen.tree) {
                 return Ok(Wanted::Whole(seen));
@@ -104,17 +106,18 @@ fn wanted_on(
 // The whole trees of a solution, or on which input it has none.
 fn trees_of(
     alloc: Global,
-    solution: &[u8],
-    inputs: &[&[u8]],
+    solution: &Function<'_>,
+    inputs: &[Input<'_>],
     bounds: Bounds,
 ) -> Result<Solved, NoMemory>
-    requires function { IsTermText solution.now }
-    requires inputs { AreFunctions (seen_lines inputs.now) }
-    ensures { IfOk result (IsSolved bounds (seen_lines inputs.now) solution.now) }
+    requires function { IsFunction solution.now }
+    requires inputs { All IsInput inputs.now }
+    ensures { IfOk result (IsSolved bounds (texts_of inputs.now) solution.now.text.now) }
 {
     let mut trees: Vec<Seen> = Vec::new(alloc);
     for k in 0..inputs.len() {
-        match wanted_on(alloc, solution, inputs[k], k + 1, bounds)? {
+        let input = &inputs[k];
+        match wanted_on(alloc, solution, input, k + 1, bounds)? {
             Wanted::Whole(seen) => trees.push(seen)?,
             Wanted::Fault(words) => return Ok(Solved::Fault(words)),
         }
@@ -126,16 +129,16 @@ fn trees_of(
 fn solve(
     alloc: Global,
     solution: &[u8],
-    inputs: &[&[u8]],
+    inputs: &[Input<'_>],
     bounds: Bounds,
 ) -> Result<Solved, NoMemory>
-    requires inputs { AreFunctions (seen_lines inputs.now) }
-    ensures { IfOk result (IsSolved bounds (seen_lines inputs.now) solution.now) }
+    requires inputs { All IsInput inputs.now }
+    ensures { IfOk result (IsSolved bounds (texts_of inputs.now) solution.now) }
 {
-    match fault_of(alloc, solution)? {
-        Some(words) => Ok(Solved::Fault(words)),
-        None => {
-            let solved = trees_of(alloc, solution, inputs, bounds)?;
+    match function_of(alloc, solution)? {
+        Parsed::Fault(words) => Ok(Solved::Fault(words)),
+        Parsed::Function(function) => {
+            let solved = trees_of(alloc, &function, inputs, bounds)?;
             Ok(solved)
         }
     }
@@ -192,21 +195,21 @@ fn compared(alloc: Global, wanted: &Seen, got: &Seen, k: usize) -> Result<Option
     Ok(Some(words))
 }
 
-// What is said of a student on input k, which is this line, or None where all is equal.
+// What is said of a student on input k, or None where all is equal.
 fn fault_on(
     alloc: Global,
-    student: &[u8],
-    line: &[u8],
+    student: &Function<'_>,
+    input: &Input<'_>,
     wanted: &Seen,
     k: usize,
     bounds: Bounds,
 ) -> Result<Option<Vec<u8>>, NoMemory>
-    requires function { IsTermText student.now }
-    requires line { IsTermText line.now }
+    requires function { IsFunction student.now }
+    requires input { IsInput input.now }
     requires wanted { AreNamed (length wanted.now.names) wanted.now.tree }
-    ensures { IfOk result (IsOn bounds student.now line.now wanted.now k) }
+    ensures { IfOk result (IsOn bounds student.now.text.now input.now.text.now wanted.now k) }
 {
-    match read_on(alloc, student, line, bounds)? {
+    match read_on(alloc, student, input, bounds)? {
         Found::Tree(got) => {
             let told = compared(alloc, wanted, &got, k)?;
             Ok(told)
@@ -242,20 +245,21 @@ fn wanted_at(wanted: &Vec<Seen>, k: usize) -> &Seen
 // What is said of a student whose text is a function.
 fn told_on(
     alloc: Global,
-    student: &[u8],
-    inputs: &[&[u8]],
+    student: &Function<'_>,
+    inputs: &[Input<'_>],
     wanted: &Vec<Seen>,
     bounds: Bounds,
 ) -> Result<Told, NoMemory>
-    requires function { IsTermText student.now }
-    requires inputs { AreFunctions (seen_lines inputs.now) }
-    requires wanted { AreWanted (seen_lines inputs.now) wanted.now.items }
-    ensures { IfOk result (λ told. IsGrade bounds (seen_lines inputs.now) wanted.now.items
-        student.now told.words.items told.fine) }
+    requires function { IsFunction student.now }
+    requires inputs { All IsInput inputs.now }
+    requires wanted { AreWanted (texts_of inputs.now) wanted.now.items }
+    ensures { IfOk result (λ told. IsGrade bounds (texts_of inputs.now) wanted.now.items
+        student.now.text.now told.words.items told.fine) }
 {
     for k in 0..inputs.len() {
+        let input = &inputs[k];
         let tree = wanted_at(wanted, k);
-        match fault_on(alloc, student, inputs[k], tree, k + 1, bounds)? {
+        match fault_on(alloc, student, input, tree, k + 1, bounds)? {
             None => {}
             Some(words) => {
                 let fine = false;
@@ -272,22 +276,22 @@ fn told_on(
 fn told_of_text(
     alloc: Global,
     student: &[u8],
-    inputs: &[&[u8]],
+    inputs: &[Input<'_>],
     wanted: &Vec<Seen>,
     bounds: Bounds,
 ) -> Result<Told, NoMemory>
-    requires inputs { AreFunctions (seen_lines inputs.now) }
-    requires wanted { AreWanted (seen_lines inputs.now) wanted.now.items }
-    ensures { IfOk result (λ told. IsGrade bounds (seen_lines inputs.now) wanted.now.items
+    requires inputs { All IsInput inputs.now }
+    requires wanted { AreWanted (texts_of inputs.now) wanted.now.items }
+    ensures { IfOk result (λ told. IsGrade bounds (texts_of inputs.now) wanted.now.items
         student.now told.words.items told.fine) }
 {
-    match fault_of(alloc, student)? {
-        Some(words) => {
+    match function_of(alloc, student)? {
+        Parsed::Fault(words) => {
             let fine = false;
             Ok(Told { words, fine })
         }
-        None => {
-            let told = told_on(alloc, student, inputs, wanted, bounds)?;
+        Parsed::Function(function) => {
+            let told = told_on(alloc, &function, inputs, wanted, bounds)?;
             Ok(told)
         }
     }
@@ -307,13 +311,13 @@ fn without_text(alloc: Global, why: &[u8]) -> Result<Told, NoMemory>
 fn told_of(
     alloc: Global,
     work: &Work,
-    inputs: &[&[u8]],
+    inputs: &[Input<'_>],
     wanted: &Vec<Seen>,
     bounds: Bounds,
 ) -> Result<Told, NoMemory>
-    requires inputs { AreFunctions (seen_lines inputs.now) }
-    requires wanted { AreWanted (seen_lines inputs.now) wanted.now.items }
-    ensures { IfOk result (λ told. IsGradeOf bounds (seen_lines inputs.now) wanted.now.items
+    requires inputs { All IsInput inputs.now }
+    requires wanted { AreWanted (texts_of inputs.now) wanted.now.items }
+    ensures { IfOk result (λ told. IsGradeOf bounds (texts_of inputs.now) wanted.now.items
         work.now told.words.items told.fine) }
 {
     match work {
@@ -347,13 +351,13 @@ fn put_line(text: &mut Vec<u8>, name: &[u8], words: &[u8]) -> Result<(), NoMemor
 fn grades(
     alloc: Global,
     students: &[Student],
-    inputs: &[&[u8]],
+    inputs: &[Input<'_>],
     wanted: &Vec<Seen>,
     bounds: Bounds,
 ) -> Result<Answer, NoMemory>
-    requires inputs { AreFunctions (seen_lines inputs.now) }
-    requires wanted { AreWanted (seen_lines inputs.now) wanted.now.items }
-    ensures { IfOk result (λ a. AreAllGrades bounds (seen_lines inputs.now) wanted.now.items
+    requires inputs { All IsInput inputs.now }
+    requires wanted { AreWanted (texts_of inputs.now) wanted.now.items }
+    ensures { IfOk result (λ a. AreAllGrades bounds (texts_of inputs.now) wanted.now.items
         students.now a.text.items a.end) }
 {
     let mut text = Vec::new(alloc);
@@ -401,14 +405,14 @@ fn inputs_refusal(alloc: Global, line: &[u8]) -> Result<Answer, NoMemory>
 // The answer on these inputs.
 fn graded_on(
     alloc: Global,
-    inputs: &[&[u8]],
+    inputs: &[Input<'_>],
     solution: &[u8],
     students: &[Student],
     bounds: Bounds,
 ) -> Result<Answer, NoMemory>
-    requires inputs { AreFunctions (seen_lines inputs.now) }
+    requires inputs { All IsInput inputs.now }
     ensures { IfOk result (λ a. (bytes : List ℕ)
-        → AreInputs (lines_of bytes) (seen_lines inputs.now)
+        → AreInputs (lines_of bytes) (texts_of inputs.now)
         → IsGraded bytes solution.now students.now bounds a.text.items a.end) }
 {
     if inputs.is_empty() {

@@ -13,13 +13,15 @@
 //! - `naming`: the free names of two trees
 //! - `printing`: the text of the head at a place, an underscore for each argument
 //! - `read_trees`: the tree that was read of an application
+//! - `applying`: the application of a function to the arguments of a line
 //! - `reading`: a function applied to a line, and what `demand` reads of it
-//! - `functions`: the text of a function by itself
+//! - `functions`: the function of a text
 //! - `inputs`: the inputs of a file, one a line
 //! - `grading`: the command `grade`: a student against the solution, and all of them
 //! - `laws`: what holds of verdicts, of the texts of heads, and of grades
 #![tactic(auto)]
 
+mod applying;
 mod forms;
 mod functions;
 mod grading;

@@ -1,21 +1,20 @@
 //! A function applied to a line, and what `demand` reads of it.
 
-ghost use Rattle.std.specs.Prelude.{◌≡◌, ◌↔◌, ℕ, true, List, ◌+◌, ◌≤◌, ◌++◌, length, codes, IfOk};
+ghost use Rattle.std.specs.Prelude.{◌≡◌, ◌↔◌, ℕ, true, List, ◌+◌, ◌≤◌, length, IfOk};
 ghost use Rattle.ol_limits.specs.Limits.{most_depth, most_nodes};
 ghost use Rattle.ol_term.specs.Trees.{tree_of, depth, EachOccurs};
 ghost use Rattle.ol_readback.specs.Terms.{HasAllHeads};
 ghost use Rattle.ol_derivations.specs.Applied.{IsApplied};
 ghost use Rattle.ol_derivations.specs.Reads.{lack_words};
-ghost use Rattle.ol_derivations.specs.Grades.{IsTermText};
-ghost use Rattle.ol_derivations.specs.StudentsSoFar.{IsAppliedFile, IsFound, IsReadOf};
+ghost use Rattle.ol_derivations.specs.Applications.{IsFunction, IsInput};
+ghost use Rattle.ol_derivations.specs.StudentsSoFar.{IsFound, IsReadOf};
 
+use crate::applying::{Function, Input, applied};
 use crate::read_trees::Seen;
 use ol_demand::{Demanded, demand};
 use ol_limits::{Fuel, Heads, NoMemory};
 use ol_net::Net;
-use ol_parse::{ParseFault, parse};
 use ol_readback::{ReadNode, ReadTree};
-use ol_subjects::put;
 use ol_term::{Names, TermFile, Translation};
 use ol_translate::{TransFault, translate};
 use std::alloc::Global;
@@ -60,36 +59,6 @@ pub fn lack_words(lack: Lack) -> &'static str
     }
 }
 
-// A text of the application: the line feed ends a comment with which the function's text may end.
-fn applied_text(alloc: Global, function: &[u8], line: &[u8]) -> Result<Vec<u8>, NoMemory>
-    ensures { IfOk result (λ text.
-        text.items ≡ codes "(" ++ function.now ++ codes "\n) " ++ line.now) }
-{
-    let mut text = Vec::new(alloc);
-    put(&mut text, b"(")?;
-    put(&mut text, function)?;
-    put(&mut text, b"\n) ")?;
-    put(&mut text, line)?;
-    Ok(text)
-}
-
-// The term of the application, or None where it is too deep.
-fn applied(alloc: Global, function: &[u8], line: &[u8]) -> Result<Option<TermFile>, NoMemory>
-    requires function { IsTermText function.now }
-    requires line { IsTermText line.now }
-    ensures { IfOk result (IsAppliedFile function.now line.now) }
-{
-    let text = applied_text(alloc, function, line)?;
-    match parse(alloc, &text) {
-        Ok(file) => Ok(Some(file)),
-        Err(fault) => match fault {
-            ParseFault::NoMemory => Err(NoMemory),
-            ParseFault::Syntax { .. } => unreachable!(),
-            ParseFault::Depth { .. } => Ok(None),
-        },
-    }
-}
-
 // What `demand` reads of a net with these free names.
 fn read_net(alloc: Global, net: Net, names: Names, bounds: Bounds) -> Result<Found, NoMemory>
     requires few { length net.nodes ≤ most_nodes }
@@ -124,18 +93,18 @@ fn read_file(alloc: Global, file: TermFile, bounds: Bounds) -> Result<Found, NoM
     }
 }
 
-/// What `demand` reads of a function applied to a line. `NoMemory`: no memory was found.
+/// What `demand` reads of a function applied to an input. `NoMemory`: no memory was found.
 pub fn read_on(
     alloc: Global,
-    function: &[u8],
-    line: &[u8],
+    function: &Function<'_>,
+    input: &Input<'_>,
     bounds: Bounds,
 ) -> Result<Found, NoMemory>
-    requires function { IsTermText function.now }
-    requires line { IsTermText line.now }
-    ensures { IfOk result (IsFound bounds function.now line.now) }
+    requires function { IsFunction function.now }
+    requires input { IsInput input.now }
+    ensures { IfOk result (IsFound bounds function.now.text.now input.now.text.now) }
 {
-    match applied(alloc, function, line)? {
+    match applied(alloc, function, input)? {
         None => Ok(Found::Without(Lack::Depth)),
         Some(file) => {
             let found = read_file(alloc, file, bounds)?;

@@ -1,11 +1,12 @@
 use Rattle.std.proofs.Common.{◌≡◌, ◌++◌, rules, sym, ap, ◌∙◌, subst, List, ℕ, codes}
-use Rattle.std.specs.Borrow.{Bor}
+use Rattle.std.specs.Prelude.{All}
 use Rattle.ol_subjects.specs.declared.answers.End.TheVariants.{Refused}
 use Rattle.ol_derivations.specs.Lines.{lines_of}
+use Rattle.ol_derivations.specs.declared.applying.Input.{Input}
 use Rattle.ol_derivations.specs.declared.inputs.Inputs.{Inputs}
-use Rattle.ol_derivations.specs.Grades.{IsGraded}
-use Rattle.ol_derivations.specs.StudentsSoFar.{AreFunctions, IsInputs, seen_lines}
-use Rattle.ol_derivations.proofs.InputByInput.{are_functions}
+use Rattle.ol_derivations.specs.Applications.{IsInput}
+use Rattle.ol_derivations.specs.Grades.{AreInputs, IsGraded}
+use Rattle.ol_derivations.specs.StudentsSoFar.{IsInputs, texts_of}
 use Rattle.ol_derivations.proofs.Said.{graded_so}
 use Rattle.ol_derivations.proofs.grading.grade.Goals as goal
 
@@ -14,7 +15,7 @@ graded_on-requires c =
     let h = subst (λ (r : Inputs). IsInputs (lines_of c.args.inputs.now) r) c.in-Lines.is c.in_ok-line.ensures in
     let v : c.deref-in-Lines.result.now ≡ c.in-Lines.lines.items = search rules in
     record {
-      inputs = subst (λ (l : List (Bor (List ℕ))). AreFunctions (seen_lines l)) (sym v) (are_functions h);
+      inputs = subst (λ (l : List Input). All IsInput l) (sym v) h.1;
     }
 
 pub returns-in_ok-answer-in-Fault : goal.returns-in_ok-answer-in-Fault
@@ -26,3 +27,10 @@ returns-in_ok-answer-in-Fault c =
     graded_so c.args.inputs.now c.args.solution.now c.args.students.now c.args.bounds a.answer.text.items
     (codes "inputs: " ++ text) a.answer.end Refused
     (a.ensures.text ∙ ap (λ (line : List ℕ). codes "inputs: " ++ line) v) a.ensures.end (IsGraded.bad_inputs h)
+
+pub returns-in_ok-answer-in-Lines : goal.returns-in_ok-answer-in-Lines
+returns-in_ok-answer-in-Lines c =
+    let h = subst (λ (r : Inputs). IsInputs (lines_of c.args.inputs.now) r) c.in-Lines.is c.in_ok-line.ensures in
+    let v : c.deref-in-Lines.result.now ≡ c.in-Lines.lines.items = search rules in
+    c.in_ok-answer-in-Lines.ensures c.args.inputs.now
+    (subst (λ (l : List Input). AreInputs (lines_of c.args.inputs.now) (texts_of l)) (sym v) h.0)

@@ -1,12 +1,12 @@
 use Rattle.std.proofs.Common.{◌≡◌, ◌+◌, ◌++◌, ◌&&◌, rules, sym, ap, ◌∙◌, subst, arith, List, ℕ}
 use Rattle.ol_derivations.specs.Grades.{file_line}
-use Rattle.ol_derivations.specs.StudentsSoFar.{seen_lines}
+use Rattle.ol_derivations.specs.StudentsSoFar.{texts_of}
 use Rattle.ol_derivations.proofs.InputByInput.{Behind, next_student, last_student, item_here, none_left}
 use Rattle.ol_derivations.proofs.grading.grades.Goals as goal
 
 pub loop-k-preserved : goal.loop-k-preserved
 loop-k-preserved c =
-    let lines = seen_lines c.args.inputs.now in
+    let lines = texts_of c.args.inputs.now in
     let wanted = c.args.wanted.now.items in
     let students = c.args.students.now in
     let l = c.loop-k in
@@ -26,7 +26,7 @@ returns c =
     let l = c.loop-k in
     record {
       all = l.fine;
-      are = last_student c.args.bounds (seen_lines c.args.inputs.now) c.args.wanted.now.items c.args.students.now l.k
+      are = last_student c.args.bounds (texts_of c.args.inputs.now) c.args.wanted.now.items c.args.students.now l.k
           l.text.items l.fine (none_left c.args.students.now l.k (omega (arith, c.loop-k-test.false))) l.invariant;
       end_is = c.end_of-end.ensures;
     }

@@ -8,13 +8,13 @@ use Rattle.ol_derivations.proofs.grading.wanted_on.Goals as goal
 
 pub returns-then-is_whole : goal.returns-then-is_whole
 returns-then-is_whole c =
-    let h = subst (λ (r : Found). IsFound c.args.bounds c.args.solution.now c.args.line.now r) c.in-Tree.is
+    let h = subst (λ (r : Found). IsFound c.args.bounds c.args.solution.now.text.now c.args.input.now.text.now r) c.in-Tree.is
     c.in_ok-seen.ensures in
     (h, c.is_whole.ensures.0 c.if-is_whole.true)
 
 pub returns-in_ok-holes-in-Tree : goal.returns-in_ok-holes-in-Tree
 returns-in_ok-holes-in-Tree c =
-    let h = subst (λ (r : Found). IsFound c.args.bounds c.args.solution.now c.args.line.now r) c.in-Tree.is
+    let h = subst (λ (r : Found). IsFound c.args.bounds c.args.solution.now.text.now c.args.input.now.text.now r) c.in-Tree.is
     c.in_ok-seen.ensures in (
       codes "holes are left",
       c.in_ok-holes-in-Tree.ensures,
@@ -23,8 +23,8 @@ returns-in_ok-holes-in-Tree c =
 
 pub returns-in_ok-words-in-Without : goal.returns-in_ok-words-in-Without
 returns-in_ok-words-in-Without c =
-    let h = subst (λ (r : Found). IsFound c.args.bounds c.args.solution.now c.args.line.now r) c.in-Without.is
+    let h = subst (λ (r : Found). IsFound c.args.bounds c.args.solution.now.text.now c.args.input.now.text.now r) c.in-Without.is
     c.in_ok-seen.ensures in
     let w : c.as_bytes.result.now ≡ lack_words c.in-Without.lack = c.as_bytes.ensures.value ∙ c.lack_words.ensures in
-    lacks_so c.args.bounds c.args.solution.now c.args.line.now c.in-Without.lack c.as_bytes.result.now
+    lacks_so c.args.bounds c.args.solution.now.text.now c.args.input.now.text.now c.in-Without.lack c.as_bytes.result.now
     c.in_ok-words-in-Without.words.items c.args.k c.in_ok-words-in-Without.ensures w h
