@@ -1,5 +1,4 @@
 -- Terms that are told to be `not convertible` aren't.
-use Rattle.std.proofs.Common.{[], ◌∷◌}
 use Rattle.ol_beta.proofs.Redexes.{no_leftmost}
 use Rattle.ol_law_confluence.proofs.Meetings.{convertible_normal}
 use Rattle.ol_law_confluence.proofs.PrintedTrees.{road_beta}

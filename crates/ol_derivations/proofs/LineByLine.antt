@@ -1,6 +1,6 @@
 -- A derivation, line by line.
-use Rattle.std.proofs.Common.{◌≡◌, ℕ, zero, suc, ◌+◌, ◌<◌, Bool, true, false, List, [], ◌∷◌, ◌++◌, append_assoc, append-nil, length, take, drop, Some, refl, sym, ap, ◌∙◌, subst, arith}
-use Rattle.std.specs.Prelude.{◌&&◌, ◌≤◌, get_or, map, slice_get}
+use Rattle.std.proofs.Common.{◌≡◌, ℕ, zero, suc, ◌+◌, ◌<◌, Bool, true, false, List, [], ◌∷◌, ◌++◌, append_assoc, append-nil, length, drop, refl, sym, ap, ◌∙◌, subst, arith}
+use Rattle.std.specs.Prelude.{◌&&◌, ◌≤◌, get_or, map}
 use Rattle.std.specs.Borrow.{Bor}
 use Rattle.ol_derivations.specs.Lines.{all_left_out}
 use Rattle.ol_derivations.specs.Derivations.{Terms, no_terms, IsLine, AreLines, none, more}

@@ -2,7 +2,7 @@
 use Rattle.std.specs.Prelude.{◌≡◌, ℕ, Bool, true, false, suc, ◌+◌, ◌<◌, List, ◌++◌, map, Option, Some, None}
 use Rattle.ol_term.specs.Trees.{Tree}
 use Rattle.ol_beta.specs.Beta.{IsWithin}
-use Rattle.ol_derivations.specs.Reductions.{LeadsBy, reductions, one_and, StaysWithin, AreSteps, AreNoSteps}
+use Rattle.ol_derivations.specs.Reductions.{LeadsBy, reductions, StaysWithin, AreSteps, AreNoSteps}
 use Rattle.ol_derivations.specs.declared.searching.Search.{Search}
 use Rattle.ol_derivations.specs.declared.searching.Search.TheVariants.{Found, Missed, Cut}
 

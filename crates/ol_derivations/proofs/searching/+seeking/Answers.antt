@@ -1,4 +1,4 @@
-use Rattle.std.proofs.Common.{rules, ◌+◌, ◌-◌, ◌<◌, length, take, ◌++◌, ◌∷◌, [], sym, ◌∙◌, subst, arith}
+use Rattle.std.proofs.Common.{rules, ◌-◌, ◌<◌, length, take, ◌++◌, ◌∷◌, [], sym, ◌∙◌, subst, arith}
 use Rattle.std.proofs.lemmas.List.{take_all}
 use Rattle.ol_term.specs.Trees.{tree_of}
 use Rattle.ol_beta.specs.Beta.{contracted, IsPastAfter}
