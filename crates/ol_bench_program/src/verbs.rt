@@ -258,8 +258,8 @@ static STEPS_ROWS: [Row; 8] = [
         ..FLAG
     },
     Row {
-        id: "names",
-        help: "the names of the file, with primes if names would clash",
+        id: "letters",
+        help: "letters for bound names, in place of the names of the file",
         ..FLAG
     },
     Row {
@@ -282,7 +282,7 @@ fn steps() -> Usage {
   each term that is printed has at most 100000 constructors and is at most 1000 deep",
     "  0   the order has reached its result
   1   a redex is left; or the term comes back, is stuck, or exceeds a limit",
-    "  $ ol-bench steps --names -e '(\\x. x x) (\\y. y)'
+    "  $ ol-bench steps -e '(\\x. x x) (\\y. y)'
   (\\x. x x) (\\y. y)
     at .
   (\\y. y) (\\y. y)
@@ -401,10 +401,11 @@ fn same() -> Usage {
     }
 }
 
-static WHERE_ROWS: [Row; 2] = [
+static WHERE_ROWS: [Row; 3] = [
+    TERM,
     Row {
         help: "the file, `-` for standard input",
-        ..FILE
+        ..FILE_OF_TERM
     },
     Row {
         id: "byte",
@@ -413,7 +414,8 @@ static WHERE_ROWS: [Row; 2] = [
             least: 0,
             most: MOST_JOURNAL_BYTES,
         },
-        help: "the offset of a byte, 0 to 402653184; without it, the first syntax error is located",
+        need: Need::NotWithTerm,
+        help: "the offset of a byte, 0 to 402653184; not with -e; without it, the first syntax error is located",
         ..FLAG
     },
 ];
@@ -429,7 +431,7 @@ fn places() -> Usage {
             "  0   the byte is in the file or at its end; without a byte, the file is a term
   1   the byte is past the end; without a byte, the file isn't a term",
             "a file can't be read or is too large",
-            "  $ printf '%s' '(\\x. x' | ol-bench where -
+            "  $ ol-bench where -e '(\\x. x'
   line 1, column 7
   (\\x. x
         ^
@@ -569,7 +571,7 @@ static TREE_ROWS: [Row; 6] = [
             least: 0,
             most: MOST_HEADS,
         },
-        need: Need::Always,
+        default: Some("5"),
         help: "subterms of a smaller depth are searched, 0 to 100000; the root has depth 0",
         ..FLAG
     },

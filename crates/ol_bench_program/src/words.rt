@@ -136,7 +136,7 @@ pub(crate) fn shown_of(found: &ArgMatches) -> Shown {
     Shown {
         order: reduction_of(found),
         marked: found.get_flag("mark"),
-        named: found.get_flag("names"),
+        named: !found.get_flag("letters"),
         folded: found.get_flag("fold"),
     }
 }
