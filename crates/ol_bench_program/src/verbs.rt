@@ -264,7 +264,7 @@ static STEPS_ROWS: [Row; 8] = [
     },
     Row {
         id: "fold",
-        help: "the value of a let at the front of the file is printed by its name",
+        help: "the value of a let at the front of the file is printed by its name, of several as zero|false",
         ..FLAG
     },
     STEPS,

@@ -24,7 +24,7 @@ fn a_step_may_give_too_large_a_term(rt: HostRuntime) -> Result<(), Fail> {
         &rt,
         alloc,
         &text,
-        b"past at step 1: size 100351, depth 447\n!",
+        b"step 1 exceeds the limits: size 100351 of 100000, depth 447 of 1000\n!",
     )
 }
 

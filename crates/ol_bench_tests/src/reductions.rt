@@ -68,6 +68,29 @@ fn parts_are_names_of_lets(rt: HostRuntime) -> Result<(), Fail> {
     assert_one(&rt, rt.alloc(), steps(Order::Leftmost, true, true), back)
 }
 
+/// A value of several `let`s: the names of binders that the part has kept tell it, with letters too;
+/// two `let`s have them; none has.
+#[test]
+fn parts_are_written_by_words(rt: HostRuntime) -> Result<(), Fail> {
+    let told = b"let t = \\x y. x in let f = \\x y. y in let o = \\f x. x in (\\b. b f t) t|\
+        Yes: 3 lets unfolded: step 3\n(\\b. b f t) t\n  at .\nt f t\n  at 1\n\
+        (\\y. f) t\n  at .\nf\nnormal after 6 steps\n!";
+    assert_one(&rt, rt.alloc(), steps(Order::Leftmost, true, true), told)?;
+    let letters =
+        b"let f = \\x y. y in let o = \\f x. x in (\\z. z) f o|Yes: 2 lets unfolded: step 2\n\
+        (\\a. a) f o\n  at 1\nf o\n  at .\n\\a. a\nnormal after 4 steps\n!";
+    assert_one(
+        &rt,
+        rt.alloc(),
+        steps(Order::Leftmost, false, true),
+        letters,
+    )?;
+    let several = b"let k = \\x y. x in let fst = \\a b. a in let true = \\x y. x in \
+        g k fst true (\\u v. u)|Yes: 3 lets unfolded: step 3\n\
+        g true|k fst true|k true|fst|k\nnormal after 3 steps\n!";
+    assert_one(&rt, rt.alloc(), steps(Order::Leftmost, true, true), several)
+}
+
 /// Comments and empty lines, line ends of two bytes, one term under two spellings, a step to itself,
 /// two redexes that give one term, a name that would be captured, and a term behind a bad line.
 #[test]

@@ -3,7 +3,7 @@ use Rattle.std.proofs.Common.{◌≡◌, ℕ, Bool, true, false, ◌||◌, List,
 use Rattle.std.specs.Str.{bytes_eq}
 use Rattle.ol_term.specs.BinderNames.{is_among}
 
-grouped : (p q r : Bool) → (p || (q || r)) ≡ ((p || q) || r)
+pub grouped : (p q r : Bool) → (p || (q || r)) ≡ ((p || q) || r)
 grouped true q r = refl
 grouped false q r = refl
 

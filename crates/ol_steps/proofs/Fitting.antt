@@ -1,5 +1,5 @@
 -- Names of binders have the shape of their tree.
-use Rattle.std.proofs.Common.{◌≡◌, ℕ, ◌+◌, ◌-◌, ◌<◌, Bool, true, false, nat_lt, List, [], ◌∷◌, Option, Some, None}
+use Rattle.std.proofs.Common.{◌≡◌, ℕ, ◌+◌, ◌-◌, Bool, true, false, nat_lt, List, [], ◌∷◌, Option, Some, None}
 use Rattle.std.proofs.Common.{refl, subst, eqb-true, arith}
 use Rattle.std.specs.Prelude.{◌==◌, if◌then◌else◌}
 use Rattle.std.specs.Option.{option_map}
@@ -8,8 +8,8 @@ use Rattle.ol_term.specs.Trees as tree
 use Rattle.ol_term.specs.Trees.{Tree}
 use Rattle.ol_parse.specs.Grammar as named
 use Rattle.ol_parse.specs.Grammar.{Named}
-use Rattle.ol_term.specs.NameLists.{position_of, free_at}
-use Rattle.ol_parse.specs.Numbered.{names_of, number, numbered, var_at}
+use Rattle.ol_term.specs.NameLists.{position_of}
+use Rattle.ol_parse.specs.Numbered.{names_of, numbered, var_at}
 use Rattle.ol_beta.specs.Beta as beta
 use Rattle.ol_beta.specs.Beta.{shifted, substituted}
 use Rattle.ol_steps.specs.Binders.{Binders, leaf, lam, app, binders_of, Fits}

@@ -1,5 +1,5 @@
 -- What is seen of a text stands for the states of the machine that reads it.
-use Rattle.std.proofs.Common.{◌≡◌, ℕ, List, [], ◌∷◌, ◌++◌, map, Bool, true, false, cond, nat_eq, Option, Some, None, refl, sym, ap, ◌∙◌}
+use Rattle.std.proofs.Common.{◌≡◌, ℕ, List, [], ◌∷◌, ◌++◌, map, Bool, true, false, cond, nat_eq, Option, Some, None, refl, ap, ◌∙◌}
 use Rattle.std.specs.Prelude.{option_and_then}
 use Rattle.std.specs.Option.{option_map}
 use Rattle.ol_parse.specs.Grammar as grammar
@@ -11,7 +11,7 @@ use Rattle.ol_parse.specs.Reading as reads
 use Rattle.ol_parse.specs.Reading.{Reading, takes_name, gap_step, byte_step, byte_final, takes}
 use Rattle.ol_parse.proofs.Spelling.{sign_no_word}
 use Rattle.ol_parse.proofs.Whole.{text_taken}
-use Rattle.ol_steps.specs.Binders.{Binders, leaf, lam, app, binders_of}
+use Rattle.ol_steps.specs.Binders.{Binders, binders_of}
 use Rattle.ol_steps.specs.Sights.{Frame, applied, abstracted, bound, bracket, defining, Sight, at, naming, let_name}
 use Rattle.ol_steps.specs.Sights.{join, finish, closed, defined, if_whole, take, result_of}
 use Rattle.ol_steps.specs.Looks.{Look, gap, comment, word, half, kind_of, gap_look, byte_look, last, sees}

@@ -1,9 +1,10 @@
 -- The last line of an answer, and the lines before it.
-use Rattle.std.proofs.Common.{◌≡◌, ℕ, zero, suc, ◌+◌, ◌==◌, ◌%◌, ◌/◌, inl, inr, Bool, true, false, cond, nat_eq, not}
+use Rattle.std.proofs.Common.{◌≡◌, ℕ, zero, suc, ◌==◌, ◌%◌, ◌/◌, inl, inr, Bool, true, false, cond, nat_eq, not}
 use Rattle.std.proofs.Common.{List, [], ◌∷◌, ◌++◌, append_assoc, codes, Option, Some, refl, sym, ap, ◌∙◌, subst, arith}
 use Rattle.std.specs.Prelude.{◌&&◌, if◌then◌else◌}
 use Rattle.std.specs.Fmt.{decimal, digits, digits_onto, digit_glyph}
 use Rattle.std.proofs.lemmas.Bool.{ne_eqb, and_parts, not-true}
+use Rattle.ol_limits.specs.Limits.{most_depth, most_size}
 use Rattle.ol_term.specs.Trees.{Tree}
 use Rattle.ol_beta.specs.AddressTexts.{address_text}
 use Rattle.ol_strategies.specs.Redexes.{next}
@@ -20,7 +21,8 @@ use Rattle.ol_steps.specs.Naming as own
 use Rattle.ol_steps.specs.Binders.{Binders}
 use Rattle.ol_steps.specs.Folded.{pruned}
 use Rattle.ol_steps.specs.declared.stepping.Shown.{Shown}
-use Rattle.ol_steps.specs.Steps.{Glossary, shown_tree, shown_term, term_line, address_line, carets_if, redex_lines, begun}
+use Rattle.ol_steps.specs.Steps.{shown_tree, shown_term, term_line, address_line, carets_if, redex_lines, begun}
+use Rattle.ol_steps.specs.Words.{Glossary}
 use Rattle.ol_steps.specs.Steps.{shown_line, walk_lines, unfold_line, last_unfolding, last_binders, lines_to}
 use Rattle.ol_steps.specs.Steps.{lines_with_redex, how_many, last_line, past_line, reached_words, return_words, return_line}
 use Rattle.ol_steps.specs.StepLaws.{HasLastLine}
@@ -83,19 +85,24 @@ counted_line words n h =
           (many_line n (codes "step") (is_line (codes "step") refl)),
     )
 
+-- a front, some words and a number
+number_line : (front words : List ℕ) (n : ℕ) → IsLine front → no_feed words ≡ true → IsLine (front ++ words ++ decimal n)
+number_line front words n h e =
+    both_lines (front ++ words) (decimal n) (both_lines front words h (is_line words e)) (decimal_line n)
+
 pub past_one : (n size depth : ℕ) → OneLine (past_line n size depth)
 past_one n size depth =
-    let a = codes "past at step " ++ decimal n in
-    let b = a ++ codes ": size " ++ decimal size in (
-      b ++ codes ", depth " ++ decimal depth,
+    let a = codes "step " ++ decimal n in
+    let b = a ++ codes " exceeds the limits: size " ++ decimal size in
+    let c = b ++ codes " of " ++ decimal most_size in
+    let d = c ++ codes ", depth " ++ decimal depth in (
+      d ++ codes " of " ++ decimal most_depth,
       refl,
-      both_lines (b ++ codes ", depth ") (decimal depth)
-          (both_lines b (codes ", depth ")
-          (both_lines (a ++ codes ": size ") (decimal size)
-          (both_lines a (codes ": size ")
-          (both_lines (codes "past at step ") (decimal n) (is_line (codes "past at step ") refl) (decimal_line n))
-          (is_line (codes ": size ") refl)) (decimal_line size))
-          (is_line (codes ", depth ") refl)) (decimal_line depth),
+      number_line d (codes " of ") most_depth
+          (number_line c (codes ", depth ") depth
+          (number_line b (codes " of ") most_size
+          (number_line a (codes " exceeds the limits: size ") size
+          (both_lines (codes "step ") (decimal n) (is_line (codes "step ") refl) (decimal_line n)) refl) refl) refl) refl,
     )
 
 pub reached_line : (w : Reached) → IsLine (reached_words w)
@@ -165,7 +172,7 @@ shown_ends how g lets s terms v =
     let line = shown_line how g v w in
     let told = unfold_line (last_unfolding how.order (begun lets) terms) in
     behind (walk_lines how g (begun lets) s terms) (told ++ line)
-    (behind told line (term_ends how.named g.names (shown_tree how g v) (pruned (shown_tree how g v) w)))
+    (behind told line (term_ends how.named g.names (shown_tree how g v w) (pruned (shown_tree how g v w) w)))
 
 redex_ends : (how : Shown) (names : List (List ℕ)) (t : Tree) (s : Binders) (o : Option (List ℕ)) (at : List ℕ) →
     o ≡ Some at → EndsLine (redex_lines how names t s o)
@@ -178,7 +185,7 @@ pub redex_told : (how : Shown) (g : Glossary) (lets : ℕ) (s : Binders) (terms 
     next how.order v ≡ Some at → EndsLine (lines_with_redex how g lets s terms v)
 redex_told how g lets s terms v at e =
     let w = last_binders how.order s terms in
-    let x = shown_tree how g v in
+    let x = shown_tree how g v w in
     let line = shown_line how g v w in
     let redex = redex_lines how g.names x (pruned x w) (next how.order v) in
     let told = unfold_line (last_unfolding how.order (begun lets) terms) in

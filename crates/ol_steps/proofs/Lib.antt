@@ -20,6 +20,9 @@ pub mod Rows
 pub mod Passed
 pub mod Counting
 pub mod Complete
+pub mod NewWords
+pub mod WordNumbers
+pub mod WordTexts
 pub mod LetsLeft
 pub mod Named
 pub mod EarlierTerms
@@ -27,6 +30,7 @@ pub mod Marked
 pub mod Walks
 pub mod NamesWithPrimes
 pub mod LettersRead
+pub mod WordsShown
 pub mod WeakHeads
 pub mod Returns
 pub mod Showable

@@ -1,11 +1,11 @@
 -- The carets stand under the redex that comes next.
-use Rattle.std.proofs.Common.{◌≡◌, ℕ, zero, suc, ◌+◌, ◌-◌, ◌<◌, Bool, true, false, List, [], ◌∷◌, ◌++◌, take, codes, length}
+use Rattle.std.proofs.Common.{◌≡◌, ℕ, zero, suc, ◌+◌, ◌-◌, ◌<◌, ◌≤◌, ◌⊎◌, inl, inr, Bool, true, false, List, [], ◌∷◌, ◌++◌, take, codes, length}
 use Rattle.std.proofs.Common.{append_assoc}
 use Rattle.std.proofs.Common.{Option, Some, None, IsSome, refl, sym, ap, ◌∙◌, subst, eqb-true, arith}
 use Rattle.std.specs.Prelude.{◌==◌, if◌then◌else◌, slice_get, slice_index_or, is_some}
 use Rattle.std.specs.Option.{option_map}
 use Rattle.std.proofs.lemmas.Bool.{and_parts}
-use Rattle.std.proofs.lemmas.List.{append-nil, length_push}
+use Rattle.std.proofs.lemmas.List.{append-nil, length-map, length_push}
 use Rattle.std.proofs.lemmas.Option.{same_Some}
 use Rattle.ol_term.specs.Trees as tree
 use Rattle.ol_term.specs.Trees.{Tree, is_named_below}
@@ -22,15 +22,18 @@ use Rattle.ol_steps.specs.TextLaws.{LeadsToApplication, here, into_body, into_fu
 use Rattle.ol_steps.proofs.LetteredTexts.{lettered_text}
 use Rattle.ol_steps.proofs.MarksUnder.{mark_is_under}
 use Rattle.ol_steps.specs.Binders as binders
-use Rattle.ol_steps.specs.Binders.{Binders, Fits}
+use Rattle.ol_steps.specs.Binders.{Binders, Fits, names_in_argument, names_in_body, names_in_function}
 use Rattle.ol_steps.specs.Naming as own
 use Rattle.ol_steps.specs.Folded.{value_at, or_name, all_folded, folded_round, folded_at, pruned}
 use Rattle.ol_steps.specs.LetLaws.{unfolded, subterm_along}
 use Rattle.ol_steps.proofs.Complete.{root_is}
-use Rattle.ol_steps.proofs.Values.{leads_to}
+use Rattle.ol_steps.proofs.Values.{LeadsTo, leads_to}
+use Rattle.ol_steps.specs.Lets.{LetRow, values_of_lets}
+use Rattle.ol_steps.proofs.WordNumbers.{AreEven, numbered_so, read_value, none_worded, unfolded_worded, worded_fits, worded_part}
 use Rattle.ol_steps.proofs.ValuesPutIn.{unfolded_is_term, no_value_no_change, folded_fits}
 use Rattle.ol_steps.specs.declared.stepping.Shown.{Shown}
-use Rattle.ol_steps.specs.Steps.{Glossary, shown_term}
+use Rattle.ol_steps.specs.Steps.{shown_term}
+use Rattle.ol_steps.specs.Words.{Glossary, written_number, worded}
 use Rattle.ol_steps.specs.StepLaws.{IsRedex, MarksRedex, RedexIsMarked, StandsForAbstraction, IsFoldedRedex, FoldedRedexIsMarked}
 use Rattle.ol_steps.specs.StepLaws.{leads_to_part, binders_round, binders_along, UnfoldsToNext}
 use Rattle.ol_steps.specs.StepLaws.{PartsAreThere, BindersAlongFit, NamedPartIsSubterm, LetteredPartIsSubterm, PartIsRead}
@@ -91,35 +94,54 @@ got_value (v ∷ vs) zero t l e = ap (λ (u : Tree). Some u) e
 got_value (v ∷ vs) (suc i) t l e = got_value vs i t (omega (arith, l)) e
 
 module _ (g : Glossary) where
-  -- the function of the redex
-  function : (b : Tree) (o : Option ℕ) → value_at g.first g.values (tree.lam b) ≡ o → (f : Named) →
-      Shows g.names (or_name o (tree.lam (all_folded g.first g.values b))) f → StandsForAbstraction g f
-  function b None e (var x) s = absurd s
-  function b None e (lam x u) s = tt
-  function b None e (app f a) s = absurd s
-  function b (Some k) e (var x) s =
-      let l = leads_to g.first g.values (tree.lam b) k e in
-      let from = l.from in
-      let within = l.within in
+  abbrev vs : List Tree
+  vs = values_of_lets g.rows
+
+  -- the name of a value that is an abstraction
+  abstraction : (b : Tree) (k : ℕ) (x : List ℕ) → g.first ≤ k → k < g.first + length vs →
+      slice_index_or vs (k - g.first) (tree.lam b) ≡ tree.lam b → x ≡ slice_index_or g.names k [] →
+      StandsForAbstraction g (var x)
+  abstraction b k x from within value e =
       let i : k ≡ g.first + (k - g.first) = omega (arith, from) in (
         k - g.first,
         b,
-        got_value g.values (k - g.first) (tree.lam b) (omega (arith, from, within)) (l.value (tree.lam b)),
-        s ∙ ap (λ (j : ℕ). slice_index_or g.names j []) i,
+        got_value vs (k - g.first) (tree.lam b) (omega (arith, from, within)) value,
+        e ∙ ap (λ (j : ℕ). slice_index_or g.names j []) i,
       )
-  function b (Some k) e (lam x u) s = absurd s
-  function b (Some k) e (app f a) s = absurd s
 
-  root : (f c : Tree) (w : Named) →
-      Shows g.names (tree.app (all_folded g.first g.values f) (all_folded g.first g.values c)) w → IsSome (applied f c) →
-      Leads (IsFoldedRedex g) w []
-  root (tree.var k) c w s h = absurd (cc)
-  root (tree.free k) c w s h = absurd (cc)
-  root (tree.lam b) c (var x) s h = absurd s
-  root (tree.lam b) c (lam x u) s h = absurd s
-  root (tree.lam b) c (app f a) s h =
-      (here, (f, a, refl, function b (value_at g.first g.values (tree.lam b)) refl f s.0))
-  root (tree.app f a) c w s h = absurd (cc)
+  -- the function of the redex
+  function : (b : Tree) (r : Binders) (o : Option ℕ) → value_at g.first vs (tree.lam b) ≡ o → (f : Named) →
+      Shows g.names (worded g (or_name o (tree.lam (all_folded g.first vs b))) r) f → StandsForAbstraction g f
+  function b r None e (var x) s = absurd s
+  function b r None e (lam x u) s = tt
+  function b r None e (app f a) s = absurd s
+  function b r (Some k) e (var x) s = go (written_number g k r) (numbered_so g k r) s
+    where
+      l : LeadsTo g.first vs (tree.lam b) k
+      l = leads_to g.first vs (tree.lam b) k e
+
+      go : (m : ℕ) → (m ≡ k) ⊎ AreEven g k m → x ≡ slice_index_or g.names m [] → StandsForAbstraction g (var x)
+      go m (inl same) i = abstraction b k x l.from l.within (l.value (tree.lam b))
+          (i ∙ ap (λ (j : ℕ). slice_index_or g.names j []) same)
+      go m (inr n) i =
+          let all : length vs ≡ length g.rows = length-map g.rows (λ (row : LetRow). row.value) in
+          let within = n.other_within in
+          abstraction b m x n.other_from (omega (arith, all, within))
+          (read_value g.rows (m - g.first) n.other (tree.lam b) n.there ∙ n.value
+          ∙ sym (read_value g.rows (k - g.first) n.row (tree.lam b) n.here) ∙ l.value (tree.lam b)) i
+  function b r (Some k) e (lam x u) s = absurd s
+  function b r (Some k) e (app f a) s = absurd s
+
+  root : (f c : Tree) (r : Binders) (w : Named) →
+      Shows g.names (worded g (tree.app (all_folded g.first vs f) (all_folded g.first vs c)) r) w →
+      IsSome (applied f c) → Leads (IsFoldedRedex g) w []
+  root (tree.var k) c r w s h = absurd (cc)
+  root (tree.free k) c r w s h = absurd (cc)
+  root (tree.lam b) c r (var x) s h = absurd s
+  root (tree.lam b) c r (lam x u) s h = absurd s
+  root (tree.lam b) c r (app f a) s h =
+      (here, (f, a, refl, function b (names_in_function r) (value_at g.first vs (tree.lam b)) refl f s.0))
+  root (tree.app f a) c r w s h = absurd (cc)
 
   abbrev Found : Tree → Option Tree → List ℕ → Type 0
   Found x o at = (w : Named) → Shows g.names x w → IsSome o → Leads (IsFoldedRedex g) w at
@@ -157,23 +179,37 @@ module _ (g : Glossary) where
   parts true m e f a x z y v w at o q more rest s h = function_part a m (eqb-true m 1 e) x z w at o more s h
   parts false m e f a x z y v w at o q more rest s h = argument (m == 2) m refl f y v w at q rest s h
 
-  leads : (t : Tree) (at : List ℕ) (w : Named) → Shows g.names (folded_round g.first g.values at t) w →
-      IsSome (contracted t at) → Leads (IsFoldedRedex g) w at
-  leads (tree.var k) at w s h = absurd (cc)
-  leads (tree.free k) at w s h = absurd (cc)
-  leads (tree.lam t) [] w s h = absurd (cc)
-  leads (tree.lam t) (m ∷ at) w s h =
-      body (m == 0) m refl (folded_round g.first g.values at t) w at (contracted t at) (leads t at) s h
-  leads (tree.app f a) [] w s h = root f a w s h
-  leads (tree.app f a) (m ∷ at) w s h =
-      parts (m == 1) m refl f a (folded_round g.first g.values at f) (all_folded g.first g.values a)
-      (all_folded g.first g.values f) (folded_round g.first g.values at a) w at (contracted f at) (contracted a at)
-      (leads f at) (leads a at) s h
+  worded_if : (b : Bool) (x z y v : Tree) (r : Binders) → worded g (if b then tree.app x z else tree.app y v) r
+      ≡ (if b then tree.app (worded g x (names_in_function r)) (worded g z (names_in_argument r))
+      else tree.app (worded g y (names_in_function r)) (worded g v (names_in_argument r)))
+  worded_if true x z y v r = refl
+  worded_if false x z y v r = refl
+
+  leads : (t : Tree) (at : List ℕ) (r : Binders) (w : Named) →
+      Shows g.names (worded g (folded_round g.first vs at t) r) w → IsSome (contracted t at) →
+      Leads (IsFoldedRedex g) w at
+  leads (tree.var k) at r w s h = absurd (cc)
+  leads (tree.free k) at r w s h = absurd (cc)
+  leads (tree.lam t) [] r w s h = absurd (cc)
+  leads (tree.lam t) (m ∷ at) r w s h =
+      body (m == 0) m refl (worded g (folded_round g.first vs at t) (names_in_body r)) w at (contracted t at)
+      (leads t at (names_in_body r)) s h
+  leads (tree.app f a) [] r w s h = root f a r w s h
+  leads (tree.app f a) (m ∷ at) r w s h =
+      let x = folded_round g.first vs at f in
+      let z = all_folded g.first vs a in
+      let y = all_folded g.first vs f in
+      let v = folded_round g.first vs at a in
+      let p = names_in_function r in
+      let q = names_in_argument r in
+      parts (m == 1) m refl f a (worded g x p) (worded g z q) (worded g y p) (worded g v q) w at (contracted f at)
+      (contracted a at) (leads f at p) (leads a at q)
+      (subst (λ (u : Tree). Shows g.names u w) (worded_if (m == 1) x z y v r) s) h
 
 -- ---- where it isn't folded
 
 abbrev without_lets : List (List ℕ) → Glossary
-without_lets names = record { names = names; first = 0; values = [] }
+without_lets names = record { names = names; first = 0; rows = []; lets = [] }
 
 is_redex : (names : List (List ℕ)) (u f a : Named) → u ≡ app f a → StandsForAbstraction (without_lets names) f → IsRedex u
 is_redex names u (var x) a e h = let none = h.2 in absurd (cc)
@@ -183,8 +219,10 @@ is_redex names u (app f c) a e h = absurd h
 plain : (names : List (List ℕ)) (t : Tree) (at : List ℕ) → IsSome (contracted t at) → (u : Named) → Shows names t u →
     Leads IsRedex u at
 plain names t at h u s =
-    let l = leads (without_lets names) t at u
-    (subst (λ (x : Tree). Shows names x u) (sym (no_value_no_change 0 (Some at) t)) s) h in
+    let g = without_lets names in
+    let x = folded_round 0 [] at t in
+    let l = leads g t at binders.leaf u (subst (λ (x : Tree). Shows names x u)
+    (sym (none_worded g refl x binders.leaf ∙ no_value_no_change 0 (Some at) t)) s) h in
     (l.0, is_redex names (part u at) l.1.0 l.1.1 l.1.2 l.1.3)
 
 -- ---- what is marked
@@ -213,11 +251,13 @@ FoldedMarks how g s at x =
 
 pub folded_redex_is_marked : FoldedRedexIsMarked
 folded_redex_is_marked how g t s at fits e =
-    let x = folded_at g.first g.values (Some at) t in
-    subst (λ (o : Option (List ℕ)). FoldedMarks how g s at (folded_at g.first g.values o t)) (sym e)
+    let vs = values_of_lets g.rows in
+    let y = folded_at g.first vs (Some at) t in
+    let x = worded g y s in
+    subst (λ (o : Option (List ℕ)). FoldedMarks how g s at (worded g (folded_at g.first vs o t) s)) (sym e)
     (marked (IsFoldedRedex g) how.named g.names x (pruned x s) at
-    (λ is. folded_fits g.first g.values (Some at) t s (fits is))
-    (λ u shows. leads g t at u shows (next_is_redex how.order t at e)))
+    (λ is. worded_fits g y s s (folded_fits g.first vs (Some at) t s (fits is)))
+    (λ u shows. leads g t at s u shows (next_is_redex how.order t at e)))
 
 -- ---- it is the one that comes next
 
@@ -294,15 +334,17 @@ module _ (n : ℕ) (vs : List Tree) where
       (folded_round n vs at a) (contracted f at) (contracted a at) (stands f at p.0) (stands a at p.1) some
 
 pub unfolds_to_next : UnfoldsToNext
-unfolds_to_next how g t at h e =
-    let s = stands g.first g.values t at h (next_is_redex how.order t at e) in
+unfolds_to_next how g t s at h e =
+    let vs = values_of_lets g.rows in
+    let r = stands g.first vs t at h (next_is_redex how.order t at e) in
+    let p = worded_part g (folded_at g.first vs (Some at) t) r.part s at r.folded_is in
     record {
-      part = s.part;
-      body = s.body;
-      argument = s.argument;
-      shown = ap (λ (o : Option (List ℕ)). subterm_along (folded_at g.first g.values o t) at) e ∙ s.folded_is;
-      redex = s.whole_is ∙ ap (λ (u : Tree). Some u) s.redex;
-      unfolds = s.unfolds ∙ s.redex;
+      part = worded g r.part p.0;
+      body = r.body;
+      argument = r.argument;
+      shown = ap (λ (o : Option (List ℕ)). subterm_along (worded g (folded_at g.first vs o t) s) at) e ∙ p.1;
+      redex = r.whole_is ∙ ap (λ (u : Tree). Some u) r.redex;
+      unfolds = unfolded_worded g r.part p.0 ∙ r.unfolds ∙ r.redex;
     }
 
 -- ---- an address leads to a part of what is shown where it leads to a subterm

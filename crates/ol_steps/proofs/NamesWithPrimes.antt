@@ -1,13 +1,13 @@
 -- Names with primes are names of the grammar, and so are those of a term that is named.
-use Rattle.std.proofs.Common.{◌≡◌, ℕ, ◌<◌, Bool, true, false, ◌&&◌, nat_eq, List, [], ◌∷◌, ◌++◌, length, refl}
+use Rattle.std.proofs.Common.{◌≡◌, ℕ, Bool, true, false, ◌&&◌, nat_eq, List, [], ◌∷◌, ◌++◌, length, refl}
 use Rattle.std.proofs.Common.{sym, ap, ◌∙◌, subst, arith, length-append, not, Option, None, Some}
-use Rattle.std.specs.Prelude.{slice_index_or, ◌+◌, ◌-◌, zero, suc, if◌then◌else◌, ◌==◌}
+use Rattle.std.specs.Prelude.{◌+◌, ◌-◌, zero, suc, if◌then◌else◌, ◌==◌}
 use Rattle.std.specs.Str.{bytes_eq}
 use Rattle.std.proofs.lemmas.Bool.{and_parts, and_right, ltb-true}
 use Rattle.ol_term.specs.Trees as tree
 use Rattle.ol_term.specs.Trees.{Tree, is_below, is_named_below}
 use Rattle.ol_term.specs.BinderNames.{is_among}
-use Rattle.ol_parse.specs.Grammar.{Named, var, lam, app, Token, name}
+use Rattle.ol_parse.specs.Grammar.{Named, var, lam, app, Token}
 use Rattle.ol_parse.specs.Texts.{letter, class_of, in_word, is_word, AreInWord, IsToken, token_sign, token_letter, token_word, IsName, IsText}
 use Rattle.ol_parse.specs.Numbered.{names_of, number}
 use Rattle.ol_parse.specs.Parsed.{AreNames}
@@ -15,24 +15,29 @@ use Rattle.ol_parse.proofs.Files.{whole_bound, whole_named}
 use Rattle.ol_parse.proofs.Words.{names_good, both}
 use Rattle.ol_parse.proofs.Spelling.{sign_no_word}
 use Rattle.ol_steps.specs.Binders as binders
-use Rattle.ol_steps.specs.Binders.{Binders, binders_of, Fits}
+use Rattle.ol_steps.specs.Binders.{Binders, binders_of, Fits, names_in_argument}
 use Rattle.ol_steps.specs.Naming.{bytes_in, used, primed_from, primed, named}
 use Rattle.ol_steps.specs.BinderLaws.{AllNames}
-use Rattle.ol_steps.specs.Lets.{is_closed, is_small, if_small, row_if, let_names, lets, names_of_lets, value_of, values_of_lets}
+use Rattle.ol_steps.specs.Lets.{LetRow, is_closed, is_small, if_small, row_if, let_names, lets, names_of_lets, value_of, values_of_lets}
 use Rattle.ol_steps.specs.Folded.{folded_at, pruned}
 use Rattle.ol_steps.specs.LetLaws.{unfolded}
-use Rattle.ol_steps.proofs.Rows.{lets_differ, names_more}
+use Rattle.ol_steps.proofs.Rows.{lets_differ}
 use Rattle.ol_steps.proofs.Smaller.{is_fold_of}
 use Rattle.ol_steps.proofs.ValuesPutIn.{folded_fits, unfolded_is_term}
 use Rattle.ol_term.specs.NameLists.{NoNameTwice}
-use Rattle.std.proofs.lemmas.List.{length-map}
+use Rattle.std.specs.List.{All}
+use Rattle.std.proofs.lemmas.List.{length-map, map-append}
+use Rattle.std.proofs.lemmas.List.Elements.{All-append, All-cons, All-nil}
 use Rattle.ol_steps.specs.StepLaws.{ReadsAgain, ReadsFolded, FoldedReadsAgain}
 use Rattle.ol_beta.specs.Beta as beta
 use Rattle.ol_beta.proofs.Bound.{step_below}
 use Rattle.ol_strategies.specs.Redexes.{next}
 use Rattle.ol_strategies.specs.declared.orders.Order.{Order}
 use Rattle.ol_steps.specs.Contraction.{put_in, applied, contracted}
-use Rattle.ol_steps.specs.Steps.{Walk, starts, goes, Glossary, glossary, binders_after, next_binders, last_binders}
+use Rattle.ol_steps.specs.Steps.{Walk, starts, goes, glossary, binders_after, next_binders, last_binders}
+use Rattle.ol_steps.specs.Words.{Glossary, with_words, worded, worded_at}
+use Rattle.ol_steps.proofs.WordNumbers.{unfolded_worded, worded_below, worded_fits, worded_named}
+use Rattle.ol_steps.proofs.WordTexts.{AllOf, IsGood, all_good, name_good, names_all, names_in, no_bars}
 use Rattle.ol_steps.proofs.Named.{step_named}
 use Rattle.ol_steps.proofs.Walks.{binders_more}
 use Rattle.ol_steps.proofs.Fitting.{source_fits, contracted_fits}
@@ -48,10 +53,10 @@ HasNames (binders.lam x s) = IsName x × HasNames s
 HasNames (binders.app r s) = HasNames r × HasNames s
 
 -- a word: a letter, and then letters and digits
-abbrev IsWord : List ℕ → Type 0
+abbrev pub IsWord : List ℕ → Type 0
 IsWord x = (b : ℕ) × (w : List ℕ) × (x ≡ b ∷ w) × (class_of b ≡ letter) × AreInWord w
 
-word_of : {k : Token} {a : List ℕ} → IsToken k a → is_word k ≡ true → IsWord a
+pub word_of : {k : Token} {a : List ℕ} → IsToken k a → is_word k ≡ true → IsWord a
 word_of (token_sign {k = k} {b = b} e) h = let n = sign_no_word b k e in absurd (cc)
 word_of (token_letter e) h = absurd (cc)
 word_of (token_word {b = b} {w = w} e i) h = (b, w, refl, e, i)
@@ -105,35 +110,40 @@ primed_from_name taken (suc n) x h = go (is_among taken x) (primed_from_name tak
 primed_name : (taken : List (List ℕ)) (x : List ℕ) → IsName x → IsName (primed taken x)
 primed_name taken x h = primed_from_name taken (bytes_in taken + 1 - length x) x h
 
-pub name_at : (names : List (List ℕ)) (k : ℕ) → AreNames names → k < length names → IsName (slice_index_or names k [])
-name_at [] k h l = absurd (omega arith)
-name_at (x ∷ names) zero h l = h.0
-name_at (x ∷ names) (suc k) h l = name_at names k h.1 (omega arith)
+-- ---- what holds of each name of a term
 
-all_names : (names round : List (List ℕ)) (t : Tree) (s : Binders) → AreNames names → AreNames round → HasNames s →
-    Fits t s → is_below (length round) t ≡ true → is_named_below (length names) t ≡ true → AllNames (named names round t s)
-all_names names round (tree.var k) binders.leaf g h i f b n = name_at round k h (ltb-true k (length round) b)
-all_names names round (tree.var k) (binders.lam x s) g h i f b n = absurd f
-all_names names round (tree.var k) (binders.app r s) g h i f b n = absurd f
-all_names names round (tree.free k) binders.leaf g h i f b n = name_at names k g (ltb-true k (length names) n)
-all_names names round (tree.free k) (binders.lam x s) g h i f b n = absurd f
-all_names names round (tree.free k) (binders.app r s) g h i f b n = absurd f
-all_names names round (tree.lam t) binders.leaf g h i f b n = absurd f
-all_names names round (tree.lam t) (binders.lam x s) g h i f b n =
-    let y = primed (used 1 names round t) x in
-    let new = primed_name (used 1 names round t) x i.0 in
-    let one : length round + 1 ≡ suc (length round) = omega arith in (
-      new,
-      all_names names (y ∷ round) t s g (new, h) i.1 f
-          (ap (λ (d : ℕ). is_below d t) (sym one) ∙ b) n,
-    )
-all_names names round (tree.lam t) (binders.app r s) g h i f b n = absurd f
-all_names names round (tree.app l a) binders.leaf g h i f b n = absurd f
-all_names names round (tree.app l a) (binders.lam x s) g h i f b n = absurd f
-all_names names round (tree.app l a) (binders.app r s) g h i f b n =
-    let p = and_parts (is_below (length round) l) (is_below (length round) a) b in
-    let q = and_parts (is_named_below (length names) l) (is_named_below (length names) a) n in
-    (all_names names round l r g h i.0 f.0 p.0 q.0, all_names names round a s g h i.1 f.1 p.1 q.1)
+-- of each name of a tree with its binders' own names, if it holds of names of the grammar
+module _ (P : List ℕ → Type 0) (of : (x : List ℕ) → IsName x → P x) (names : List (List ℕ)) where
+  pub all_of : (round : List (List ℕ)) (t : Tree) (s : Binders) → All P names → All P round → HasNames s →
+      Fits t s → is_below (length round) t ≡ true → is_named_below (length names) t ≡ true →
+      AllOf P (named names round t s)
+  all_of round (tree.var k) binders.leaf g h i f b n = h k [] (ltb-true k (length round) b)
+  all_of round (tree.var k) (binders.lam x s) g h i f b n = absurd f
+  all_of round (tree.var k) (binders.app r s) g h i f b n = absurd f
+  all_of round (tree.free k) binders.leaf g h i f b n = g k [] (ltb-true k (length names) n)
+  all_of round (tree.free k) (binders.lam x s) g h i f b n = absurd f
+  all_of round (tree.free k) (binders.app r s) g h i f b n = absurd f
+  all_of round (tree.lam t) binders.leaf g h i f b n = absurd f
+  all_of round (tree.lam t) (binders.lam x s) g h i f b n =
+      let y = primed (used 1 names round t) x in
+      let new = of y (primed_name (used 1 names round t) x i.0) in
+      let one : length round + 1 ≡ suc (length round) = omega arith in (
+        new,
+        all_of (y ∷ round) t s g (All-cons P y round new h) i.1 f (ap (λ (d : ℕ). is_below d t) (sym one) ∙ b) n,
+      )
+  all_of round (tree.lam t) (binders.app r s) g h i f b n = absurd f
+  all_of round (tree.app l a) binders.leaf g h i f b n = absurd f
+  all_of round (tree.app l a) (binders.lam x s) g h i f b n = absurd f
+  all_of round (tree.app l a) (binders.app r s) g h i f b n =
+      let p = and_parts (is_below (length round) l) (is_below (length round) a) b in
+      let q = and_parts (is_named_below (length names) l) (is_named_below (length names) a) n in
+      (all_of round l r g h i.0 f.0 p.0 q.0, all_of round a s g h i.1 f.1 p.1 q.1)
+
+all_names : (names : List (List ℕ)) (t : Tree) (s : Binders) → AreNames names → HasNames s →
+    Fits t s → is_below 0 t ≡ true → is_named_below (length names) t ≡ true → AllNames (named names [] t s)
+all_names names t s g i f b n =
+    names_all (named names [] t s)
+    (all_of IsName (λ x h. h) names [] t s (names_in IsName (λ x h. h) names g) (All-nil IsName) i f b n)
 
 -- ---- contraction keeps names
 
@@ -229,13 +239,13 @@ reads_again order bytes source v terms i walk =
     record {
       fits = r.fits;
       text = named_is_read (named names [] v w)
-          (all_names names [] v w (names_good bytes source i) tt r.words r.fits r.bound r.placed);
+          (all_names names v w (names_good bytes source i) r.words r.fits r.bound r.placed);
       tree = none_is_caught names v w (names_differ source) r.fits r.bound r.placed;
     }
 
 -- ---- what is folded is read again
 
-words_of_lets : (n : ℕ) (s : Binders) → HasNames s → AreNames (let_names n s)
+pub words_of_lets : (n : ℕ) (s : Binders) → HasNames s → AreNames (let_names n s)
 words_of_lets zero s h = tt
 words_of_lets (suc n) binders.leaf h = tt
 words_of_lets (suc n) (binders.lam x s) h = tt
@@ -243,28 +253,30 @@ words_of_lets (suc n) (binders.app binders.leaf r) h = tt
 words_of_lets (suc n) (binders.app (binders.lam x s) r) h = (h.0.0, words_of_lets n s h.0.1)
 words_of_lets (suc n) (binders.app (binders.app p q) r) h = tt
 
-one_word : (b : Bool) (x : List ℕ) (v : Tree) → IsName x → AreNames (names_of_lets (row_if b x v))
-one_word true x v h = (h, tt)
-one_word false x v h = tt
+one_word : (b : Bool) (x : List ℕ) (v : Tree) (s : Binders) → IsName x → AreNames (names_of_lets (row_if b x v s))
+one_word true x v s h = (h, tt)
+one_word false x v s h = tt
 
-words_behind : (names later : List (List ℕ)) (o : Option Tree) →
-    ((u : Tree) → AreNames (names_of_lets (lets names later u))) → AreNames (names_of_lets (if_small (lets names later) o))
-words_behind names later None h = tt
-words_behind names later (Some u) h = go (is_small u)
+words_behind : (each : Tree → List LetRow) (o : Option Tree) →
+    ((u : Tree) → AreNames (names_of_lets (each u))) → AreNames (names_of_lets (if_small each o))
+words_behind each None h = tt
+words_behind each (Some u) h = go (is_small u)
   where
-    go : (b : Bool) → AreNames (names_of_lets (if b then lets names later u else []))
+    go : (b : Bool) → AreNames (names_of_lets (if b then each u else []))
     go true = h u
     go false = tt
 
-let_words : (names later : List (List ℕ)) (t : Tree) → AreNames later → AreNames (names_of_lets (lets names later t))
-let_words names [] t h = tt
-let_words names (x ∷ later) t h =
-    let more = names_of_lets (if_small (lets names later) (beta.contracted t [])) in
-    let b = is_closed (value_of t) && not (is_among (names ++ later) x) in
-    subst AreNames (sym (names_more names later x t))
-    (both more (names_of_lets (row_if b x (value_of t)))
-    (words_behind names later (beta.contracted t []) (λ u. let_words names later u h.1))
-    (one_word b x (value_of t) h.0))
+pub let_words : (names later : List (List ℕ)) (t : Tree) (s : Binders) → AreNames later →
+    AreNames (names_of_lets (lets names later t s))
+let_words names [] t s h = tt
+let_words names (x ∷ later) t s h =
+    let r = contracted t s [] in
+    let more = if_small (λ u. lets names later u r) (beta.contracted t []) in
+    let one = row_if (is_closed (value_of t) && not (is_among (names ++ later) x)) x (value_of t) (names_in_argument s) in
+    subst AreNames (sym (map-append (λ (row : LetRow). row.name) more one))
+    (both (names_of_lets more) (names_of_lets one)
+    (words_behind (λ u. lets names later u r) (beta.contracted t []) (λ u. let_words names later u r h.1))
+    (one_word (is_closed (value_of t) && not (is_among (names ++ later) x)) x (value_of t) (names_in_argument s) h.0))
 
 pruned_names : (t : Tree) (s : Binders) → HasNames s → HasNames (pruned t s)
 pruned_names (tree.var k) s h = tt
@@ -276,33 +288,35 @@ pruned_names (tree.app f a) binders.leaf h = tt
 pruned_names (tree.app f a) (binders.lam x s) h = tt
 pruned_names (tree.app f a) (binders.app r s) h = (pruned_names f r h.0, pruned_names a s h.1)
 
--- as many names as there are values
-rows_even : (names later : List (List ℕ)) (t : Tree) →
-    length (names_of_lets (lets names later t)) ≡ length (values_of_lets (lets names later t))
-rows_even names later t = length-map (lets names later t) (λ row. row.0) ∙ sym (length-map (lets names later t) (λ row. row.1))
-
--- the names of a glossary are good, and a folded tree has its places
+-- the names of a glossary without a bar are names of the grammar, and a folded tree has its places
 pub record IsPlaced (g : Glossary) (x : Tree) : Type 0 where
-  pub good : AreNames g.names
+  pub good : All IsGood g.names
   pub once : NoNameTwice g.names
   pub bound : is_below 0 x ≡ true
   pub placed : is_named_below (length g.names) x ≡ true
 
 pub folded_placed : (names : List (List ℕ)) (n : ℕ) (t : Tree) (s : Binders) (at : Option (List ℕ)) (v : Tree)
     (w : Binders) → AreNames names → NoNameTwice names → HasNames s → IsReadable names v w →
-    IsPlaced (glossary names n t s) (folded_at (length names) (glossary names n t s).values at v)
+    IsPlaced (glossary names n t s) (worded_at (glossary names n t s) at v w)
 folded_placed names n t s at v w good once words r =
     let g = glossary names n t s in
     let later = let_names n s in
-    let x = folded_at g.first g.values at v in
-    let f = is_fold_of (length names) g.values at v in
-    let l : length names + length g.values ≡ length g.names = ap (λ (k : ℕ). length names + k) (sym (rows_even names later t))
-    ∙ sym (length-append names (names_of_lets (lets names later t))) in
+    let rows = lets names later t s in
+    let all = with_words names rows in
+    let x = folded_at g.first (values_of_lets g.rows) at v in
+    let f = is_fold_of (length names) (values_of_lets g.rows) at v in
+    let m : length (values_of_lets all) ≡ length all = length-map all (λ (row : LetRow). row.value) in
+    let k : length (names_of_lets all) ≡ length all = length-map all (λ (row : LetRow). row.name) in
+    let j : length (names ++ names_of_lets all) ≡ length names + length (names_of_lets all) =
+    length-append names (names_of_lets all) in
+    let l : length names + length all ≡ length (names ++ names_of_lets all) = omega (arith, j, k) in
     record {
-      good = both names (names_of_lets (lets names later t)) good (let_words names later t (words_of_lets n s words));
-      once = lets_differ names later t once;
-      bound = f.below 0 r.bound;
-      placed = ap (λ (k : ℕ). is_named_below k x) (sym l) ∙ f.named r.placed;
+      good = All-append IsGood names (names_of_lets all) (names_in IsGood name_good names good)
+          (all_good names rows (let_words names later t s (words_of_lets n s words)));
+      once = lets_differ names later t s once;
+      bound = worded_below g 0 x w (f.below 0 r.bound);
+      placed = subst (λ (i : ℕ). is_named_below i (worded g x w) ≡ true) l
+          (worded_named g x w (ap (λ (i : ℕ). is_named_below (length names + i) x) (sym m) ∙ f.named r.placed));
     }
 
 folded_reads : (names : List (List ℕ)) (n : ℕ) (t : Tree) (s : Binders) (at : Option (List ℕ)) (v : Tree) (w : Binders) →
@@ -310,17 +324,20 @@ folded_reads : (names : List (List ℕ)) (n : ℕ) (t : Tree) (s : Binders) (at 
     (u : Named) × ReadsFolded true (glossary names n t s) at v w u
 folded_reads names n t s at v w good once words r =
     let g = glossary names n t s in
-    let x = folded_at g.first g.values at v in
+    let vs = values_of_lets g.rows in
+    let y = folded_at g.first vs at v in
+    let x = worded g y w in
     let p = folded_placed names n t s at v w good once words r in
-    let fits = folded_fits g.first g.values at v w r.fits in
+    let fits = worded_fits g y w w (folded_fits g.first vs at v w r.fits) in
+    let u = named g.names [] x (pruned x w) in
     let same = none_is_caught g.names x (pruned x w) p.once fits p.bound p.placed in (
-      named g.names [] x (pruned x w),
+      u,
       record {
         is = refl;
-        text = named_is_read (named g.names [] x (pruned x w))
-            (all_names g.names [] x (pruned x w) p.good tt (pruned_names x w r.words) fits p.bound p.placed);
+        text = λ none. named_is_read u (no_bars u
+            (all_of IsGood name_good g.names [] x (pruned x w) p.good (All-nil IsGood) (pruned_names x w r.words) fits p.bound p.placed) none);
         folded = same;
-        tree = ap (unfolded g.first g.values) same ∙ unfolded_is_term g.first g.values at v r.placed;
+        tree = ap (unfolded g.first vs) same ∙ unfolded_worded g y w ∙ unfolded_is_term g.first vs at v r.placed;
       },
     )
 

@@ -15,7 +15,8 @@ use Rattle.ol_subjects.specs.declared.answers.End.{End}
 use Rattle.ol_subjects.specs.declared.answers.End.TheVariants.{No}
 use Rattle.ol_steps.specs.Binders.{Binders}
 use Rattle.ol_steps.specs.declared.stepping.Shown.{Shown}
-use Rattle.ol_steps.specs.Steps.{Glossary, Walk, IsNew, lines_to, lines_with_redex, last_line, past_line, return_line}
+use Rattle.ol_steps.specs.Steps.{Walk, IsNew, lines_to, lines_with_redex, last_line, past_line, return_line}
+use Rattle.ol_steps.specs.Words.{Glossary}
 use Rattle.ol_steps.specs.Steps.{reached_words, reached_end, Tells, ends, returns, left, past}
 use Rattle.ol_steps.specs.StepLaws.{HasLastLine}
 use Rattle.ol_steps.proofs.LastLines.{counted_line, reached_line, return_one, left_one, past_one, ends_with}

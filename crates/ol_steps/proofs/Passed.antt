@@ -1,13 +1,12 @@
 -- A scan of tokens counts the lets at the front of a reading.
-use Rattle.std.proofs.Common.{◌≡◌, ℕ, suc, ◌+◌, Bool, true, false, List, [], ◌∷◌, ◌++◌, map, refl, sym, ap, ◌∙◌, append_assoc, append-nil, arith, ◌-◌, eqb-true}
+use Rattle.std.proofs.Common.{◌≡◌, ℕ, ◌+◌, Bool, true, false, List, [], ◌∷◌, ◌++◌, map, refl, sym, ap, ◌∙◌, append_assoc, append-nil, arith, ◌-◌, eqb-true}
 use Rattle.std.specs.Prelude.{◌==◌, if◌then◌else◌}
-use Rattle.ol_parse.specs.Grammar.{Named, Token, name, let_key, in_key, lambda, dot, open_bracket, close_bracket, IsTerm, term_body, term_spine}
+use Rattle.ol_parse.specs.Grammar.{Named, Token, name, in_key, dot, close_bracket, IsTerm, term_body, term_spine}
 use Rattle.ol_parse.specs.Grammar.{term_both, IsSpine, spine_one, spine_more, IsAtom, atom_name, atom_brackets}
 use Rattle.ol_parse.specs.Grammar.{IsBody, body_lambda, body_let}
-use Rattle.ol_steps.specs.declared.fronts.Spot.{Spot}
 use Rattle.ol_steps.specs.declared.fronts.Spot.TheVariants.{Front, Value, Behind}
 use Rattle.ol_steps.specs.Fronts.{lets_of_term, lets_of_body}
-use Rattle.ol_steps.specs.Scanned.{spot_after, begins_let, lets_among}
+use Rattle.ol_steps.specs.Scanned.{lets_among}
 
 -- ---- within the value of a let
 

@@ -13,10 +13,10 @@ use Rattle.ol_term.specs.NameLists.{IsFirstPlace, without, position_of}
 use Rattle.ol_term.specs.BinderNames.{is_among}
 use Rattle.ol_term.proofs.BinderTexts.{not_same}
 use Rattle.ol_parse.specs.Grammar.{Named, var, lam, app}
-use Rattle.ol_parse.specs.Numbered.{unbound, free_in, once, names_of, number, numbered, var_at}
+use Rattle.ol_parse.specs.Numbered.{unbound, free_in, once, names_of, numbered, var_at}
 use Rattle.ol_steps.specs.Binders as binders
 use Rattle.ol_steps.specs.Binders.{binders_of}
-use Rattle.ol_steps.specs.Naming.{used, primed, named}
+use Rattle.ol_steps.specs.Naming.{used, named}
 use Rattle.ol_steps.specs.BinderLaws.{SourceIsKept}
 use Rattle.ol_steps.proofs.Among.{among_both}
 use Rattle.ol_steps.proofs.Primes.{try_serves}

@@ -1,11 +1,11 @@
 -- The printed text of a term with names spells its tokens.
-use Rattle.std.proofs.Common.{◌≡◌, ℕ, List, [], ◌∷◌, ◌++◌, Bool, true, false, not, cond, refl, sym, ap, ◌∙◌, subst}
+use Rattle.std.proofs.Common.{◌≡◌, ℕ, List, [], ◌∷◌, ◌++◌, Bool, true, false, not, refl, sym, subst}
 use Rattle.std.proofs.Common.{append_assoc}
-use Rattle.std.specs.Prelude.{◌≢◌, if◌then◌else◌}
+use Rattle.std.specs.Prelude.{◌≢◌}
 use Rattle.std.proofs.lemmas.List.{append-nil}
 use Rattle.ol_parse.specs.Grammar.{Named, var, lam, app, Token, name, lambda, dot, open_bracket, close_bracket}
 use Rattle.ol_parse.specs.Texts.{class_of, is_word, IsGap, gap_none, gap_blank, last_gap, IsToken}
-use Rattle.ol_parse.specs.Texts.{token_sign, IsName, Spells, spells_none, spells_one}
+use Rattle.ol_parse.specs.Texts.{token_sign, Spells, spells_none, spells_one}
 use Rattle.ol_steps.specs.NamedTexts.{is_abstraction, is_name, bracketed, named_text}
 use Rattle.ol_steps.specs.BinderLaws.{AllNames, NamedIsRead}
 use Rattle.ol_steps.proofs.Grammatical.{in_brackets, tokens, grammatical}

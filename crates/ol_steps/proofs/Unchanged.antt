@@ -17,11 +17,14 @@ use Rattle.ol_subjects.specs.Subjects.{IsTerm, RefusesTerm, syntax_at, deep, lar
 use Rattle.ol_subjects.specs.declared.answers.End.{End}
 use Rattle.ol_steps.specs.Binders.{Binders, leaf, binders_of}
 use Rattle.ol_steps.specs.Fronts.{BeginsWithLets}
-use Rattle.ol_steps.specs.Folded.{pruned}
+use Rattle.ol_steps.specs.Folded.{folded_at, pruned}
+use Rattle.ol_steps.specs.Lets.{values_of_lets}
+use Rattle.ol_steps.proofs.WordNumbers.{none_worded}
 use Rattle.ol_steps.specs.declared.stepping.Shown.{Shown}
 use Rattle.ol_steps.specs.declared.showing.Unfolding.{Unfolding}
 use Rattle.ol_steps.specs.Marks.{mark_line}
-use Rattle.ol_steps.specs.Steps.{Glossary, glossary, address_line, shown_term, term_line, shown_tree, shown_line}
+use Rattle.ol_steps.specs.Steps.{glossary, address_line, shown_term, term_line, shown_tree, shown_line}
+use Rattle.ol_steps.specs.Words.{Glossary}
 use Rattle.ol_steps.specs.Steps.{redex_lines, step_lines, lines_of_step, unfolds, unfold_line, begun, unfolding_after}
 use Rattle.ol_steps.specs.Steps.{last_unfolding, next_binders, last_binders, walk_lines, lines_to, lines_with_redex}
 use Rattle.ol_steps.specs.Steps.{past_line, Tells, refused, too_large, steps}
@@ -153,7 +156,7 @@ shown_same : (named : Bool) (names : List (List ℕ)) (x : Tree) (s r : Binders)
 shown_same true names x s r h = ap (λ (q : Binders). shown_term true names x (pruned x q)) (h refl)
 shown_same false names x s r h = refl
 
-module _ (how : Shown) (b c : Bool) (g : Glossary) where
+module _ (how : Shown) (b c : Bool) (g : Glossary) (none : g.rows ≡ []) where
   abbrev first : Shown
   first = record how { folded = b }
 
@@ -166,15 +169,26 @@ module _ (how : Shown) (b c : Bool) (g : Glossary) where
   redex_same x s r (Some at) h =
       ap (λ (u : Named). (if how.marked then mark_line u at else []) ++ address_line at) (shown_same how.named g.names x s r h)
 
+  -- without rows it is the folded tree
+  plain : (t : Tree) (s : Binders) →
+      shown_tree how g t s ≡ folded_at g.first (values_of_lets g.rows) (next how.order t) t
+  plain t s = none_worded g none (folded_at g.first (values_of_lets g.rows) (next how.order t) t) s
+
+  alike : (t : Tree) (s r : Binders) → shown_tree how g t s ≡ shown_tree how g t r
+  alike t s r = plain t s ∙ sym (plain t r)
+
   line_same : (t : Tree) (s r : Binders) → (how.named ≡ true → s ≡ r) → shown_line first g t s ≡ shown_line second g t r
-  line_same t s r h = term_same how.named g.names (shown_tree how g t) s r h
+  line_same t s r h =
+      term_same how.named g.names (shown_tree how g t s) s r h
+      ∙ ap (λ (x : Tree). term_line how.named g.names x (pruned x r)) (alike t s r)
 
   step_same : (t : Tree) (s r : Binders) → (how.named ≡ true → s ≡ r) → step_lines first g t s ≡ step_lines second g t r
   step_same t s r h =
-      let x = shown_tree how g t in
+      let x = shown_tree how g t s in
       let lines = redex_lines first g.names x (pruned x s) (next how.order t) in
       ap (λ (l : List ℕ). l ++ lines) (line_same t s r h)
-      ∙ ap (λ (l : List ℕ). shown_line second g t r ++ l) (redex_same x s r (next how.order t) h)
+      ∙ ap (λ (l : List ℕ). shown_line second g t r ++ l) (redex_same x s r (next how.order t) h
+      ∙ ap (λ (y : Tree). redex_lines second g.names y (pruned y r) (next how.order t)) (alike t s r))
 
   made_same : (u : Unfolding) (t : Tree) (s r : Binders) → (how.named ≡ true → s ≡ r) →
       lines_of_step first g u t s ≡ lines_of_step second g u t r
@@ -245,7 +259,7 @@ none_alike how names most t s r text more e f h x y =
     (lines_to (record how { folded = false }) g 0 r) (lines_with_redex (record how { folded = false }) g 0 r) text more e f
     (told (record how { folded = true }) g 0 most t s text x)
     (told (record how { folded = false }) g 0 most t r more y) in
-    (a.same (to_same how true false g 0 s r h) (with_same how true false g 0 s r h), a.end)
+    (a.same (to_same how true false g refl 0 s r h) (with_same how true false g refl 0 s r h), a.end)
 
 abbrev ToldBy : Shown → Bool → ℕ → List ℕ → End → List (List ℕ) → Tree → Binders → ℕ → Type 0
 ToldBy how b most text e names t s n = Tells (record how { folded = b }) (glossary names n t s) n most t s text e

@@ -13,13 +13,15 @@ use Rattle.ol_strategies.proofs.Nexts.{next_is_redex}
 use Rattle.ol_steps.specs.Binders.{Binders, binders_of, Fits}
 use Rattle.ol_steps.specs.Contraction.{contracted}
 use Rattle.ol_steps.proofs.Fitting.{contracted_fits}
-use Rattle.ol_steps.specs.Lets.{let_names, is_let_at, lets, values_of_lets}
+use Rattle.ol_steps.specs.Folded.{folded_at}
+use Rattle.ol_steps.specs.Lets.{let_names, is_let_at, values_of_lets}
 use Rattle.ol_steps.specs.LetLaws.{redex_binder, IsAmongOthers, LeadsToRedex}
 use Rattle.ol_steps.proofs.Complete.{nothing_is_left}
 use Rattle.ol_steps.proofs.LetsLeft.{let_goes, lets_stay, text_has_lets}
 use Rattle.ol_steps.proofs.Rows.{values_are_closed}
+use Rattle.ol_steps.proofs.WordNumbers.{closed_part}
 use Rattle.ol_steps.proofs.Walks.{binders_more, unfolding_more}
-use Rattle.ol_steps.specs.Steps.{Walk, starts, goes, unfolds, binders_after, next_binders, last_binders, begun, unfolding_after, last_unfolding}
+use Rattle.ol_steps.specs.Steps.{Walk, starts, goes, unfolds, binders_after, next_binders, last_binders, begun, unfolding_after, last_unfolding, glossary}
 use Rattle.ol_steps.specs.Unfoldings.{let_of_step, lets_unfolded, EndsInUnfoldings, no_step, another_step, one_more, LetsAreUnfolded, NoValueIsShown}
 use Rattle.ol_steps.specs.declared.showing.Unfolding.{Unfolding}
 
@@ -190,9 +192,12 @@ leads order t None e = tt
 leads order t (Some at) e = next_is_redex order t at e
 
 pub no_value_is_shown : NoValueIsShown
-no_value_is_shown how n source v value at k got off is =
+no_value_is_shown how n source v value w at k got off is =
     let names = names_of source in
     let s = binders_of source in
-    let closed = values_are_closed names (let_names n s) (number source) value k (whole_bound source) got in
-    nothing_is_left (length names) (values_of_lets (lets names (let_names n s) (number source))) (next how.order v) v value
-    at k got closed.0 closed.1 (leads how.order v (next how.order v) refl) off is
+    let g = glossary names n (number source) s in
+    let vs = values_of_lets g.rows in
+    let closed = values_are_closed names (let_names n s) (number source) value s k (whole_bound source) got in
+    let folded = folded_at g.first vs (next how.order v) v in
+    nothing_is_left g.first vs (next how.order v) v value at k got closed.0 closed.1
+    (leads how.order v (next how.order v) refl) off (closed_part g folded value w at closed.1 is)

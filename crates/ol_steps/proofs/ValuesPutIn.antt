@@ -1,13 +1,12 @@
 -- If values are put in the places of their names again, a tree is what it was.
-use Rattle.std.proofs.Common.{◌≡◌, ℕ, ◌+◌, ◌-◌, ◌≤◌, Bool, true, false, List, [], ◌∷◌, Option, Some, None}
-use Rattle.std.proofs.Common.{refl, sym, ap, ◌∙◌}
+use Rattle.std.proofs.Common.{◌≡◌, ℕ, ◌-◌, Bool, true, false, List, [], ◌∷◌, Option, Some, None}
+use Rattle.std.proofs.Common.{refl, ap, ◌∙◌}
 use Rattle.std.specs.Prelude.{◌==◌, if◌then◌else◌, slice_index_or}
 use Rattle.std.proofs.lemmas.Bool.{and_parts, le-ltb}
-use Rattle.ol_term.specs.Trees as tree
 use Rattle.ol_term.specs.Trees.{Tree, var, free, lam, app, is_named_below}
 use Rattle.ol_steps.specs.Binders as binders
 use Rattle.ol_steps.specs.Binders.{Binders, Fits}
-use Rattle.ol_steps.specs.Folded.{value_at, or_name, all_folded, folded_round, folded_at, pruned}
+use Rattle.ol_steps.specs.Folded.{value_at, or_name, all_folded, folded_round, pruned}
 use Rattle.ol_steps.specs.LetLaws.{unfolded, UnfoldedIsTerm, NoValueNoChange, NothingIsPruned, FoldedFits}
 use Rattle.ol_steps.proofs.Values.{leads_to}
 

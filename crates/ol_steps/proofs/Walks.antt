@@ -17,7 +17,8 @@ use Rattle.ol_steps.specs.Contraction as own
 use Rattle.ol_steps.specs.EarlierTerms.{terms_of}
 use Rattle.ol_steps.proofs.EarlierTerms.{kept_length, kept_more}
 use Rattle.ol_steps.proofs.Named.{step_named}
-use Rattle.ol_steps.specs.Steps.{Walk, starts, goes, IsNew, Glossary, shown_line, step_lines, lines_of_step, walk_lines}
+use Rattle.ol_steps.specs.Steps.{Walk, starts, goes, IsNew, shown_line, step_lines, lines_of_step, walk_lines}
+use Rattle.ol_steps.specs.Words.{Glossary}
 use Rattle.ol_steps.specs.Steps.{binders_after, next_binders, last_binders, lines_to, lines_with_redex, unfolds, begun}
 use Rattle.ol_steps.specs.Steps.{unfolding_after, last_unfolding, unfold_line, last_line, past_line, return_line}
 use Rattle.ol_steps.specs.Steps.{reached_words, reached_end, Tells, ends, returns, left, past}

@@ -1,7 +1,6 @@
 -- Each name of a text's term is a name of the grammar, and no free name stands twice in its list.
-use Rattle.std.proofs.Common.{◌≡◌, ℕ, zero, suc, ◌+◌, List, [], ◌∷◌, ◌++◌, map, Bool, true, false, ◌||◌, cond}
+use Rattle.std.proofs.Common.{◌≡◌, ℕ, zero, suc, List, [], ◌∷◌, map, Bool, true, false, ◌||◌, cond}
 use Rattle.std.proofs.Common.{Some, refl, sym, ap, ◌∙◌}
-use Rattle.std.specs.Prelude.{slice_get}
 use Rattle.std.specs.Str.{bytes_eq}
 use Rattle.std.proofs.lemmas.Bool.{or_parts}
 use Rattle.std.proofs.lemmas.Slice.Eq.{bytes_eq-Decides}
@@ -9,11 +8,10 @@ use Rattle.std.proofs.lemmas.Option.{same_Some}
 use Rattle.ol_term.specs.NameLists.{NoNameTwice, without}
 use Rattle.ol_term.specs.BinderNames.{is_among}
 use Rattle.ol_term.proofs.BinderTexts.{among_at}
-use Rattle.ol_parse.specs.Grammar.{Named, var, lam, app, Token, name, in_key, dot}
+use Rattle.ol_parse.specs.Grammar.{Named, Token, name, in_key, dot}
 use Rattle.ol_parse.specs.Grammar.{close_bracket, lams, IsTerm, term_body}
 use Rattle.ol_parse.specs.Grammar.{term_spine, term_both, IsSpine, spine_one, spine_more, IsAtom}
 use Rattle.ol_parse.specs.Grammar.{atom_name, atom_brackets, IsBody, body_lambda, body_let}
-use Rattle.ol_parse.specs.Texts.{IsText}
 use Rattle.ol_parse.specs.Numbered.{free_in, once, names_of}
 use Rattle.ol_parse.specs.Parsed.{AreNames}
 use Rattle.ol_steps.specs.BinderLaws.{AllNames, TextHasNames}

@@ -23,3 +23,16 @@ Fits (tree.free k) leaf = Unit {0}
 Fits (tree.lam t) (lam x s) = Fits t s
 Fits (tree.app f a) (app r s) = Fits f r × Fits a s
 Fits _ _ = ⊥
+
+-- those in the body of an abstraction, in the function of an application, and in its argument
+abbrev pub names_in_body : Binders → Binders
+names_in_body (lam x s) = s
+names_in_body s = s
+
+abbrev pub names_in_function : Binders → Binders
+names_in_function (app r s) = r
+names_in_function s = s
+
+abbrev pub names_in_argument : Binders → Binders
+names_in_argument (app r s) = s
+names_in_argument s = s

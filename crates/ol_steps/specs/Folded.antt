@@ -1,6 +1,5 @@
 -- A term whose parts are written by names, where they have the value of one.
 use Rattle.std.specs.Prelude.{ℕ, ◌+◌, ◌==◌, Bool, false, ◌&&◌, if◌then◌else◌, List, [], ◌∷◌, Option, None, Some}
-use Rattle.ol_term.specs.Trees as tree
 use Rattle.ol_term.specs.Trees.{Tree, var, free, lam, app}
 use Rattle.ol_steps.specs.Binders as binders
 use Rattle.ol_steps.specs.Binders.{Binders}

@@ -11,6 +11,7 @@ use Rattle.ol_steps.specs.Binders as binders
 use Rattle.ol_steps.specs.Binders.{Binders, Fits}
 use Rattle.ol_steps.specs.Contraction as own
 use Rattle.ol_steps.specs.Folded.{folded_at, pruned}
+use Rattle.ol_steps.specs.Words.{with_words}
 use Rattle.ol_steps.specs.Fronts.{BeginsWithLets}
 use Rattle.ol_steps.specs.Lets.{let_names, lets, names_of_lets, values_of_lets, is_let_at}
 
@@ -39,15 +40,16 @@ abbrev pub FoldedFits : Type 0
 FoldedFits = (n : ℕ) (vs : List Tree) (at : Option (List ℕ)) (t : Tree) (s : Binders) → Fits t s →
     Fits (folded_at n vs at t) (pruned (folded_at n vs at t) s)
 
--- no name of a let is a free name, or that of another let which counts
+-- no name of a let is a free name, or that of another let which counts, and no word of several is a name
 abbrev pub LetsDiffer : Type 0
-LetsDiffer = (names later : List (List ℕ)) (t : Tree) → NoNameTwice names →
-    NoNameTwice (names ++ names_of_lets (lets names later t))
+LetsDiffer = (names later : List (List ℕ)) (t : Tree) (s : Binders) → NoNameTwice names →
+    NoNameTwice (names ++ names_of_lets (with_words names (lets names later t s)))
 
--- the value of each let is closed
+-- the value of each is closed
 abbrev pub ValuesAreClosed : Type 0
-ValuesAreClosed = (names later : List (List ℕ)) (t v : Tree) (k : ℕ) → is_below 0 t ≡ true →
-    slice_get (values_of_lets (lets names later t)) k ≡ Some v → (is_below 0 v ≡ true) × (is_named_below 0 v ≡ true)
+ValuesAreClosed = (names later : List (List ℕ)) (t v : Tree) (s : Binders) (k : ℕ) → is_below 0 t ≡ true →
+    slice_get (values_of_lets (with_words names (lets names later t s))) k ≡ Some v →
+    (is_below 0 v ≡ true) × (is_named_below 0 v ≡ true)
 
 -- ---- no value is left
 

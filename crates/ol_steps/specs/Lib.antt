@@ -12,6 +12,7 @@ pub mod BinderLaws
 pub mod Fronts
 pub mod Lets
 pub mod Folded
+pub mod Words
 pub mod ValueTrees
 pub mod LetLaws
 pub mod Steps

@@ -1,7 +1,7 @@
 -- Private: what is seen of a text of the grammar, byte by byte.
-use Rattle.std.specs.Prelude.{ℕ, List, [], ◌∷◌, ◌++◌, Bool, nat_eq, cond}
+use Rattle.std.specs.Prelude.{ℕ, List, [], ◌∷◌, ◌++◌, nat_eq, cond}
 use Rattle.ol_parse.specs.Grammar.{lambda, dot, equals, open_bracket, close_bracket}
-use Rattle.ol_parse.specs.Texts.{Class, blank, hash, letter, digit, sign, lead, other, class_of, in_word, token_of}
+use Rattle.ol_parse.specs.Texts.{Class, hash, letter, digit, sign, lead, class_of, in_word, token_of}
 use Rattle.ol_steps.specs.Sights.{Sight, take}
 use Rattle.ol_steps.specs.declared.bytes.Kind.{Kind}
 use Rattle.ol_steps.specs.declared.bytes.Kind.TheVariants as kind

@@ -1,6 +1,6 @@
 -- What a term that comes back says of the first term, what carets stand under, and what stands at an address. Also that
 -- what is printed is read again, and that how terms are shown changes no end.
-use Rattle.std.specs.Prelude.{◌≡◌, ℕ, ◌+◌, ◌^◌, ◌<◌, ◌==◌, Bool, true, false, if◌then◌else◌, ◌⊎◌, List, [], ◌∷◌, ◌++◌, codes, length}
+use Rattle.std.specs.Prelude.{◌≡◌, ℕ, ◌+◌, ◌^◌, ◌<◌, ◌==◌, Bool, true, false, ◌||◌, if◌then◌else◌, ◌⊎◌, List, [], ◌∷◌, ◌++◌, codes, length}
 use Rattle.std.specs.Prelude.{slice_get, slice_index_or, Option, Some, is_some, IsSome}
 use Rattle.ol_term.specs.Trees as tree
 use Rattle.ol_term.specs.Trees.{Tree, is_named_below}
@@ -25,10 +25,12 @@ use Rattle.ol_steps.specs.Binders as binders
 use Rattle.ol_steps.specs.Binders.{Binders, binders_of, Fits}
 use Rattle.ol_steps.specs.Naming.{named}
 use Rattle.ol_steps.specs.Fronts.{BeginsWithLets}
-use Rattle.ol_steps.specs.Folded.{folded_at, pruned}
+use Rattle.ol_steps.specs.Folded.{pruned}
+use Rattle.ol_steps.specs.Lets.{LetRow, values_of_lets}
+use Rattle.ol_steps.specs.Words.{Glossary, written_number, word_for, worded_at}
 use Rattle.ol_steps.specs.LetLaws.{unfolded, subterm_along}
 use Rattle.ol_steps.specs.declared.stepping.Shown.{Shown}
-use Rattle.ol_steps.specs.Steps.{Walk, Glossary, glossary, last_binders, shown_term, shown_tree, term_line}
+use Rattle.ol_steps.specs.Steps.{Walk, glossary, last_binders, shown_term, shown_tree, term_line}
 use Rattle.ol_steps.specs.Steps.{begun, last_unfolding, IsStepsOf}
 
 -- beta reduction of a term comes to a weak head normal form
@@ -79,7 +81,7 @@ RedexIsMarked = (order : Order) (own : Bool) (names : List (List ℕ)) (t : Tree
 
 -- an abstraction, or the name of a value that is one
 abbrev pub StandsForAbstraction : Glossary → Named → Type 0
-StandsForAbstraction g (var x) = (k : ℕ) × (body : Tree) × (slice_get g.values k ≡ Some (tree.lam body))
+StandsForAbstraction g (var x) = (k : ℕ) × (body : Tree) × (slice_get (values_of_lets g.rows) k ≡ Some (tree.lam body))
     × (x ≡ slice_index_or g.names (g.first + k) [])
 StandsForAbstraction g (lam x t) = Unit {0}
 StandsForAbstraction g (app f a) = ⊥
@@ -93,8 +95,8 @@ IsFoldedRedex g u = (function : Named) × (argument : Named) × (u ≡ app funct
 abbrev pub FoldedRedexIsMarked : Type 0
 FoldedRedexIsMarked = (how : Shown) (g : Glossary) (t : Tree) (s : Binders) (at : List ℕ) →
     (how.named ≡ true → Fits t s) → next how.order t ≡ Some at →
-    MarksRedex (IsFoldedRedex g) how.named g.names (shown_tree how g t) (pruned (shown_tree how g t) s) at
-    (shown_term how.named g.names (shown_tree how g t) (pruned (shown_tree how g t) s))
+    MarksRedex (IsFoldedRedex g) how.named g.names (shown_tree how g t s) (pruned (shown_tree how g t s) s) at
+    (shown_term how.named g.names (shown_tree how g t s) (pruned (shown_tree how g t s) s))
 
 -- the names of the binders round the part at an address of a term with names, the innermost first
 abbrev pub binders_round : Named → List ℕ → List (List ℕ)
@@ -152,12 +154,12 @@ pub record StandsForRedex (g : Glossary) (folded t : Tree) (at : List ℕ) : Typ
   pub argument : Tree
   pub shown : subterm_along folded at ≡ Some part
   pub redex : subterm_along t at ≡ Some (tree.app (tree.lam body) argument)
-  pub unfolds : unfolded g.first g.values part ≡ tree.app (tree.lam body) argument
+  pub unfolds : unfolded g.first (values_of_lets g.rows) part ≡ tree.app (tree.lam body) argument
 
 -- it is so at the address of the redex that comes next
 abbrev pub UnfoldsToNext : Type 0
-UnfoldsToNext = (how : Shown) (g : Glossary) (t : Tree) (at : List ℕ) → is_named_below g.first t ≡ true →
-    next how.order t ≡ Some at → StandsForRedex g (shown_tree how g t) t at
+UnfoldsToNext = (how : Shown) (g : Glossary) (t : Tree) (s : Binders) (at : List ℕ) → is_named_below g.first t ≡ true →
+    next how.order t ≡ Some at → StandsForRedex g (shown_tree how g t s) t at
 
 -- A tree whose binders have these names: they have its shape, and what is printed is read again, as a term of the same
 -- tree. So no binder takes what isn't its own.
@@ -183,14 +185,19 @@ LettersReadAgain = (order : Order) (bytes : List ℕ) (source : Named) (v : Tree
     IsWithin (number source) → length (names_of source) < 2 ^ 32 → Walk order (number source) terms v →
     ReadsLetters (names_of source) v
 
--- What is printed of a tree that is folded with a glossary: it is read again as the folded tree, and, where the values are
--- put in the places of their names, as the tree.
+-- a bar is among some bytes
+abbrev pub has_bar : List ℕ → Bool
+has_bar [] = false
+has_bar (b ∷ bs) = (b == 124) || has_bar bs
+
+-- What is printed of a tree that is folded with a glossary. If no bar is in it, it is read again. As a term it is the
+-- folded tree, and, where the values are put in the places of their names, the tree.
 pub record ReadsFolded (own : Bool) (g : Glossary) (at : Option (List ℕ)) (t : Tree) (s : Binders) (u : Named)
     : Type 0 where
-  pub is : u ≡ shown_term own g.names (folded_at g.first g.values at t) (pruned (folded_at g.first g.values at t) s)
-  pub text : IsText (named_text false u) u
-  pub folded : numbered g.names [] u ≡ folded_at g.first g.values at t
-  pub tree : unfolded g.first g.values (numbered g.names [] u) ≡ t
+  pub is : u ≡ shown_term own g.names (worded_at g at t s) (pruned (worded_at g at t s) s)
+  pub text : has_bar (named_text false u) ≡ false → IsText (named_text false u) u
+  pub folded : numbered g.names [] u ≡ worded_at g at t s
+  pub tree : unfolded g.first (values_of_lets g.rows) (numbered g.names [] u) ≡ t
 
 -- it is so with each term of a walk from the term of a text, whatever redex is shown, and however many lets are told apart
 abbrev pub FoldedReadsAgain : Type 0
@@ -207,6 +214,13 @@ FoldedLettersReadAgain = (order : Order) (at : Option (List ℕ)) (n : ℕ) (byt
     Walk order (number source) terms v →
     (u : Named) × ReadsFolded false (glossary (names_of source) n (number source) (binders_of source)) at v
     (last_binders order (binders_of source) terms) u
+
+-- in the glossary of a text's term, a part that has become the name of a let is written by the word of the let's value
+abbrev pub WordIsShown : Type 0
+WordIsShown = (bytes : List ℕ) (n : ℕ) (source : Named) (g : Glossary) (s : Binders) (k : ℕ) (row : LetRow) →
+    IsText bytes source → g ≡ glossary (names_of source) n (number source) (binders_of source) →
+    slice_get g.lets k ≡ Some row →
+    slice_index_or g.names (written_number g (g.first + k) s) [] ≡ word_for g.lets row.value s
 
 -- The count of a walk's steps is that of the order's steps from its first term to its last: each counts, also one that
 -- only unfolds a let.

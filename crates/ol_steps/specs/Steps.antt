@@ -6,6 +6,7 @@ use Rattle.ol_term.specs.declared.translations.Translation.TheVariants.{Two}
 use Rattle.ol_term.specs.Trees as tree
 use Rattle.ol_term.specs.Trees.{Tree}
 use Rattle.ol_term.specs.Texts.{text_of_term}
+use Rattle.ol_limits.specs.Limits.{most_depth, most_size}
 use Rattle.ol_beta.specs.Beta.{IsWithin, IsPast, IsPastAfter}
 use Rattle.ol_beta.specs.AddressTexts.{address_text}
 use Rattle.ol_strategies.specs.Redexes.{next}
@@ -27,8 +28,9 @@ use Rattle.ol_steps.specs.Binders.{Binders, binders_of}
 use Rattle.ol_steps.specs.Contraction.{contracted}
 use Rattle.ol_steps.specs.Naming as own
 use Rattle.ol_steps.specs.Fronts.{BeginsWithLets}
-use Rattle.ol_steps.specs.Lets.{let_names, lets, names_of_lets, values_of_lets, is_let_at}
-use Rattle.ol_steps.specs.Folded.{folded_at, pruned}
+use Rattle.ol_steps.specs.Lets.{let_names, lets, names_of_lets, is_let_at}
+use Rattle.ol_steps.specs.Folded.{pruned}
+use Rattle.ol_steps.specs.Words.{Glossary, with_words, worded_at}
 use Rattle.ol_steps.specs.declared.stepping.Shown.{Shown}
 use Rattle.ol_steps.specs.declared.showing.Unfolding.{Unfolding}
 
@@ -69,24 +71,18 @@ abbrev pub redex_lines : Shown → List (List ℕ) → Tree → Binders → Opti
 redex_lines how names t s None = []
 redex_lines how names t s (Some at) = carets_if how.marked (shown_term how.named names t s) at ++ address_line at
 
--- The names that are printed. From one number on they stand for values.
-pub record Glossary : Type 0 where
-  pub names : List (List ℕ)
-  pub first : ℕ
-  pub values : List Tree
-
 -- a term as it is shown: its parts that are values are names, but for the redex that comes next and what it stands in
-abbrev pub shown_tree : Shown → Glossary → Tree → Tree
-shown_tree how g t = folded_at g.first g.values (next how.order t) t
+abbrev pub shown_tree : Shown → Glossary → Tree → Binders → Tree
+shown_tree how g t s = worded_at g (next how.order t) t s
 
 -- the line of a term as it is shown
 abbrev pub shown_line : Shown → Glossary → Tree → Binders → List ℕ
-shown_line how g t s = term_line how.named g.names (shown_tree how g t) (pruned (shown_tree how g t) s)
+shown_line how g t s = term_line how.named g.names (shown_tree how g t s) (pruned (shown_tree how g t s) s)
 
 -- a term as it is shown, and where its redex is that comes next in the order
 abbrev pub step_lines : Shown → Glossary → Tree → Binders → List ℕ
 step_lines how g t s = shown_line how g t s
-    ++ redex_lines how g.names (shown_tree how g t) (pruned (shown_tree how g t) s) (next how.order t)
+    ++ redex_lines how g.names (shown_tree how g t s) (pruned (shown_tree how g t s) s) (next how.order t)
 
 -- the names of a term's binders after a step: each abstraction keeps its name
 abbrev pub binders_after : Option (List ℕ) → Tree → Binders → Binders
@@ -158,8 +154,8 @@ last_line words made = words ++ codes " after " ++ how_many made (codes "step") 
 -- the last line where a step's term is out of bounds
 abbrev pub past_line : ℕ → ℕ → ℕ → List ℕ
 past_line made size depth =
-    codes "past at step " ++ decimal made ++ codes ": size " ++ decimal size
-    ++ codes ", depth " ++ decimal depth ++ codes "\n"
+    codes "step " ++ decimal made ++ codes " exceeds the limits: size " ++ decimal size ++ codes " of " ++ decimal most_size
+    ++ codes ", depth " ++ decimal depth ++ codes " of " ++ decimal most_depth ++ codes "\n"
 
 -- the words for what an order ends in
 abbrev pub reached_words : Reached → List ℕ
@@ -227,9 +223,10 @@ HasLets false bytes n = n ≡ 0
 -- the free names of a term, and behind them those of the lets at its front, where its binders have these names
 abbrev pub glossary : List (List ℕ) → ℕ → Tree → Binders → Glossary
 glossary names n t s = record {
-  names = names ++ names_of_lets (lets names (let_names n s) t);
+  names = names ++ names_of_lets (with_words names (lets names (let_names n s) t s));
   first = length names;
-  values = values_of_lets (lets names (let_names n s) t);
+  rows = with_words names (lets names (let_names n s) t s);
+  lets = lets names (let_names n s) t s;
 }
 
 -- The answer to a file, by at most so many steps.

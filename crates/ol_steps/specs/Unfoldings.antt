@@ -10,7 +10,7 @@ use Rattle.ol_parse.specs.Texts.{IsText}
 use Rattle.ol_parse.specs.Numbered.{names_of, number}
 use Rattle.ol_steps.specs.Binders.{Binders, binders_of, Fits}
 use Rattle.ol_steps.specs.Fronts.{BeginsWithLets}
-use Rattle.ol_steps.specs.Lets.{let_names, is_let_at}
+use Rattle.ol_steps.specs.Lets.{let_names, is_let_at, values_of_lets}
 use Rattle.ol_steps.specs.LetLaws.{subterm_along, IsOffTheWay, redex_binder}
 use Rattle.ol_steps.specs.Steps.{Walk, glossary, shown_tree, next_binders, last_binders, unfolds, begun, unfolding_after, last_unfolding}
 use Rattle.ol_steps.specs.declared.stepping.Shown.{Shown}
@@ -61,7 +61,7 @@ LetsAreUnfolded = (order : Order) (bytes : List ℕ) (n : ℕ) (source : Named) 
 -- no subterm of a term that is shown is the value of a let that counts, but for the redex that comes next and what this
 -- stands in
 abbrev pub NoValueIsShown : Type 0
-NoValueIsShown = (how : Shown) (n : ℕ) (source : Named) (v value : Tree) (at : List ℕ) (k : ℕ) →
-    slice_get (glossary (names_of source) n (number source) (binders_of source)).values k ≡ Some value →
+NoValueIsShown = (how : Shown) (n : ℕ) (source : Named) (v value : Tree) (s : Binders) (at : List ℕ) (k : ℕ) →
+    slice_get (values_of_lets (glossary (names_of source) n (number source) (binders_of source)).rows) k ≡ Some value →
     IsOffTheWay (next how.order v) at →
-    subterm_along (shown_tree how (glossary (names_of source) n (number source) (binders_of source)) v) at ≡ Some value → ⊥
+    subterm_along (shown_tree how (glossary (names_of source) n (number source) (binders_of source)) v s) at ≡ Some value → ⊥

@@ -1,7 +1,12 @@
--- Values as they are kept.
+-- Names with their values, whatever boxes hold them.
 use Rattle.std.specs.Prelude.{List, map}
-use Rattle.ol_term.specs.declared.terms.Term.{Term}
-use Rattle.ol_term.specs.Trees.{Tree, tree_of}
+use Rattle.ol_term.specs.Trees.{tree_of}
+use Rattle.ol_steps.specs.declared.lets.NamedValue.{NamedValue}
+use Rattle.ol_steps.specs.Trees.{binders_in}
+use Rattle.ol_steps.specs.Lets.{LetRow}
 
-abbrev pub trees_of : List Term → List Tree
-trees_of terms = map tree_of terms
+abbrev pub row_of : NamedValue → LetRow
+row_of v = record { name = v.name.items; value = tree_of v.value; binders = binders_in v.binders }
+
+abbrev pub rows_of : List NamedValue → List LetRow
+rows_of values = map row_of values

@@ -5,43 +5,44 @@ ghost use Rattle.std.specs.Option.{option_map};
 ghost use Rattle.ol_term.specs.Trees as tree;
 ghost use Rattle.ol_term.specs.Trees.{tree_of};
 ghost use Rattle.ol_steps.specs.Trees.{binders_in};
-ghost use Rattle.ol_steps.specs.ValueTrees.{trees_of};
+ghost use Rattle.ol_steps.specs.Lets.{values_of_lets};
+ghost use Rattle.ol_steps.specs.ValueTrees.{rows_of};
 ghost use Rattle.ol_steps.specs.Folded.{all_folded, folded_round, is_same, or_name, pruned, value_at};
 
-use crate::lets::Lets;
+use crate::lets::{Lets, NamedValue};
 use crate::trees::BinderTree;
 use ol_limits::NoMemory;
 use ol_term::{Term, alpha_eq};
 use std::alloc::Global;
 
-fn is_same(term: &Term, other: &Term) -> bool
+pub fn is_same(term: &Term, other: &Term) -> bool
     ensures { result ≡ is_same (tree_of term.now) (tree_of other.now) }
 {
     alpha_eq(term, other)
 }
 
-// The number of the first of these values that a term is.
-fn value_at(first: u32, values: &[Term], term: &Term) -> Option<u32>
-    requires few { first + length values.now < 2 ^ 32 }
-    ensures { result ≡ value_at first (trees_of values.now) (tree_of term.now) }
+// The number of the first of these rows whose value a term is.
+fn value_at(first: u32, rows: &[NamedValue], term: &Term) -> Option<u32>
+    requires few { first + length rows.now < 2 ^ 32 }
+    ensures { result ≡ value_at first (values_of_lets (rows_of rows.now)) (tree_of term.now) }
 {
-    let Some((value, rest)) = values.split_first() else {
+    let Some((row, left)) = rows.split_first() else {
         return None;
     };
-    if is_same(value, term) {
+    if is_same(&row.value, term) {
         return Some(first);
     }
-    value_at(first + 1, rest, term)
+    value_at(first + 1, left, term)
 }
 
-fn abstraction(alloc: Global, body: Term) -> Result<Term, NoMemory>
+pub fn abstraction(alloc: Global, body: Term) -> Result<Term, NoMemory>
     ensures { IfOk result (λ t. tree_of t ≡ tree.lam (tree_of body)) }
 {
     let body = Box::new(alloc, body)?;
     Ok(Term::Lam(body))
 }
 
-fn application(alloc: Global, function: Term, argument: Term) -> Result<Term, NoMemory>
+pub fn application(alloc: Global, function: Term, argument: Term) -> Result<Term, NoMemory>
     ensures { IfOk result (λ t. tree_of t ≡ tree.app (tree_of function) (tree_of argument)) }
 {
     let function = Box::new(alloc, function)?;
@@ -50,28 +51,28 @@ fn application(alloc: Global, function: Term, argument: Term) -> Result<Term, No
 }
 
 // A term with these values written by their numbers.
-fn fold_part(alloc: Global, first: u32, values: &[Term], term: &Term) -> Result<Term, NoMemory>
-    requires few { first + length values.now < 2 ^ 32 }
+fn fold_part(alloc: Global, first: u32, rows: &[NamedValue], term: &Term) -> Result<Term, NoMemory>
+    requires few { first + length rows.now < 2 ^ 32 }
     ensures { IfOk result (λ t.
-        tree_of t ≡ all_folded first (trees_of values.now) (tree_of term.now)) }
+        tree_of t ≡ all_folded first (values_of_lets (rows_of rows.now)) (tree_of term.now)) }
 {
     match term {
         Term::Var(k) => Ok(Term::Var(*k)),
         Term::Free(k) => Ok(Term::Free(*k)),
         Term::Lam(body) => {
-            if let Some(name) = value_at(first, values, term) {
+            if let Some(name) = value_at(first, rows, term) {
                 return Ok(Term::Free(name));
             }
-            let body = fold_part(alloc, first, values, body)?;
+            let body = fold_part(alloc, first, rows, body)?;
             let part = abstraction(alloc, body)?;
             Ok(part)
         }
         Term::App(function, argument) => {
-            if let Some(name) = value_at(first, values, term) {
+            if let Some(name) = value_at(first, rows, term) {
                 return Ok(Term::Free(name));
             }
-            let function = fold_part(alloc, first, values, function)?;
-            let argument = fold_part(alloc, first, values, argument)?;
+            let function = fold_part(alloc, first, rows, function)?;
+            let argument = fold_part(alloc, first, rows, argument)?;
             let part = application(alloc, function, argument)?;
             Ok(part)
         }
@@ -82,20 +83,22 @@ fn fold_part(alloc: Global, first: u32, values: &[Term], term: &Term) -> Result<
 pub fn copy(alloc: Global, term: &Term) -> Result<Term, NoMemory>
     ensures { IfOk result (λ t. tree_of t ≡ tree_of term.now) }
 {
-    let none: Vec<Term> = Vec::new(alloc);
+    let none: Vec<NamedValue> = Vec::new(alloc);
     let copy = fold_part(alloc, 0, &none, term)?;
     Ok(copy)
 }
 
 /// A term in which each abstraction or application that is the value of a let is the let's name. A
-/// variable or a free name stays what it is. If a part is the value of several, the first one's
-/// name in the list is taken. Parts of such a part aren't looked at. The calls recurse as deep as
-/// the term is, and for each let. `NoMemory`: no memory was found.
+/// variable or a free name stays what it is. If a part is the value of several lets, the name is
+/// that of the first in the list; `word` then replaces the name by the word of the part. Parts of
+/// such a part aren't looked at. The calls recurse as deep as the term is, and for each let.
+/// `NoMemory`: no memory was found.
 pub fn fold(alloc: Global, lets: &Lets, term: &Term) -> Result<Term, NoMemory>
     ensures { IfOk result (λ t. tree_of t
-        ≡ all_folded lets.now.first (trees_of lets.now.values.items) (tree_of term.now)) }
+        ≡ all_folded lets.now.first (values_of_lets (rows_of lets.now.rows.items))
+        (tree_of term.now)) }
 {
-    let whole = fold_part(alloc, lets.first, &lets.values, term)?;
+    let whole = fold_part(alloc, lets.first, &lets.rows, term)?;
     Ok(whole)
 }
 
@@ -104,7 +107,7 @@ pub fn fold(alloc: Global, lets: &Lets, term: &Term) -> Result<Term, NoMemory>
 /// as it is. `NoMemory`: no memory was found.
 pub fn fold_round(alloc: Global, lets: &Lets, term: &Term, at: &[u8]) -> Result<Term, NoMemory>
     ensures { IfOk result (λ t. tree_of t
-        ≡ folded_round lets.now.first (trees_of lets.now.values.items) at.now
+        ≡ folded_round lets.now.first (values_of_lets (rows_of lets.now.rows.items)) at.now
         (tree_of term.now)) }
 {
     match (term, at.split_first()) {

@@ -4,7 +4,7 @@
 ghost use Rattle.ol_steps.specs.TextLaws.{LetteredIsText, MarkIsUnder};
 ghost use Rattle.ol_steps.specs.BinderLaws.{ContractedFits, LettersAreRead, NamedIsRead, NoneIsCaught, PrimedIsLeast, SourceFits, SourceIsKept, TextHasNames};
 ghost use Rattle.ol_steps.specs.LetLaws.{FoldedFits, LetGoes, LetsDiffer, LetsStay, NothingIsLeft, NothingIsPruned, NoValueNoChange, TextHasLets, UnfoldedIsTerm, ValuesAreClosed};
-ghost use Rattle.ol_steps.specs.StepLaws.{BindersAlongFit, EachStepCounts, FoldedLettersReadAgain, FoldedReadsAgain, FoldedRedexIsMarked, LetteredPartIsSubterm, LettersReadAgain, NamedPartIsSubterm, NoLetSameAnswer, PartIsRead, PartsAreThere, ReadsAgain, RedexIsMarked, ReturnIsEndless, ReturnHasNone, ShowingChangesNoEnd, UnfoldsToNext};
+ghost use Rattle.ol_steps.specs.StepLaws.{BindersAlongFit, EachStepCounts, FoldedLettersReadAgain, FoldedReadsAgain, FoldedRedexIsMarked, LetteredPartIsSubterm, LettersReadAgain, NamedPartIsSubterm, NoLetSameAnswer, PartIsRead, PartsAreThere, ReadsAgain, RedexIsMarked, ReturnIsEndless, ReturnHasNone, ShowingChangesNoEnd, UnfoldsToNext, WordIsShown};
 ghost use Rattle.ol_steps.specs.Unfoldings.{LetsAreUnfolded, NoValueIsShown};
 
 /// A term with the names that it is printed with has its printed text.
@@ -81,7 +81,8 @@ pub fn folded_fits()
     ensures { FoldedFits }
 {}
 
-/// No name of a let is a free name or that of another let that counts. The value of each is closed.
+/// No name of a let is a free name or that of another let that counts, and no word of several lets is
+/// a name. The value of each is closed.
 pub fn lets_differ()
     ensures names { LetsDiffer }
     ensures values { ValuesAreClosed }
@@ -154,21 +155,28 @@ pub fn names_are_read_again()
 
 /// Let steps be made from the source, which has fewer than 4,294,967,296 free names. If each term
 /// of a reduction is printed with letters for its binders, it is read again, with these names, as a
-/// term of the same tree. Let parts be written by the names of lets, and let the names of lets and
-/// the free names together be fewer than 4,294,967,296. Then what is printed is read again as the
-/// folded term, with all these names. If the lets' values are put in the places of their names, it
-/// is the term of the reduction.
+/// term of the same tree. Let parts be written by the names of lets, and let these names and the
+/// free names together be fewer than 4,294,967,296. Then what is printed is the folded term, with
+/// all these names, and is read again if no bar is in it. If the lets' values are put in the places
+/// of their names, it is the term of the reduction.
 pub fn letters_are_read_again()
     ensures plain { LettersReadAgain }
     ensures folded { FoldedLettersReadAgain }
 {}
 
 /// What is printed of a term of a reduction whose parts are written by the names of lets, if the
-/// binders keep the names that they have in the file, is read again, with the free names of the
-/// source and those of the lets. If the lets' values are put in the places of their names, it is
-/// the term of the reduction. So no binder captures the name of a let.
+/// binders keep the names that they have in the file, is read again if no bar is in it, with the
+/// free names of the source and those of the lets. If the lets' values are put in the places of
+/// their names, it is the term of the reduction. So no binder captures the name of a let.
 pub fn folds_are_read_again()
     ensures { FoldedReadsAgain }
+{}
+
+/// With the lets of a text, a part that is the value of a let is written by a word: the names of
+/// all lets of this value whose binders have the names of the part's binders, or, if there are
+/// none, the names of all lets of this value.
+pub fn words_are_shown()
+    ensures { WordIsShown }
 {}
 
 /// Each step of a reduction is counted, also one that only unfolds a let. So the numbers of steps

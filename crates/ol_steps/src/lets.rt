@@ -1,26 +1,40 @@
 //! The lets at the front of a term.
 
-ghost use Rattle.std.specs.Prelude.{◌≡◌, ◌+◌, ◌-◌, ◌<◌, ◌^◌, ◌++◌, ◌∷◌, [], true, false, map, length, not, ◌&&◌, IfNone, IfOk, IfSome, OnOk, Some};
+ghost use Rattle.std.specs.Prelude.{◌≡◌, ◌+◌, ◌-◌, ◌<◌, ◌^◌, ◌++◌, ◌≤◌, ◌∷◌, [], true, false, length, not, take, ◌&&◌, IfNone, IfOk, IfSome, OnOk, Some};
 ghost use Rattle.ol_term.specs.Trees.{tree_of, is_below, is_named_below, term_size};
 ghost use Rattle.ol_term.specs.BinderNames.{is_among};
 ghost use Rattle.ol_beta.specs.Beta.{contracted, IsWithin};
 ghost use Rattle.ol_steps.specs.Trees.{binders_in};
-ghost use Rattle.ol_steps.specs.ValueTrees.{trees_of};
-ghost use Rattle.ol_steps.specs.Lets.{is_closed, is_let_at, no_more, let_names, lets, names_of_lets, row_if, value_of, values_of_lets};
+ghost use Rattle.ol_steps.specs.ValueTrees.{rows_of};
+ghost use Rattle.ol_steps.specs.Words.{with_words};
+ghost use Rattle.ol_steps.specs.Lets.{is_closed, is_let_at, no_more, let_names, lets, names_of_lets, row_if, value_of};
 
+use crate::contracting::contract;
 use crate::folding::copy;
-use crate::trees::BinderTree;
+use crate::trees::{BinderTree, copied, names_in_argument};
+use crate::wording::add_words;
 use ol_beta::{Address, BetaFault, beta};
 use ol_limits::NoMemory;
 use ol_term::{Names, Term};
 use std::alloc::Global;
 
-/// The values of lets, whose names are numbered from `first` on.
+/// A name, the value for which it stands, and the names of the value's binders.
+#[derive(Drop)]
+pub struct NamedValue {
+    pub name: Vec<u8>,
+    pub value: Term,
+    pub binders: BinderTree,
+}
+
+/// The values of names, which are numbered from `first` on: first those of `own` lets, and then
+/// those of words that are several names of lets.
 #[derive(Drop)]
 pub struct Lets {
     pub first: u32,
-    pub values: Vec<Term>,
-    ghost few: { first + length values.items < 2 ^ 32 },
+    pub rows: Vec<NamedValue>,
+    pub own: usize,
+    ghost few: { first + length rows.items < 2 ^ 32 },
+    ghost within: { own ≤ length rows.items },
 }
 
 fn is_closed(term: &Term) -> bool
@@ -72,7 +86,7 @@ fn is_let_name(count: u32, binders: &BinderTree, name: &[u8]) -> bool
     }
 }
 
-fn is_name(names: &Names, name: &[u8]) -> bool
+pub fn is_name(names: &Names, name: &[u8]) -> bool
     ensures { result ≡ is_among names.now name.now }
 {
     let Some(_place) = names.find(name) else {
@@ -119,20 +133,21 @@ fn behind(alloc: Global, term: &Term) -> Result<Option<Term>, NoMemory>
     }
 }
 
-// A let that counts: its name and its value go last.
-fn add_if(
+// Appends a row that counts, and its name.
+pub fn add_if(
     alloc: Global,
     names: &mut Names,
-    values: &mut Vec<Term>,
+    rows: &mut Vec<NamedValue>,
     kept: bool,
     name: &[u8],
     value: &Term,
+    binders: &BinderTree,
 ) -> Result<(), NoMemory>
     requires new { kept ≡ true → is_among names.old name.now ≡ false }
-    ensures names { OnOk result
-        (names.new ≡ names.old ++ names_of_lets (row_if kept name.now (tree_of value.now))) }
-    ensures values { OnOk result (trees_of values.new.items ≡ trees_of values.old.items
-        ++ values_of_lets (row_if kept name.now (tree_of value.now))) }
+    ensures names { OnOk result (names.new ≡ names.old ++ names_of_lets
+        (row_if kept name.now (tree_of value.now) (binders_in binders.now))) }
+    ensures rows { OnOk result (rows_of rows.new.items ≡ rows_of rows.old.items
+        ++ row_if kept name.now (tree_of value.now) (binders_in binders.now)) }
 {
     if !kept {
         return Ok(());
@@ -140,49 +155,58 @@ fn add_if(
     if names.len() == u32::MAX {
         return Err(NoMemory);
     }
-    let value = copy(alloc, value)?;
+    let row = NamedValue {
+        name: Vec::from_slice(alloc, name)?,
+        value: copy(alloc, value)?,
+        binders: copied(alloc, binders)?,
+    };
     names.add(name)?;
-    values.push(value)?;
+    rows.push(row)?;
     Ok(())
 }
 
-// The lets, the last one first: their names go behind those that are there, their values behind
-// those.
+// Appends the lets, the last one first, and their names. `front` has the names of the lets, and
+// `binders` those of the binders of the term.
 fn gather(
     alloc: Global,
     names: &mut Names,
-    values: &mut Vec<Term>,
+    rows: &mut Vec<NamedValue>,
     count: u32,
-    binders: &BinderTree,
+    front: &BinderTree,
     term: &Term,
+    binders: &BinderTree,
 ) -> Result<(), NoMemory>
     requires bound { is_below 0 (tree_of term.now) ≡ true }
     requires within { IsWithin (tree_of term.now) }
     ensures names { OnOk result (names.new ≡ names.old ++ names_of_lets
-        (lets names.old (let_names count (binders_in binders.now)) (tree_of term.now))) }
-    ensures values { OnOk result (trees_of values.new.items ≡ trees_of values.old.items
-        ++ values_of_lets
-        (lets names.old (let_names count (binders_in binders.now)) (tree_of term.now))) }
+        (lets names.old (let_names count (binders_in front.now)) (tree_of term.now)
+        (binders_in binders.now))) }
+    ensures rows { OnOk result (rows_of rows.new.items ≡ rows_of rows.old.items
+        ++ lets names.old (let_names count (binders_in front.now)) (tree_of term.now)
+        (binders_in binders.now)) }
 {
-    let Some((name, inner)) = outermost(count, binders) else {
+    let Some((name, inner)) = outermost(count, front) else {
         return Ok(());
     };
     let kept = is_kept(names, count - 1, inner, name, term);
+    let own = names_in_argument(binders);
     let Some(next) = behind(alloc, term)? else {
-        add_if(alloc, names, values, kept, name, value_of(term))?;
+        add_if(alloc, names, rows, kept, name, value_of(term), own)?;
         return Ok(());
     };
-    gather(alloc, names, values, count - 1, inner, &next)?;
-    add_if(alloc, names, values, kept, name, value_of(term))?;
+    let after = contract(alloc, term, binders, &[])?;
+    gather(alloc, names, rows, count - 1, inner, &next, &after)?;
+    add_if(alloc, names, rows, kept, name, value_of(term), own)?;
     Ok(())
 }
 
 /// The lets at the front of a term, of which there are `count` where the binders have these names,
-/// as far as the term behind them is one that steps are made from. Their names go behind the free
-/// names, the last let's first. A let counts if its value is closed, where those of the lets before
-/// it are put in, and if its name is no free name and no later let's. The binders are meant to have
-/// the shape of the term (`Fits`). No clause needs it, but if they haven't, a name may stand for
-/// another part of the term. `NoMemory`: no memory was found.
+/// as far as the term after them is one that steps are made from. Their names are appended to the
+/// free names, the last let's first, and after these the words that are several of their names. A
+/// let counts if its value is closed, where those of the lets before it are put in, and if its name
+/// is no free name and no later let's. The binders are meant to have the shape of the term
+/// (`Fits`). No clause needs it, but if they haven't, a name may stand for another part of the
+/// term. `NoMemory`: no memory was found.
 pub fn lets_of(
     alloc: Global,
     names: &mut Names,
@@ -193,16 +217,25 @@ pub fn lets_of(
     requires bound { is_below 0 (tree_of term.now) ≡ true }
     requires within { IsWithin (tree_of term.now) }
     ensures first { IfOk result (λ l. l.first ≡ length names.old) }
-    ensures names { OnOk result (names.new ≡ names.old ++ names_of_lets
-        (lets names.old (let_names count (binders_in binders.now)) (tree_of term.now))) }
-    ensures values { IfOk result (λ l. trees_of l.values.items ≡ values_of_lets
-        (lets names.old (let_names count (binders_in binders.now)) (tree_of term.now))) }
+    ensures names { OnOk result (names.new ≡ names.old ++ names_of_lets (with_words names.old
+        (lets names.old (let_names count (binders_in binders.now)) (tree_of term.now)
+        (binders_in binders.now)))) }
+    ensures rows { IfOk result (λ l. rows_of l.rows.items ≡ with_words names.old
+        (lets names.old (let_names count (binders_in binders.now)) (tree_of term.now)
+        (binders_in binders.now))) }
+    ensures own { IfOk result (λ l. rows_of (take l.own l.rows.items)
+        ≡ lets names.old (let_names count (binders_in binders.now)) (tree_of term.now)
+        (binders_in binders.now)) }
 {
     let first = names.len();
-    let mut values = Vec::new(alloc);
-    gather(alloc, names, &mut values, count, binders, term)?;
+    let mut rows = Vec::new(alloc);
+    gather(alloc, names, &mut rows, count, binders, term, binders)?;
+    let own = rows.len();
+    let mut words = Vec::new(alloc);
+    add_words(alloc, names, &mut words, &rows, &rows)?;
+    rows.append(&mut words)?;
     names.are_different();
-    Ok(Lets { first, values })
+    Ok(Lets { first, rows, own })
 }
 
 /// Whether the redex at an address is that of a let at the front, where so many of them are left.

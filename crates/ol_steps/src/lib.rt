@@ -15,6 +15,7 @@
 //! - `fronts`: how many lets stand at the front of a text
 //! - `lets`: their names and values; whether a redex is that of a let
 //! - `folding`: a term whose parts are written by the names of lets
+//! - `wording`: the words by which those parts are written
 //! - `earlier`: the terms of earlier steps
 //! - `finding`: whether a term is that of an earlier step
 //! - `showing`: terms as they are shown, and lets that are unfolded
@@ -44,6 +45,7 @@ mod stepping;
 mod terms;
 mod tokens;
 mod trees;
+mod wording;
 
 pub use contracting::contract;
 pub use folding::{fold, fold_round, prune};
@@ -55,8 +57,9 @@ pub use laws::{
     no_let_same_answer, no_lets_no_change, no_value_is_shown, none_is_caught, nothing_is_left,
     parts_are_subterms, primed_is_least, redexes_are_marked, returns_are_endless,
     showing_changes_no_end, source_fits, source_is_kept, text_has_names, unfolded_is_term,
+    words_are_shown,
 };
-pub use lets::{Lets, is_let_at, lets_of};
+pub use lets::{Lets, NamedValue, is_let_at, lets_of};
 pub use lettering::letter;
 pub use marking::put_mark;
 pub use naming::name;

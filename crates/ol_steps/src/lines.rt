@@ -18,7 +18,7 @@ use crate::stepping::Shown;
 use crate::terms::NamedTerm;
 use crate::trees::BinderTree;
 use ol_beta::Address;
-use ol_limits::NoMemory;
+use ol_limits::{MOST_DEPTH, MOST_SIZE, NoMemory};
 use ol_strategies::{Order, Reached};
 use ol_subjects::{End, put, put_number};
 use ol_term::{Names, Term, print_term};
@@ -190,12 +190,16 @@ pub fn past_line(alloc: Global, made: usize, size: u64, depth: u64) -> Result<Ve
     ensures { IfOk result (λ text. text.items ≡ past_line made size depth) }
 {
     let mut text = Vec::new(alloc);
-    put(&mut text, b"past at step ")?;
+    put(&mut text, b"step ")?;
     put_number(alloc, &mut text, made as u64)?;
-    put(&mut text, b": size ")?;
+    put(&mut text, b" exceeds the limits: size ")?;
     put_number(alloc, &mut text, size)?;
+    put(&mut text, b" of ")?;
+    put_number(alloc, &mut text, MOST_SIZE as u64)?;
     put(&mut text, b", depth ")?;
     put_number(alloc, &mut text, depth)?;
+    put(&mut text, b" of ")?;
+    put_number(alloc, &mut text, MOST_DEPTH as u64)?;
     put(&mut text, b"\n")?;
     Ok(text)
 }

@@ -16,7 +16,7 @@ use ol_limits::NoMemory;
 use ol_term::{Names, Term};
 use std::alloc::Global;
 
-fn is_same(name: &[u8], other: &[u8]) -> bool
+pub fn is_same(name: &[u8], other: &[u8]) -> bool
     ensures { result ≡ bytes_eq name.now other.now }
 {
     name == other

@@ -6,16 +6,18 @@ ghost use Rattle.ol_term.specs.Trees.{tree_of, is_below, is_named_below};
 ghost use Rattle.ol_beta.specs.Beta.{IsWithin};
 ghost use Rattle.ol_strategies.specs.Redexes.{next};
 ghost use Rattle.ol_steps.specs.Trees.{binders_in};
-ghost use Rattle.ol_steps.specs.ValueTrees.{trees_of};
+ghost use Rattle.ol_steps.specs.Lets.{values_of_lets};
+ghost use Rattle.ol_steps.specs.ValueTrees.{rows_of};
 ghost use Rattle.ol_steps.specs.Folded.{folded_at, pruned};
 ghost use Rattle.ol_steps.specs.EarlierTerms.{glossary_of};
-ghost use Rattle.ol_steps.specs.Steps.{begun, lines_of_step, shown_line, step_lines, unfold_line, unfolding_after, unfolds};
+ghost use Rattle.ol_steps.specs.Steps.{begun, lines_of_step, shown_line, shown_tree, step_lines, unfold_line, unfolding_after, unfolds};
 
 use crate::folding::{fold, fold_round, prune};
 use crate::lets::{Lets, is_let_at};
 use crate::lines::{moves_of, put_how_many, put_redex, put_term};
 use crate::stepping::Shown;
 use crate::trees::BinderTree;
+use crate::wording::word;
 use ol_beta::Address;
 use ol_limits::NoMemory;
 use ol_subjects::{put, put_number};
@@ -93,10 +95,10 @@ fn folded(
     requires named { is_named_below lets.now.first (tree_of term.now) ≡ true }
     requires within { IsWithin (tree_of term.now) }
     ensures tree { IfOk result (λ t. tree_of t ≡ folded_at lets.now.first
-        (trees_of lets.now.values.items) redex.now (tree_of term.now)) }
+        (values_of_lets (rows_of lets.now.rows.items)) redex.now (tree_of term.now)) }
     ensures bound { IfOk result (λ t. is_below 0 (tree_of t) ≡ true) }
     ensures named { IfOk result (λ t.
-        is_named_below (lets.now.first + length lets.now.values.items) (tree_of t) ≡ true) }
+        is_named_below (lets.now.first + length lets.now.rows.items) (tree_of t) ≡ true) }
     ensures within { IfOk result (λ t. IsWithin (tree_of t)) }
 {
     match redex {
@@ -112,6 +114,30 @@ fn folded(
     }
 }
 
+// A term as it is shown.
+fn written(
+    alloc: Global,
+    view: &View,
+    here: &Place,
+    redex: &Option<Address>,
+) -> Result<Term, NoMemory>
+    requires bound { is_below 0 (tree_of here.now.term) ≡ true }
+    requires named { is_named_below view.now.lets.first (tree_of here.now.term) ≡ true }
+    requires within { IsWithin (tree_of here.now.term) }
+    requires redex { redex.now ≡ next view.now.how.order (tree_of here.now.term) }
+    ensures tree { IfOk result (λ t. tree_of t ≡ shown_tree view.now.how
+        (glossary_of view.now.names view.now.lets) (tree_of here.now.term)
+        (binders_in here.now.binders)) }
+    ensures bound { IfOk result (λ t. is_below 0 (tree_of t) ≡ true) }
+    ensures named { IfOk result (λ t. is_named_below
+        (view.now.lets.first + length view.now.lets.rows.items) (tree_of t) ≡ true) }
+    ensures within { IfOk result (λ t. IsWithin (tree_of t)) }
+{
+    let whole = folded(alloc, &view.lets, &here.term, redex)?;
+    let worded = word(alloc, &view.lets, &view.names, &whole, &here.binders)?;
+    Ok(worded)
+}
+
 // The line of a term as it is shown, and of the lets that were unfolded before.
 pub fn put_shown(
     alloc: Global,
@@ -124,14 +150,14 @@ pub fn put_shown(
     requires named { is_named_below view.now.lets.first (tree_of here.now.term) ≡ true }
     requires within { IsWithin (tree_of here.now.term) }
     requires names { length view.now.names
-        ≡ view.now.lets.first + length view.now.lets.values.items }
+        ≡ view.now.lets.first + length view.now.lets.rows.items }
     requires redex { redex.now ≡ next view.now.how.order (tree_of here.now.term) }
     ensures { OnOk result (text.new.items ≡ text.old.items ++ (unfold_line here.now.seen
         ++ shown_line view.now.how (glossary_of view.now.names view.now.lets)
         (tree_of here.now.term) (binders_in here.now.binders))) }
 {
     put_unfolded(alloc, text, here.seen)?;
-    let whole = folded(alloc, &view.lets, &here.term, redex)?;
+    let whole = written(alloc, view, here, redex)?;
     let left = prune(alloc, &whole, &here.binders)?;
     put_term(alloc, text, &whole, &left, &view.names, view.how.named)?;
     Ok(())
@@ -149,14 +175,14 @@ pub fn put_step(
     requires named { is_named_below view.now.lets.first (tree_of here.now.term) ≡ true }
     requires within { IsWithin (tree_of here.now.term) }
     requires names { length view.now.names
-        ≡ view.now.lets.first + length view.now.lets.values.items }
+        ≡ view.now.lets.first + length view.now.lets.rows.items }
     requires redex { redex.now ≡ next view.now.how.order (tree_of here.now.term) }
     ensures { OnOk result (text.new.items ≡ text.old.items ++ (unfold_line here.now.seen
         ++ step_lines view.now.how (glossary_of view.now.names view.now.lets)
         (tree_of here.now.term) (binders_in here.now.binders))) }
 {
     put_unfolded(alloc, text, here.seen)?;
-    let whole = folded(alloc, &view.lets, &here.term, redex)?;
+    let whole = written(alloc, view, here, redex)?;
     let left = prune(alloc, &whole, &here.binders)?;
     put_term(alloc, text, &whole, &left, &view.names, view.how.named)?;
     if let Some(at) = redex {
@@ -190,7 +216,7 @@ pub fn put_made(
     requires named { is_named_below view.now.lets.first (tree_of here.now.term) ≡ true }
     requires within { IsWithin (tree_of here.now.term) }
     requires names { length view.now.names
-        ≡ view.now.lets.first + length view.now.lets.values.items }
+        ≡ view.now.lets.first + length view.now.lets.rows.items }
     requires redex { redex.now ≡ next view.now.how.order (tree_of here.now.term) }
     requires few { here.now.seen.made + 1 < 2 ^ 32 }
     requires hidden { here.now.seen.hidden ≤ here.now.seen.made }

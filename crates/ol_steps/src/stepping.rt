@@ -87,7 +87,7 @@ fn put_return(
     requires named { is_named_below view.now.lets.first (tree_of here.now.term) ≡ true }
     requires within { IsWithin (tree_of here.now.term) }
     requires names { length view.now.names
-        ≡ view.now.lets.first + length view.now.lets.values.items }
+        ≡ view.now.lets.first + length view.now.lets.rows.items }
     requires redex { redex.now ≡ next view.now.how.order (tree_of here.now.term) }
     ensures { OnOk result (text.new.items ≡ (text.old.items ++ (unfold_line here.now.seen
         ++ shown_line view.now.how (glossary_of view.now.names view.now.lets)
@@ -113,7 +113,7 @@ fn put_end(
     requires named { is_named_below view.now.lets.first (tree_of here.now.term) ≡ true }
     requires within { IsWithin (tree_of here.now.term) }
     requires names { length view.now.names
-        ≡ view.now.lets.first + length view.now.lets.values.items }
+        ≡ view.now.lets.first + length view.now.lets.rows.items }
     requires redex { redex.now ≡ next view.now.how.order (tree_of here.now.term) }
     requires none { redex.now ≡ None }
     ensures { IfOk result (λ e. (word : Reached)
@@ -142,7 +142,7 @@ fn put_left(
     requires named { is_named_below view.now.lets.first (tree_of here.now.term) ≡ true }
     requires within { IsWithin (tree_of here.now.term) }
     requires names { length view.now.names
-        ≡ view.now.lets.first + length view.now.lets.values.items }
+        ≡ view.now.lets.first + length view.now.lets.rows.items }
     requires redex { redex.now ≡ next view.now.how.order (tree_of here.now.term) }
     ensures { OnOk result (text.new.items ≡ (text.old.items ++ (unfold_line here.now.seen
         ++ step_lines view.now.how (glossary_of view.now.names view.now.lets)
@@ -168,7 +168,7 @@ fn put_past(
     requires named { is_named_below view.now.lets.first (tree_of here.now.term) ≡ true }
     requires within { IsWithin (tree_of here.now.term) }
     requires names { length view.now.names
-        ≡ view.now.lets.first + length view.now.lets.values.items }
+        ≡ view.now.lets.first + length view.now.lets.rows.items }
     requires redex { redex.now ≡ next view.now.how.order (tree_of here.now.term) }
     ensures { OnOk result (text.new.items ≡ (text.old.items ++ (unfold_line here.now.seen
         ++ step_lines view.now.how (glossary_of view.now.names view.now.lets)
@@ -195,7 +195,7 @@ fn step_on(
     requires named { is_named_below view.now.lets.first (tree_of here.now.term) ≡ true }
     requires within { IsWithin (tree_of here.now.term) }
     requires names { length view.now.names
-        ≡ view.now.lets.first + length view.now.lets.values.items }
+        ≡ view.now.lets.first + length view.now.lets.rows.items }
     requires redex { redex.now ≡ next view.now.how.order (tree_of here.now.term) }
     requires few { here.now.seen.made + 1 < 2 ^ 32 }
     requires hidden { here.now.seen.hidden ≤ here.now.seen.made }
@@ -230,7 +230,7 @@ fn walk(
     requires named { is_named_below view.now.lets.first (tree_of term) ≡ true }
     requires within { IsWithin (tree_of term) }
     requires names { length view.now.names
-        ≡ view.now.lets.first + length view.now.lets.values.items }
+        ≡ view.now.lets.first + length view.now.lets.rows.items }
     ensures { IfOk result (λ a. Tells view.now.how (glossary_of view.now.names view.now.lets) count
         most (tree_of term) (binders_in binders) a.text.items a.end) }
 {
@@ -388,21 +388,22 @@ fn of_text(
 ///
 /// If terms are to be folded, each abstraction or application that is the value of a let at the
 /// front of the file is written by its name. The redex that comes next isn't, nor is what it stands
-/// in, but its function and its argument may be. If a part is the value of several, the last one's
-/// name is taken. A let counts if its value is closed, where those of the lets before it are put
-/// in, and its name is no free name and no later let's. If a let gives a term that is out of the
-/// bounds below, none behind it counts. Steps one after another that only unfold a let are one line,
-/// which says how many they are, and the step whose term comes next. Steps are counted as ever
-/// (`each_step_counts`), and the end and the last line are those without folding
-/// (`showing_changes_no_end`).
+/// in, but its function and its argument may be. If a part is the value of several lets, it is
+/// written by the names of those whose binders have the names of the part's binders, or, if there
+/// are none, by the names of all, with a bar between each two names (`words_are_shown`). A let
+/// counts if its value is closed, where those of the lets before it are put in, and its name is no
+/// free name and no later let's. If a let gives a term that is out of the bounds below, none after
+/// it counts. Steps one after another that only unfold a let are one line, which says how many they
+/// are, and the step whose term comes next. Steps are counted as ever (`each_step_counts`), and the
+/// end and the last line are those without folding (`showing_changes_no_end`).
 ///
 /// - `Yes`: the last term is what the order ends in, and the last line has the order's word for it:
 ///   a normal form, for leftmost and applicative order; a head normal form; a weak head normal form;
 ///   for call-by-value a value.
 /// - `No`: call-by-value is stuck at a free name; or the term of the last step is that of an earlier
 ///   one; or all steps were made and a redex is left; or the next step would give a term of more than
-///   100,000 constructors or of more than 1,000 of them one within another, whose size and depth are
-///   told.
+///   100,000 constructors or of more than 1,000 of them one within another; the last line has the
+///   size and the depth of this term, and the limits of both.
 /// - `Refused`: `ol` refuses the file, by this line.
 ///
 /// A term that comes back ends the answer at the first step whose term is that of an earlier step.

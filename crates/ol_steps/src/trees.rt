@@ -2,6 +2,7 @@
 
 ghost use Rattle.std.specs.Prelude.{◌≡◌, IfOk};
 ghost use Rattle.ol_steps.specs.Binders as binders;
+ghost use Rattle.ol_steps.specs.Binders.{names_in_argument, names_in_body, names_in_function};
 ghost use Rattle.ol_steps.specs.Trees.{binders_in};
 
 use ol_limits::NoMemory;
@@ -59,5 +60,32 @@ pub fn copied(alloc: Global, tree: &BinderTree) -> Result<BinderTree, NoMemory>
             let tree = BinderTree::parts(alloc, function, argument)?;
             Ok(tree)
         }
+    }
+}
+
+pub fn names_in_body(binders: &BinderTree) -> &BinderTree
+    ensures { binders_in result.now ≡ names_in_body (binders_in binders.now) }
+{
+    match binders {
+        BinderTree::Binder(_, body) => body,
+        _ => binders,
+    }
+}
+
+pub fn names_in_function(binders: &BinderTree) -> &BinderTree
+    ensures { binders_in result.now ≡ names_in_function (binders_in binders.now) }
+{
+    match binders {
+        BinderTree::Parts(function, _) => function,
+        _ => binders,
+    }
+}
+
+pub fn names_in_argument(binders: &BinderTree) -> &BinderTree
+    ensures { binders_in result.now ≡ names_in_argument (binders_in binders.now) }
+{
+    match binders {
+        BinderTree::Parts(_, argument) => argument,
+        _ => binders,
     }
 }

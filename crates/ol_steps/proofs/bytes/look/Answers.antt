@@ -1,4 +1,4 @@
-use Rattle.std.proofs.Common.{◌≡◌, ℕ, ◌+◌, ◌≤◌, Bool, true, List, [], ◌∷◌, ◌++◌, cond, slice_range, slice_index, sym, ap, ◌∙◌, subst}
+use Rattle.std.proofs.Common.{◌≡◌, ℕ, ◌≤◌, Bool, true, List, [], ◌∷◌, ◌++◌, cond, slice_range, slice_index, sym, ap, ◌∙◌, subst}
 use Rattle.ol_parse.specs.Texts.{class_of, in_word, token_of}
 use Rattle.ol_steps.specs.Sights.{take}
 use Rattle.ol_steps.specs.Looks.{word, byte_look, gap_look, kind_of}

@@ -1,4 +1,4 @@
-use Rattle.std.proofs.Common.{◌≡◌, ℕ, List, [], drop, length, sym, ap, ◌∙◌, arith}
+use Rattle.std.proofs.Common.{◌≡◌, ℕ, List, drop, length, sym, ap, ◌∙◌, arith}
 use Rattle.ol_steps.specs.Sights.{result_of}
 use Rattle.ol_steps.specs.Looks.{sees}
 use Rattle.ol_steps.specs.SeenTokens.{look_of}
