@@ -17,7 +17,7 @@ use Rattle.ol_bench.specs.declared.asked.Given.TheVariants as given
 use Rattle.ol_bench.specs.declared.asked.OnOne.{OnOne}
 use Rattle.ol_bench.specs.declared.asked.OnTwo.{OnTwo}
 use Rattle.ol_bench.specs.declared.top.Status.{Status}
-use Rattle.ol_bench.specs.Commands.{IsAnswerToOne, IsAnswerToTwo, IsCauseOfOne, IsCauseOfTwo, IsCauseOnward}
+use Rattle.ol_bench.specs.Commands.{IsAnswerToOne, IsAnswerToTwo, IsCauseOfOne, IsCauseOfTwo, IsCauseOfWhole, IsCauseOnward}
 use Rattle.ol_bench.specs.Commands.{content_of, contents_of, of_term, IsStudent, IsWork, IsCauseOfStudents, IsCauseOfSolution, IsCauseOfGrade, IsCauseOfWalk}
 use Rattle.ol_decoding.specs.declared.frame_walks.Wanted.{Wanted}
 use Rattle.ol_decoding.specs.WalkAnswers.{IsFrameWalk}
@@ -77,9 +77,9 @@ module _ (files : Files) (faults faults' : ℕ) (text : List ℕ) (e : End) (c :
         c ≡ (contents_of command).1 →
         (IsErrOf {T = Vec ℕ Global} {E = ReadAll} (Err why) read.TooLong →
         IsLonger (told_of files other) (most_of c)) →
-        IsCauseOnward command bytes other files faults faults' text e
-    onward_not_read command bytes other same longer = inl
-        (not_read c (contents_of command).1 (told_of files other) faults faults' _ text e why counts longer line end same)
+        IsCauseOfWhole command bytes other files faults faults' text e
+    onward_not_read command bytes other same longer =
+        not_read c (contents_of command).1 (told_of files other) faults faults' _ text e why counts longer line end same
 
     pub two_not_read : (command : OnTwo) (file other : Given) → c ≡ (contents_of command).0 →
         (IsErrOf {T = Vec ℕ Global} {E = ReadAll} (Err why) read.TooLong →
@@ -98,9 +98,9 @@ module _ (files : Files) (faults faults' : ℕ) (text : List ℕ) (e : End) (c :
   pub onward_read : (command : OnTwo) (bytes more : List ℕ) (other : Given) →
       c ≡ (contents_of command).1 → IsAllWithin (most_of c) (told_of files other) more →
       faults' ≡ faults → IsAnswerToTwo command bytes more text e →
-      IsCauseOnward command bytes other files faults faults' text e
-  onward_read command bytes more other same all stays answer = inl (of_bytes more
-      (subst (λ c. IsAllWithin (most_of c) (told_of files other) more) same all) (stays, answer))
+      IsCauseOfWhole command bytes other files faults faults' text e
+  onward_read command bytes more other same all stays answer = of_bytes more
+      (subst (λ c. IsAllWithin (most_of c) (told_of files other) more) same all) (stays, answer)
 
   pub two_read : (command : OnTwo) (file other : Given) (bytes : List ℕ) (mid : ℕ) →
       c ≡ (contents_of command).0 → IsAllWithin (most_of c) (told_of files file) bytes →

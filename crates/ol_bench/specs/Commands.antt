@@ -1,9 +1,9 @@
 -- The commands: what each asks of its files, and what is answered.
-use Rattle.std.specs.Prelude.{◌≡◌, ℕ, ◌+◌, ◌≤◌, false, List, [], ◌∷◌, ◌++◌, ◌⊎◌, length, Option, codes, string_bytes}
+use Rattle.std.specs.Prelude.{◌≡◌, ℕ, ◌+◌, ◌≤◌, List, [], ◌∷◌, ◌++◌, ◌⊎◌, length, Option, None, Some, codes, string_bytes}
 use Rattle.std.specs.declared.vec.Vec.{Vec}
 use Rattle.std.specs.declared.alloc.Global.{Global}
 use Rattle.ol_io.specs.Outside.{Rose, IsLonger}
-use Rattle.ol_io.specs.Readings.{IsReadOf}
+use Rattle.ol_io.specs.Readings.{Reading}
 use Rattle.ol_limits.specs.Limits.{most_fuel}
 use Rattle.ol_term.specs.declared.translations.Translation.TheVariants as translation
 use Rattle.ol_subjects.specs.declared.answers.End.{End}
@@ -20,6 +20,7 @@ use Rattle.ol_bench.specs.declared.asked.OnTwo.TheVariants as two
 use Rattle.ol_bench.specs.declared.asked.Asked.{Asked}
 use Rattle.ol_bench.specs.declared.asked.Asked.TheVariants as asked
 use Rattle.ol_bench.specs.Inputs.{Files, ComesOf, IsAllWithin, IsNamed, after_taking, most_of, told_of}
+use Rattle.ol_bench.specs.Traces.{ComesOfTrace, IsJudgedIn, IsReadNoFurther}
 use Rattle.ol_places.specs.Places.{IsWhere}
 use Rattle.ol_places.specs.Wanted.{IsStop}
 use Rattle.ol_steps.specs.Steps.{IsStepsOf}
@@ -28,8 +29,7 @@ use Rattle.ol_counts.specs.Counted.{IsCounted}
 use Rattle.ol_orders.specs.Orders.{IsJournal}
 use Rattle.ol_explain.specs.Afters.{IsPausedAnswer}
 use Rattle.ol_explain.specs.Explained.{IsExplained}
-use Rattle.ol_explain.specs.Judged.{IsJudged}
-use Rattle.ol_explain.specs.Objects.{IsJudgedObject, IsExplainedObject}
+use Rattle.ol_explain.specs.Objects.{IsExplainedObject}
 use Rattle.ol_subjects.specs.declared.layouts.Layout.{Layout}
 use Rattle.ol_subjects.specs.declared.layouts.Layout.TheVariants.{Lines, Object}
 use Rattle.ol_orders.specs.Same.{IsSame}
@@ -89,6 +89,11 @@ contents_of (two.Check s layout) = (Subject s, Journal)
 contents_of (two.Explain s layout) = (Subject s, Journal)
 contents_of two.Same = (Subject subject.Net, Subject subject.Net)
 
+-- the subject and the layout of `check`
+abbrev pub as_check : OnTwo → Option (of.Subject × Layout)
+as_check (two.Check s layout) = Some (s, layout)
+as_check _ = None
+
 -- its numbers are within their bounds
 abbrev pub IsTwoWithin : OnTwo → Type 0
 IsTwoWithin (two.After s lines weights) = (1 ≤ lines) × (lines ≤ most_fuel + 1)
@@ -96,12 +101,7 @@ IsTwoWithin (two.Check s layout) = Unit {0}
 IsTwoWithin (two.Explain s layout) = Unit {0}
 IsTwoWithin two.Same = Unit {0}
 
--- what a journal is found to be, in this layout
-abbrev pub IsJudgedIn : Layout → (bytes journal text : List ℕ) → of.Subject → End → Type 0
-IsJudgedIn Lines bytes journal text s e = IsJudged bytes journal text s e
-IsJudgedIn Object bytes journal text s e = IsJudgedObject bytes journal text s e
-
--- the same with its cause
+-- what a trace is found to be, and why, in this layout
 abbrev pub IsExplainedIn : Layout → (bytes journal text : List ℕ) → of.Subject → End → Type 0
 IsExplainedIn Lines bytes journal text s e = IsExplained bytes journal text s e
 IsExplainedIn Object bytes journal text s e = IsExplainedObject bytes journal text s e
@@ -198,27 +198,20 @@ IsCauseOfOne command file files faults faults' text e =
     ComesOf (content_of command) (told_of files file) faults faults'
     (λ bytes text e. (faults' ≡ faults) × IsAnswerToOne command bytes text e) text e
 
--- A front of the journal was read, and this is the answer to each journal that begins so.
-abbrev pub IsJudgedByFront : Layout → (bytes : List ℕ) → (journal : Option (List ℕ)) → (text : List ℕ) →
-    of.Subject → End → Type 0
-IsJudgedByFront layout bytes journal text s e =
-    (front : List ℕ) × IsReadOf journal false front
-    × ((rest : List ℕ) → IsJudgedIn layout bytes (front ++ rest) text s e)
-
--- It is answered by a front of the second file. Of all commands only `check` may be.
-abbrev pub IsAnsweredByFront : OnTwo → List ℕ → (other : Option (List ℕ)) → List ℕ → End → Type 0
-IsAnsweredByFront (two.After s lines weights) bytes other text e = ⊥
-IsAnsweredByFront (two.Check s layout) bytes other text e = IsJudgedByFront layout bytes other text s e
-IsAnsweredByFront (two.Explain s layout) bytes other text e = ⊥
-IsAnsweredByFront two.Same bytes other text e = ⊥
-
--- The answer of a command on two files, where the first one has these bytes.
-abbrev pub IsCauseOnward : OnTwo → List ℕ → Given → Files → (faults faults' : ℕ) → List ℕ → End →
-    Type 0
-IsCauseOnward command bytes other files faults faults' text e =
+-- The answer of a command on two files, where the first one has these bytes, and the second one is read to its end.
+abbrev pub IsCauseOfWhole : OnTwo → List ℕ → Given → Files → (faults faults' : ℕ) → List ℕ → End → Type 0
+IsCauseOfWhole command bytes other files faults faults' text e =
     ComesOf (contents_of command).1 (told_of files other) faults faults'
     (λ more text e. (faults' ≡ faults) × IsAnswerToTwo command bytes more text e) text e
-    ⊎ ((faults' ≡ faults) × IsAnsweredByFront command bytes (told_of files other) text e)
+
+-- The answer of a command on two files, where the first one has these bytes. A trace in a file is judged by `check`
+-- while it is read.
+abbrev pub IsCauseOnward : OnTwo → List ℕ → Given → Files → (faults faults' : ℕ) → List ℕ → End →
+    Type 0
+IsCauseOnward (two.Check s layout) bytes (given.Name file) files faults faults' text e =
+    ComesOfTrace layout s bytes (files 0 (string_bytes file)) faults faults' text e
+IsCauseOnward command bytes other files faults faults' text e =
+    IsCauseOfWhole command bytes other files faults faults' text e
 
 -- the answer of a command on two files
 abbrev pub IsCauseOfTwo : OnTwo → (file other : Given) → Files → (faults faults' : ℕ) → List ℕ →
@@ -244,3 +237,24 @@ IsCause (asked.Walk file wanted) files faults faults' text e =
     IsCauseOfWalk wanted file files faults faults' text e
 IsCause (asked.Grade inputs solution students bounds) files faults faults' text e =
     IsCauseOfGrade bounds inputs solution students.items files faults faults' text e
+
+-- ---- how far a trace is read
+
+-- A trace in a file that `check` judges is read once, and no further than it has to be, where the first file has these
+-- bytes.
+abbrev pub ReadsOnward : OnTwo → List ℕ → Given → (old new : List Reading) → Type 0
+ReadsOnward (two.Check s layout) bytes (given.Name file) old new =
+    (trace : Reading) × (new ≡ trace ∷ old) × IsReadNoFurther s bytes trace.bytes
+ReadsOnward command bytes other old new = Unit {0}
+
+-- The first file is read once, and then nothing, or the second one as above.
+abbrev pub ReadsTwo : OnTwo → (file other : Given) → (old new : List Reading) → Type 0
+ReadsTwo command (given.Name file) other old new =
+    (first : Reading) × ((new ≡ first ∷ old) ⊎ ReadsOnward command first.bytes other (first ∷ old) new)
+ReadsTwo command (given.Text text) other old new =
+    (new ≡ old) ⊎ ReadsOnward command (string_bytes text) other old new
+
+-- the same of all that is asked
+abbrev pub ReadsNoFurther : Asked → (old new : List Reading) → Type 0
+ReadsNoFurther (asked.Two file other command) old new = ReadsTwo command file other old new
+ReadsNoFurther _ old new = Unit {0}

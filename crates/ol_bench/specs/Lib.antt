@@ -1,5 +1,6 @@
 -- What clauses of public functions rest on.
 pub mod Inputs
+pub mod Traces
 pub mod Commands
 pub mod Writing
 pub mod Statuses

@@ -1,5 +1,5 @@
--- Private: words of private contracts alone: a journal that is judged while it is read.
-use Rattle.std.specs.Prelude.{◌≡◌, ℕ, ◌<◌, ◌≤◌, Bool, true, false, List, ◌⊎◌, length, Option, Result, Ok, Err}
+-- Private: words of private contracts alone: a trace that is judged while it is read.
+use Rattle.std.specs.Prelude.{◌≡◌, ℕ, ◌≤◌, Bool, true, false, List, [], ◌⊎◌, length, Option, Some, Result, Ok, Err}
 use Rattle.std.specs.Prelude.{IfOk, IsErrOf}
 use Rattle.ol_io.specs.Readings.{Reading, gave, closed, IsReadOf}
 use Rattle.ol_io.specs.declared.calls.ReadAll.{ReadAll}
@@ -9,19 +9,18 @@ use Rattle.ol_limits.specs.declared.NoMemory.{NoMemory}
 use Rattle.ol_net.specs.Graph.{Graph}
 use Rattle.ol_subjects.specs.declared.layouts.Layout.{Layout}
 use Rattle.ol_subjects.specs.declared.answers.Answer.{Answer}
-use Rattle.ol_subjects.specs.declared.answers.End.{End}
 use Rattle.ol_subjects.specs.declared.subjects.Subject as of
 use Rattle.ol_view.specs.declared.answers.Check.{Check}
 use Rattle.ol_view.specs.Checks.{start_net_of_graph, OnlyIsFound}
 use Rattle.ol_view.specs.Feeding.{IsFixed}
-use Rattle.ol_bench.specs.declared.asked.Content.TheVariants.{Journal}
-use Rattle.ol_bench.specs.Commands.{IsJudgedByFront, IsJudgedIn}
-use Rattle.ol_bench.specs.Inputs.{ComesOf}
+use Rattle.ol_bench.specs.Traces.{ComesOfTrace, IsOpenAtLimit, IsOpenBeforeLast, IsReadNoFurther}
 
--- These bytes were read, to the end or not. This is found of all that begins so, or of them where they are all.
+-- These bytes were read, to the end or not, and no more than a trace may have. This is found of all that begins so, or of
+-- them where they are all.
 abbrev pub IsFoundBy : Graph → Bool → List ℕ → Check → Type 0
-IsFoundBy net ended front check = IsFixed (start_net_of_graph net) front check
-    ⊎ ((ended ≡ true) × (length front ≤ most_journal_bytes) × OnlyIsFound (start_net_of_graph net) front check)
+IsFoundBy net ended front check = (length front ≤ most_journal_bytes)
+    × (IsFixed (start_net_of_graph net) front check
+    ⊎ ((ended ≡ true) × OnlyIsFound (start_net_of_graph net) front check))
 
 -- a call of the source failed
 abbrev pub judging_failed : Result Check ReadAll → Bool
@@ -38,14 +37,8 @@ pub record Judges (net : Graph) (left : Option (List ℕ)) (ended : Bool) (old n
   pub grown : new ≡ closed ended (gave front old)
   pub told : IsReadOf left ended front
   pub found : IfOk result (λ check. IsFoundBy net ended front check)
-  pub long : IsErrOf result read.TooLong → most_journal_bytes < length front
-
--- what comes of the journal, by the calls of the source that had failed before and that now have
-abbrev pub IsCauseOfCheck : List ℕ → of.Subject → Layout → Option (List ℕ) → (faults faults' : ℕ) → List ℕ → End → Type 0
-IsCauseOfCheck bytes s layout file faults faults' text e =
-    ComesOf Journal file faults faults'
-    (λ more text e. (faults' ≡ faults) × IsJudgedIn layout bytes more text s e) text e
-    ⊎ ((faults' ≡ faults) × IsJudgedByFront layout bytes file text s e)
+  pub long : IsErrOf result read.TooLong → IsOpenAtLimit net (Some front)
+  pub needed : (front ≡ []) ⊎ IsOpenBeforeLast net front
 
 -- The last reading grew by this front of what was left, to its end or not; and this comes of each file that was read so.
 pub record AnswersCheck (bytes : List ℕ) (s : of.Subject) (layout : Layout) (left : Option (List ℕ)) (ended : Bool)
@@ -54,4 +47,5 @@ pub record AnswersCheck (bytes : List ℕ) (s : of.Subject) (layout : Layout) (l
   pub grown : new ≡ closed ended (gave front old)
   pub told : IsReadOf left ended front
   pub caused : (file : Option (List ℕ)) → IsReadOf file ended front →
-      IfOk result (λ a. IsCauseOfCheck bytes s layout file faults faults' a.text.items a.end)
+      IfOk result (λ a. ComesOfTrace layout s bytes file faults faults' a.text.items a.end)
+  pub no_further : IsReadNoFurther s bytes front

@@ -5,7 +5,8 @@
 
 ghost use Rattle.std.specs.Prelude.{◌≡◌, ◌≤◌, length, IfOk};
 ghost use Rattle.ol_bench.specs.Inputs.{most_of};
-ghost use Rattle.ol_bench.specs.Commands.{IsTwoWithin, IsAnswerToOne, IsAnswerToTwo, IsExplainedIn, IsJudgedIn, content_of, contents_of};
+ghost use Rattle.ol_bench.specs.Traces.{IsJudgedIn};
+ghost use Rattle.ol_bench.specs.Commands.{IsTwoWithin, IsAnswerToOne, IsAnswerToTwo, IsExplainedIn, content_of, contents_of, as_check};
 
 use ol_counts::{Bounds, Columns, counted, wave_table};
 use ol_decoding::{Wanted, show, tree};
@@ -261,6 +262,18 @@ impl OnTwo {
                 Content::Subject(Subject::Net),
                 Content::Subject(Subject::Net),
             ),
+        }
+    }
+
+    /// The subject and the layout, if the command is `check`.
+    pub fn as_check(self) -> Option<(Subject, Layout)>
+        ensures { result ≡ as_check self }
+    {
+        match self {
+            OnTwo::After { .. } => None,
+            OnTwo::Check { subject, layout } => Some((subject, layout)),
+            OnTwo::Explain { .. } => None,
+            OnTwo::Same => None,
         }
     }
 

@@ -1,10 +1,12 @@
 //! A trace that is judged while it is read, piece by piece.
 
-ghost use Rattle.std.specs.Prelude.{◌≡◌, ℕ, ◌≤◌, List, Option, true, false, length, IfOk};
+ghost use Rattle.std.specs.Prelude.{◌≡◌, ℕ, ◌+◌, ◌<◌, ◌≤◌, ◌∷◌, List, Option, true, false, length, IfOk};
 ghost use Rattle.ol_io.specs.Outside.{Counts};
-ghost use Rattle.ol_io.specs.Readings.{AreOfSince};
+ghost use Rattle.ol_io.specs.Readings.{AreOfSince, Reading};
 ghost use Rattle.ol_bench.specs.Inputs.{most_of};
-ghost use Rattle.ol_bench.specs.Piecewise.{AnswersCheck, IsCauseOfCheck, Judges, judging_failed};
+ghost use Rattle.ol_bench.specs.Traces.{ComesOfTrace, IsReadNoFurther, most_read_ahead};
+ghost use Rattle.ol_limits.specs.Limits.{most_journal_bytes};
+ghost use Rattle.ol_bench.specs.Piecewise.{AnswersCheck, Judges, judging_failed};
 
 use crate::asked::Content;
 use crate::taking::refusal;
@@ -16,7 +18,22 @@ use ol_subjects::{Answer, End, Layout, NetRead, Subject, read_subject};
 use ol_view::{Check, Checker};
 use std::alloc::Global;
 
-// What is found of the journal that was just begun. It is read until this is fixed, in pieces of at
+// The most bytes that are read at once.
+const MOST_PIECE: usize = 65_536;
+
+// How many bytes of a trace are asked for after so many. After as many as a trace may have, another
+// byte is asked for, in place of which the end may come.
+fn piece_after(given: usize) -> usize
+    requires { given ≤ most_journal_bytes }
+    ensures some { 1 ≤ result }
+    ensures piece { result ≤ most_read_ahead }
+    ensures within { given < most_journal_bytes → given + result ≤ most_journal_bytes }
+{
+    let left = MOST_JOURNAL_BYTES as usize - given;
+    left.max(1).min(MOST_PIECE)
+}
+
+// What is found of the trace that was just begun. It is read until this is fixed, in pieces of at
 // most 65,536 bytes, none of which is kept.
 fn found_on<S: Source>(alloc: Global, src: &mut S, net: &Net) -> Result<Check, ReadAll>
     requires ready { S.ready src.old ≡ true }
@@ -32,14 +49,14 @@ fn found_on<S: Source>(alloc: Global, src: &mut S, net: &Net) -> Result<Check, R
         return Err(ReadAll::NoMemory);
     };
     let mut given = 0;
-    let mut buf = [0u8; 65536];
+    let mut buf = [0u8; MOST_PIECE];
     'reading: loop {
-        let asked = (most - given + 1).min(buf.len());
+        let asked = piece_after(given);
         match src.read(&mut buf[..asked]) {
             Got::Failed => return Err(ReadAll::Fault),
             Got::End => return Ok(checker.finish()),
             Got::Bytes(count) => {
-                if count > most - given {
+                if given >= most {
                     return Err(ReadAll::TooLong);
                 }
                 match checker.feed(&buf[..count]) {
@@ -52,7 +69,7 @@ fn found_on<S: Source>(alloc: Global, src: &mut S, net: &Net) -> Result<Check, R
     }
 }
 
-// The answer to the journal that was just begun, where the first file has these bytes.
+// The answer to the trace that was just begun, where the first file has these bytes.
 fn answer_on<S: Source>(
     alloc: Global,
     src: &mut S,
@@ -80,7 +97,7 @@ fn answer_on<S: Source>(
 }
 
 /// What the trace of a name is found to be, where the first file has these bytes. The trace is
-/// read until this is fixed, and no more of it than a line and a piece of 65,536 bytes is kept.
+/// read until this is fixed, in pieces of at most 65,536 bytes.
 pub fn check_by_pieces<S: Source>(
     alloc: Global,
     src: &mut S,
@@ -93,9 +110,11 @@ pub fn check_by_pieces<S: Source>(
     requires short { length bytes.now ≤ most_of (Content.Subject subject) }
     ensures caused { (files : ℕ → List ℕ → Option (List ℕ))
         → AreOfSince files (S.readings src.old) (S.readings src.new)
-        → IfOk result (λ a. IsCauseOfCheck bytes.now subject layout (files 0 name.now)
+        → IfOk result (λ a. ComesOfTrace layout subject bytes.now (files 0 name.now)
         (S.faults src.old) (S.faults src.new) a.text.items a.end) }
     ensures told { AreOfSince (λ _. S.contents src.old) (S.readings src.old) (S.readings src.new) }
+    ensures no_further { (trace : Reading) × (S.readings src.new ≡ trace ∷ S.readings src.old)
+        × IsReadNoFurther subject bytes.now trace.bytes }
 {
     match src.begin(name) {
         Begun::Failed => refusal(alloc, ReadAll::Fault, Content::Journal),

@@ -3,7 +3,8 @@
 ghost use Rattle.std.specs.Prelude.{◌≡◌, ℕ, List, [], ◌∷◌, ◌++◌, Option, ◌≤◌, length, drop, true, IfOk};
 ghost use Rattle.ol_io.specs.Readings.{AreOfSince};
 ghost use Rattle.ol_bench.specs.Inputs.{IsNamed, most_of};
-ghost use Rattle.ol_bench.specs.Commands.{IsCause, IsCauseOfOne, IsCauseOfTwo, IsCauseOfWalk, IsCauseOnward, IsTwoWithin, IsWithinBounds, Names, contents_of};
+ghost use Rattle.ol_bench.specs.Commands.{IsCause, IsCauseOfOne, IsCauseOfTwo, IsCauseOfWalk, IsCauseOfWhole, IsCauseOnward, IsTwoWithin, IsWithinBounds, Names, contents_of};
+ghost use Rattle.ol_bench.specs.Commands.{ReadsNoFurther, ReadsOnward, ReadsTwo};
 ghost use Rattle.ol_bench.specs.Commands.{HaveName, IsCauseOfGrade, IsCauseOfSolution, IsCauseOfStudents, student_name};
 ghost use Rattle.ol_bench.specs.Taking.{IsWorkOf};
 ghost use Rattle.ol_bench.specs.Statuses.{status_number};
@@ -108,7 +109,7 @@ fn onward_whole<S: Source>(
     requires within { IsTwoWithin command }
     ensures caused { (files : ℕ → List ℕ → Option (List ℕ))
         → AreOfSince files (S.readings src.old) (S.readings src.new)
-        → IfOk result (λ a. IsCauseOnward command bytes.now other.now files
+        → IfOk result (λ a. IsCauseOfWhole command bytes.now other.now files
         (S.faults src.old) (S.faults src.new) a.text.items a.end) }
     ensures told { AreOfSince (λ _. S.contents src.old) (S.readings src.old) (S.readings src.new) }
 {
@@ -141,15 +142,17 @@ fn onward<S: Source>(
         → IfOk result (λ a. IsCauseOnward command bytes.now other.now files
         (S.faults src.old) (S.faults src.new) a.text.items a.end) }
     ensures told { AreOfSince (λ _. S.contents src.old) (S.readings src.old) (S.readings src.new) }
+    ensures no_further { ReadsOnward command bytes.now other.now
+        (S.readings src.old) (S.readings src.new) }
 {
-    match command {
-        OnTwo::Check { subject, layout } => match other {
+    match command.as_check() {
+        None => onward_whole(alloc, src, bytes, other, command),
+        Some((subject, layout)) => match other {
             Given::Name(name) => {
                 check_by_pieces(alloc, src, bytes, name.as_str(), subject, layout)
             }
             Given::Text(_) => onward_whole(alloc, src, bytes, other, command),
         },
-        _ => onward_whole(alloc, src, bytes, other, command),
     }
 }
 
@@ -169,6 +172,8 @@ fn of_two<S: Source>(
         → IfOk result (λ a. IsCauseOfTwo command file.now other.now files
         (S.faults src.old) (S.faults src.new) a.text.items a.end) }
     ensures told { AreOfSince (λ _. S.contents src.old) (S.readings src.old) (S.readings src.new) }
+    ensures no_further { ReadsTwo command file.now other.now
+        (S.readings src.old) (S.readings src.new) }
 {
     let (content, _) = command.contents();
     match bytes_of(alloc, src, file, content) {
@@ -365,6 +370,7 @@ fn answer<S: Source>(alloc: Global, asked: &Asked, src: &mut S) -> Result<Answer
         → IfOk result (λ a. IsCause asked.now files
         (S.faults src.old) (S.faults src.new) a.text.items a.end) }
     ensures told { AreOfSince (λ _. S.contents src.old) (S.readings src.old) (S.readings src.new) }
+    ensures no_further { ReadsNoFurther asked.now (S.readings src.old) (S.readings src.new) }
 {
     match asked {
         Asked::One { file, command } => of_one(alloc, src, file, *command),
@@ -437,8 +443,9 @@ fn told<W: Sink>(sink: &mut W, text: &[u8], status: Status) -> Status
 ///   where the source failed, but not at a student's file (`Grade`); `limit bytes 1048576`,
 ///   `limit net 33554432` or `limit journal 402653184` where a file has more bytes than that; or
 ///   the one by which `ol` refuses a file with a term or a net. Where both of two files have too many
-///   bytes, the limit of the first one is told. If it was asked what a trace is found to be and the
-///   trace's first 402,653,184 bytes fix that, the answer may come in place of the limit.
+///   bytes, the limit of the first one is told. If it was asked what a trace is found to be, the
+///   limit of the trace is told only if its first 402,653,184 bytes don't decide, the unfinished
+///   line at their end aside.
 /// - `WriteFault`: the sink to which the text goes failed. It has taken the text's first bytes, not
 ///   all of them and maybe none, and the other sink nothing.
 /// - `NoMemory`: no memory was found, and neither sink has taken anything.
@@ -464,6 +471,10 @@ pub fn bench<S: Source, W: Sink, E: Sink>(
         (change_of W.faults W.taken out.old out.new)
         (change_of E.faults E.taken errors.old errors.new) result }
     ensures told { AreOfSince (λ _. S.contents src.old) (S.readings src.old) (S.readings src.new) }
+
+    // A trace that `check` judges is read no further than it has to be: at most 65,536 bytes after
+    // the line that fixes the verdict, or after the 53rd byte of a line.
+    ensures no_further { ReadsNoFurther asked.now (S.readings src.old) (S.readings src.new) }
 {
     let Ok(Answer { text, end }) = answer(alloc, asked, src) else {
         return Status::NoMemory;

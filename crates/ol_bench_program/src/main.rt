@@ -8,7 +8,7 @@
 
 ghost use Rattle.std.specs.Prelude.{ℕ, List, [], Option};
 ghost use Rattle.ol_io.specs.Readings.{AreOfSince};
-ghost use Rattle.ol_bench.specs.Commands.{IsCause, IsWithinBounds};
+ghost use Rattle.ol_bench.specs.Commands.{IsCause, IsWithinBounds, ReadsNoFurther};
 ghost use Rattle.ol_bench.specs.Writing.{WritesAnswer, first_change};
 
 mod arguments;
@@ -63,6 +63,10 @@ fn run<'a, R: Files + Input + Print, E: Write + Drop>(
         (first_change (⟦<WriterSink<E> as Sink>⟧.faults result.errors)
         (⟦<WriterSink<E> as Sink>⟧.taken result.errors))
         result.status }
+
+    // A trace that `check` judges is read no further than it has to be.
+    ensures no_further { ReadsNoFurther asked.now []
+        (⟦<StdSource<'a, R> as Source>⟧.readings result.src) }
 
     // There are files that its readings are of.
     ensures told { (files : ℕ → List ℕ → Option (List ℕ))

@@ -20,10 +20,12 @@ returns-in-Refused g c =
 
 pub returns-in-Err : goal.returns-in-Err
 returns-in-Err g c =
+    let r = subst (IsSubjectRead c.args.subject c.args.bytes.now) c.in-Net.is c.in_ok-text.ensures in
     answers_unread c.args.bytes.now c.args.subject c.args.layout (g.S.Source.left c.args.src.now)
     (g.S.Source.ended c.found_on.new.src) (g.S.Source.faults c.args.src.now) (g.S.Source.faults c.found_on.new.src)
     _ (g.S.Source.readings c.args.src.now) (g.S.Source.readings c.found_on.new.src) c.refusal.result
-    c.in-Err.fault c.in-Err.ensures.judged c.in-Err.ensures.cause c.refusal.ensures.text c.refusal.ensures.refused
+    c.in-Err.fault c.in-Err.ensures.judged c.in-Err.ensures.cause r.0 c.refusal.ensures.text
+    c.refusal.ensures.refused
 
 pub returns : goal.returns
 returns g c =
