@@ -24,7 +24,8 @@ use Rattle.ol_counts.proofs.Normals.{Normal, is_normal}
 use Rattle.ol_counts.proofs.Places.{Around, top, finished, inst_same}
 use Rattle.ol_counts.proofs.Matching.{NameOf, of_var, of_free, of_argument, ControlOf}
 use Rattle.ol_counts.proofs.Moving.{Held, State}
-use Rattle.ol_counts.proofs.Stepping.{values_of, moves}
+use Rattle.ol_counts.proofs.Moving.{values_of}
+use Rattle.ol_counts.proofs.Stepping.{moves}
 
 -- ---- the beginning
 

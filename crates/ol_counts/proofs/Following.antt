@@ -19,7 +19,8 @@ use Rattle.ol_counts.proofs.Stacks.{busy_rank, sees_var, stands_sees}
 use Rattle.ol_counts.proofs.Moving.{State}
 use Rattle.ol_counts.proofs.Finding.{after_next}
 use Rattle.ol_counts.proofs.Matching.{behind_first, slice_get_kept, first_kept, var_closure}
-use Rattle.ol_counts.proofs.Stepping.{set_same, set_other, set_length, moves}
+use Rattle.ol_counts.proofs.Stepping.{moves}
+use Rattle.ol_counts.proofs.Writing.{set_same, set_other, set_length}
 use Rattle.ol_counts.proofs.Moves.{ended_if}
 use Rattle.ol_law_edges.proofs.Lists.{got_last}
 

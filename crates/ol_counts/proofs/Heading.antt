@@ -40,7 +40,7 @@ use Rattle.ol_counts.proofs.Moving.{Held}
 use Rattle.ol_counts.proofs.Normals.{Neutral, HeadShape, shape_ren, neutral_shape}
 use Rattle.ol_counts.proofs.Places.{Around, top, below, in_function, in_argument}
 use Rattle.ol_counts.proofs.Stacks.{at_root}
-use Rattle.ol_counts.proofs.Stepping.{values_of}
+use Rattle.ol_counts.proofs.Moving.{values_of}
 
 -- ---- head normal forms
 

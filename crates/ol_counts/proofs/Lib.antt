@@ -16,6 +16,10 @@ pub mod Stacks
 pub mod Places
 pub mod Matching
 pub mod Moving
+pub mod Going
+pub mod Applying
+pub mod Writing
+pub mod Showing
 pub mod Stepping
 pub mod Finding
 pub mod Ending

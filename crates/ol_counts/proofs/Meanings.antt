@@ -15,7 +15,7 @@ use Rattle.ol_counts.proofs.Conversions.{convertible_lam, convertible_app, conve
 use Rattle.ol_counts.proofs.Conversions.{convertible_beta, inst_var, below_same}
 use Rattle.ol_counts.proofs.Conversions.{Neutral, Normal}
 use Rattle.ol_counts.proofs.Heaps.{with_at, with_own, with_other}
-use Rattle.ol_counts.proofs.Stepping.{set_length}
+use Rattle.ol_counts.proofs.Writing.{set_length}
 
 -- ---- what cells mean, below so many abstractions
 

@@ -56,6 +56,11 @@ pub record Held (n : ℕ) (T : Labelled) (stack : List Frame) (left : List ℕ) 
   pub reduces : FamilyReduces T degrees whole
   pub counted : steps ≡ length degrees
 
+abbrev pub values_of : {n : ℕ} {T : Labelled} {stack : List Frame} {left : List ℕ} {cells : List Cell}
+    {links : List Link} {steps : ℕ} {K : Labelled} → Held n T stack left cells links steps K →
+    ℕ → Labelled
+values_of h = h.values
+
 pub record State (T : Labelled) (m : Machine) : Type 0 where
   pub count : ℕ
   pub at_hand : Labelled
