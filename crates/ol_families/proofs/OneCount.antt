@@ -1,7 +1,6 @@
 -- A term has one count, whatever letters its subterms have.
-use Rattle.std.proofs.Common.{◌≡◌, ℕ, suc, ◌+◌, ◌<◌, ◌≤◌, List, [], ◌∷◌, ◌++◌, length, length-append}
-use Rattle.std.proofs.Common.{map, Option, Some, None, refl, sym, ap, ◌∙◌, subst, arith, ◌⊎◌, inl, inr}
-use Rattle.std.specs.Prelude.{IsSome}
+use Rattle.std.proofs.Common.{◌≡◌, ℕ, suc, ◌+◌, ◌<◌, ◌≤◌, List, [], ◌∷◌, ◌++◌, length, length-append, map, Bool, true, false, Some, None, refl, sym, ap, ◌∙◌, subst, arith, ◌⊎◌, inl, inr}
+use Rattle.std.proofs.lemmas.Bool.{cases_order}
 use Rattle.std.proofs.lemmas.Option.{none-some}
 use Rattle.ol_beta.specs.Beta.{IsPast}
 use Rattle.ol_beta.specs.Leftmost.{leftmost}
@@ -11,14 +10,11 @@ use Rattle.ol_law_edges.specs.Edges.{IsIn}
 use Rattle.ol_law_edges.proofs.Lists.{in_map, in_map_of}
 use Rattle.ol_law_optimality.specs.HeadFamilies.{HasSoManyDifferent}
 use Rattle.ol_law_optimality.specs.Readings.{AreDifferent}
-use Rattle.ol_law_optimality.specs.Labels.{Label, Labelled, erased, contracted, degree, LeftmostContracts, ready}
-use Rattle.ol_law_optimality.specs.Labels.{contract}
+use Rattle.ol_law_optimality.specs.Labels.{Label, Labelled, erased, contracted, degree, LeftmostContracts, ready, contract}
 use Rattle.ol_term.specs.Trees.{Tree}
-use Rattle.ol_families.specs.Counts.{IsShortLabelled, IsLongLabelled, AreShortLabelled, ReducesLabelled}
-use Rattle.ol_families.specs.Counts.{FamilyCountIsOne, ended, short, past, long}
+use Rattle.ol_families.specs.Counts.{IsShortLabelled, IsLongLabelled, AreShortLabelled, ReducesLabelled, IsFamilyCount, FamilyCountIsOne, ended, cut, IsCut, all_made, too_large}
 use Rattle.ol_families.specs.Letters.{letters_of, most_letters}
-use Rattle.ol_families.proofs.Renaming.{renamed, relabelled, numbered, reduces_too, erased_too, letters_in_too}
-use Rattle.ol_families.proofs.Renaming.{letters_of_too, up_to_letters, AreOneUpToLetters}
+use Rattle.ol_families.proofs.Renaming.{renamed, relabelled, numbered, reduces_too, erased_too, letters_in_too, letters_of_too, up_to_letters, AreOneUpToLetters}
 use Rattle.ol_families.proofs.Rows.{same_some}
 use Rattle.ol_law_optimality.proofs.Counts.{no_more}
 
@@ -36,10 +32,9 @@ record First {t v : Labelled} {ds : List Label} (r : LeftmostContracts t ds v) :
   onward : LeftmostContracts next rest v
   small : AreShortLabelled r → AreShortLabelled onward
 
-first : (t v : Labelled) (ds : List Label) (r : LeftmostContracts t ds v) (at : List ℕ) →
-    leftmost (erased t) ≡ Some at → leftmost (erased v) ≡ None → First r
-first t v ds (ready {t = u}) at l n = absurd (none-some at (sym n ∙ l))
-first t v ds (contract {t = s} {u = u} {v = z} {w = d} {ws = es} by k e c r) at l n = record {
+first : (t v : Labelled) (ds : List Label) (r : LeftmostContracts t ds v) → 0 < length ds → First r
+first t v ds (ready {t = u}) n = absurd (omega (arith, n))
+first t v ds (contract {t = s} {u = u} {v = z} {w = d} {ws = es} by k e c r) n = record {
   at = by;
   next = u;
   word = d;
@@ -52,7 +47,7 @@ first t v ds (contract {t = s} {u = u} {v = z} {w = d} {ws = es} by k e c r) at 
   small = λ x. x.1;
 }
 
--- a reduction to a normal form goes through each other one
+-- a reduction goes through each other one that isn't longer
 record Through {t v : Labelled} {ds : List Label} (r : LeftmostContracts t ds v) (x : Labelled) (es : List Label) :
     Type 0 where
   more : List Label
@@ -61,16 +56,18 @@ record Through {t v : Labelled} {ds : List Label} (r : LeftmostContracts t ds v)
   small : AreShortLabelled r → AreShortLabelled onward
 
 through : (t x v : Labelled) (ds es : List Label) (s : LeftmostContracts t es x) (r : LeftmostContracts t ds v) →
-    leftmost (erased v) ≡ None → Through r x es
+    length es ≤ length ds → Through r x es
 through t x v ds es (ready {t = u}) r n = record { more = ds; is = refl; onward = r; small = λ z. z }
 through t x v ds es (contract {t = t'} {u = u} {v = x'} {w = d} {ws = fs} at l e c s) r n =
-    let f = first t' v ds r at l n in
+    let o : suc (length fs) ≤ length ds = n in
+    let f = first t' v ds r (omega (arith, o)) in
     let a : f.at ≡ at = same_some (sym f.here ∙ l) in
     let b : f.next ≡ u = same_some (sym f.becomes ∙ ap (contracted t') a ∙ c) in
     let w : f.word ≡ d = same_some (sym f.has ∙ ap (degree t') a ∙ e) in
     let P : Labelled → Type 0 = λ z. (q : LeftmostContracts z f.rest v) × (AreShortLabelled f.onward → AreShortLabelled q) in
     let m = subst P b (f.onward, λ z. z) in
-    let g = through u x' v f.rest fs s m.0 n in
+    let k : length ds ≡ suc (length f.rest) = ap (λ (ds : List Label). length ds) f.is in
+    let g = through u x' v f.rest fs s m.0 (omega (arith, o, k)) in
     record {
       more = g.more;
       is = f.is ∙ ap (λ (w : Label). w ∷ f.rest) w ∙ ap (λ (ws : List Label). d ∷ ws) g.is;
@@ -78,24 +75,34 @@ through t x v ds es (contract {t = t'} {u = u} {v = x'} {w = d} {ws = fs} at l e
       small = λ z. g.small (m.1 (f.small z));
     }
 
-nothing_more : (x v : Labelled) (ds : List Label) (r : LeftmostContracts x ds v) → leftmost (erased x) ≡ None → ds ≡ []
-nothing_more x v ds ready n = refl
-nothing_more x v ds (contract {t = t} at l e c r) n = absurd (none-some at (sym n ∙ l))
-
-some_more : (x v : Labelled) (ds : List Label) (r : LeftmostContracts x ds v) → IsSome (leftmost (erased x)) →
-    leftmost (erased v) ≡ None → 0 < length ds
-some_more x v ds (ready {t = t}) s n = absurd (none_some (leftmost (erased t)) n s)
-some_more x v ds (contract {ws = ws} at l e c r) s n = omega arith
-
 append_nil : (ls : List Label) → ls ++ [] ≡ ls
 append_nil [] = refl
 append_nil (x ∷ ls) = ap (λ (ls : List Label). x ∷ ls) (append_nil ls)
 
-same_end : (t x v : Labelled) (ds es : List Label) (s : LeftmostContracts t es x) (r : LeftmostContracts t ds v) →
-    leftmost (erased x) ≡ None → leftmost (erased v) ≡ None → ds ≡ es
-same_end t x v ds es s r m n =
-    let h = through t x v ds es s r n in
-    h.is ∙ ap (λ (more : List Label). es ++ more) (nothing_more x v h.more h.onward m) ∙ append_nil es
+no_label : (ds : List Label) → length ds ≡ 0 → ds ≡ []
+no_label [] e = refl
+no_label (d ∷ ds) e = absurd (omega (arith, e))
+
+-- two reductions of one length are one
+record AreOne (x v : Labelled) (ds es : List Label) : Type 0 where
+  end : x ≡ v
+  degrees : ds ≡ es
+
+at_once : (x v : Labelled) (ds : List Label) → LeftmostContracts x ds v → length ds ≡ 0 → x ≡ v
+at_once x v ds (ready {t = t}) e = refl
+at_once x v ds (contract at l d c r) e = absurd (omega (arith, e))
+
+one_way : (t x v : Labelled) (ds es : List Label) (s : LeftmostContracts t es x) (r : LeftmostContracts t ds v) →
+    length ds ≡ length es → AreOne x v ds es
+one_way t x v ds es s r e =
+    let h = through t x v ds es s r (omega (arith, e)) in
+    let a = ap (λ (ds : List Label). length ds) h.is in
+    let b = length-append es h.more in
+    let n : length h.more ≡ 0 = omega (arith, a, b, e) in
+    record {
+      end = at_once x v h.more h.onward n;
+      degrees = h.is ∙ ap (λ (more : List Label). es ++ more) (no_label h.more n) ∙ append_nil es;
+    }
 
 first_small : (x v : Labelled) (ds : List Label) (r : LeftmostContracts x ds v) → AreShortLabelled r → IsShortLabelled x
 first_small x v ds (ready {t = t}) s = s
@@ -155,9 +162,8 @@ module _ (f g : Label → Label) where
 record Canonical {t : Tree} {most : ℕ} {ds : List Label} {v : Labelled} (r : ReducesLabelled t most ds v) : Type 0 where
   names : ℕ → ℕ
   reduction : LeftmostContracts (numbered 0 t) (map (λ w. renamed names w) ds) (relabelled names v)
-  small : AreShortLabelled r.reduction → AreShortLabelled reduction
-  count : leftmost (erased v) ≡ None → (n : ℕ) → HasSoManyDifferent ds n →
-      HasSoManyDifferent (map (λ w. renamed names w) ds) n
+  small : AreShortLabelled reduction
+  count : (n : ℕ) → HasSoManyDifferent ds n → HasSoManyDifferent (map (λ w. renamed names w) ds) n
 
 canonical_by : (t : Tree) (most : ℕ) (ds : List Label) (v : Labelled) (r : ReducesLabelled t most ds v) →
     AreOneUpToLetters r.start (erased r.start) → Canonical r
@@ -175,90 +181,161 @@ canonical_by t most ds v r u =
     record {
       names = u.there;
       reduction = m.0;
-      small = m.1;
-      count = λ n k h. count_map (λ w. renamed u.there w) (λ w. renamed u.back w) ds k
-          (same_end r.start y v ds (map (λ w. renamed u.back w) es) q r.reduction
-          (ap leftmost (erased_too u.back x ∙ erased_too u.there v) ∙ n) n) h;
+      small = m.1 r.short;
+      count = λ k h. count_map (λ w. renamed u.there w) (λ w. renamed u.back w) ds k
+          (one_way r.start y v ds (map (λ w. renamed u.back w) es) q r.reduction
+          (sym (length_map (λ w. renamed u.back w) es ∙ length_map (λ w. renamed u.there w) ds))).degrees h;
     }
 
 canonical : (t : Tree) (most : ℕ) (ds : List Label) (v : Labelled) (r : ReducesLabelled t most ds v) → Canonical r
 canonical t most ds v r = canonical_by t most ds v r (up_to_letters r.start r.own)
 
-module _ (t : Tree) (most : ℕ) where
-  normal_too : (ρ : ℕ → ℕ) (v : Labelled) (o : Option (List ℕ)) → leftmost (erased v) ≡ o →
-      leftmost (erased (relabelled ρ v)) ≡ o
-  normal_too ρ v o e = ap leftmost (erased_too ρ v) ∙ e
+leftmost_too : (ρ : ℕ → ℕ) (v : Labelled) → leftmost (erased (relabelled ρ v)) ≡ leftmost (erased v)
+leftmost_too ρ v = ap leftmost (erased_too ρ v)
 
-  ended_ended : (ds es : List Label) (v x : Labelled) (n m : ℕ) (r : ReducesLabelled t most ds v) (s : ReducesLabelled t most es x) →
-      leftmost (erased v) ≡ None → leftmost (erased x) ≡ None → HasSoManyDifferent ds n → HasSoManyDifferent es m → n ≡ m
-  ended_ended ds es v x n m r s a b h k =
-      let c = canonical t most ds v r in
-      let d = canonical t most es x s in
-      let e = same_end (numbered 0 t) (relabelled d.names x) (relabelled c.names v) (map (λ w. renamed c.names w) ds)
-      (map (λ w. renamed d.names w) es) d.reduction c.reduction (normal_too d.names x None b)
-      (normal_too c.names v None a) in
-      let P : List Label → Type 0 = λ ds. HasSoManyDifferent ds n in
-      one_number (map (λ w. renamed d.names w) es) n m (subst P e (c.count a n h)) (d.count b m k)
+long_too : (ρ : ℕ → ℕ) (x : Labelled) → IsLongLabelled x → IsLongLabelled (relabelled ρ x)
+long_too ρ x (inl p) = inl (subst IsPast (sym (erased_too ρ x)) p)
+long_too ρ x (inr p) = let e = letters_in_too ρ x in inr (omega (arith, e, p))
 
-  module _ (ds es : List Label) (v x : Labelled) (r : ReducesLabelled t most ds v) (s : ReducesLabelled t most es x)
-      (a : leftmost (erased v) ≡ None) where
-    way : Through (canonical t most ds v r).reduction (relabelled (canonical t most es x s).names x)
-        (map (λ w. renamed (canonical t most es x s).names w) es)
-    way = through (numbered 0 t) (relabelled (canonical t most es x s).names x)
-        (relabelled (canonical t most ds v r).names v) (map (λ w. renamed (canonical t most ds v r).names w) ds)
-        (map (λ w. renamed (canonical t most es x s).names w) es) (canonical t most es x s).reduction
-        (canonical t most ds v r).reduction (normal_too (canonical t most ds v r).names v None a)
+-- what is cut has a redex left
+redex_left : (most : ℕ) (ds : List Label) (v : Labelled) → IsCut most ds v → leftmost (erased v) ≡ None → ⊥
+redex_left most ds v (all_made l s) n = none_some (leftmost (erased v)) n s
+redex_left most ds v (too_large {at = at} l e c p) n = none-some at (sym n ∙ l)
 
-    not_short : length es ≡ most → IsSome (leftmost (erased x)) → ⊥
-    not_short l h =
-        let c = canonical t most ds v r in
-        let d = canonical t most es x s in
-        let g = way in
-        let i = some_more (relabelled d.names x) (relabelled c.names v) g.more g.onward
-        (subst IsSome (sym (normal_too d.names x (leftmost (erased x)) refl)) h) (normal_too c.names v None a) in
-        let j = ap (λ (ds : List Label). length ds) g.is in
-        let k = length-append (map (λ w. renamed d.names w) es) g.more in
-        let p = length_map (λ w. renamed c.names w) ds in
-        let q = length_map (λ w. renamed d.names w) es in
-        let y = r.made in
-        absurd (omega (arith, i, j, k, p, q, y, l))
+-- a reduction ends in a normal form, or is cut
+abbrev Stops : ℕ → List Label → Labelled → Bool → Type 0
+Stops most ds v true = leftmost (erased v) ≡ None
+Stops most ds v false = IsCut most ds v
 
-    not_past : AreShortLabelled r.reduction → IsLongLabelled x → ⊥
-    not_past h p =
-        let c = canonical t most ds v r in
-        let d = canonical t most es x s in
-        let g = way in
-        not_both (relabelled d.names x) (first_small (relabelled d.names x) (relabelled c.names v) g.more g.onward
-        (g.small (c.small h))) (large_too d.names p)
-      where
-        large_too : (ρ : ℕ → ℕ) → IsLongLabelled x → IsLongLabelled (relabelled ρ x)
-        large_too ρ (inl p) = inl (subst IsPast (sym (erased_too ρ x)) p)
-        large_too ρ (inr p) = let e = letters_in_too ρ x in inr (omega (arith, e, p))
+record Counted (t : Tree) (most n : ℕ) (b : Bool) : Type 0 where
+  degrees : List Label
+  end : Labelled
+  reduction : ReducesLabelled t most degrees end
+  stops : Stops most degrees end b
+  different : HasSoManyDifferent degrees n
 
-    not_long : letters_of ds ≤ most_letters → most_letters < letters_of es → ⊥
-    not_long h p =
-        let c = canonical t most ds v r in
-        let d = canonical t most es x s in
-        let g = way in
-        let j = ap letters_of g.is in
-        let k = letters_append (map (λ w. renamed d.names w) es) g.more in
-        let e = letters_of_too c.names ds in
-        let f = letters_of_too d.names es in
-        absurd (omega (arith, j, k, e, f, h, p))
+counted : (t : Tree) (most n : ℕ) (b : Bool) → IsFamilyCount t most n b → Counted t most n b
+counted t most n true (ended {ds = ds} {v = v} r e h) = record {
+  degrees = ds;
+  end = v;
+  reduction = r;
+  stops = e;
+  different = h;
+}
+counted t most n false (cut {ds = ds} {v = v} r e h) = record {
+  degrees = ds;
+  end = v;
+  reduction = r;
+  stops = e;
+  different = h;
+}
+
+module _ (t : Tree) (most : ℕ) (ds es : List Label) (v x : Labelled) (r : ReducesLabelled t most ds v)
+    (s : ReducesLabelled t most es x) where
+  abbrev c : Canonical r
+  c = canonical t most ds v r
+
+  abbrev d : Canonical s
+  d = canonical t most es x s
+
+  abbrev renamed_ds : List Label
+  renamed_ds = map (λ w. renamed c.names w) ds
+
+  abbrev renamed_es : List Label
+  renamed_es = map (λ w. renamed d.names w) es
+
+  abbrev v' : Labelled
+  v' = relabelled c.names v
+
+  abbrev x' : Labelled
+  x' = relabelled d.names x
+
+  one_end : length ds ≡ length es → AreOne x' v' renamed_ds renamed_es
+  one_end e = one_way (numbered 0 t) x' v' renamed_ds renamed_es d.reduction c.reduction
+      (length_map (λ w. renamed c.names w) ds ∙ e ∙ sym (length_map (λ w. renamed d.names w) es))
+
+  one_leftmost : length ds ≡ length es → leftmost (erased x) ≡ leftmost (erased v)
+  one_leftmost e = sym (leftmost_too d.names x) ∙ ap (λ (t : Labelled). leftmost (erased t)) (one_end e).end
+      ∙ leftmost_too c.names v
+
+  one_different : length ds ≡ length es → (n m : ℕ) → HasSoManyDifferent ds n → HasSoManyDifferent es m → n ≡ m
+  one_different e n m h k =
+      one_number renamed_es n m (subst (λ (ds : List Label). HasSoManyDifferent ds n) (one_end e).degrees (c.count n h))
+      (d.count m k)
+
+  -- the first is longer than the second
+  module _ (l : length es < length ds) where
+    way : Through c.reduction x' renamed_es
+    way = through (numbered 0 t) x' v' renamed_ds renamed_es d.reduction c.reduction
+        (let a = length_map (λ w. renamed c.names w) ds in let b = length_map (λ w. renamed d.names w) es in
+        omega (arith, a, b, l))
+
+    some_more : 0 < length way.more
+    some_more =
+        let a = length_map (λ w. renamed c.names w) ds in
+        let b = length_map (λ w. renamed d.names w) es in
+        let e = ap (λ (ds : List Label). length ds) way.is in
+        let f = length-append renamed_es way.more in
+        omega (arith, a, b, e, f, l)
+
+    not_normal : leftmost (erased x) ≡ None → ⊥
+    not_normal n =
+        let f = first x' v' way.more way.onward some_more in
+        none-some f.at (sym (leftmost_too d.names x ∙ n) ∙ f.here)
+
+    not_long : (at : List ℕ) (w : Label) (u : Labelled) → leftmost (erased x) ≡ Some at → degree x at ≡ Some w →
+        contracted x at ≡ Some u → IsLongLabelled u ⊎ (most_letters < letters_of (es ++ w ∷ [])) → ⊥
+    not_long at w u i j k p =
+        let o : LeftmostContracts x (w ∷ []) u = contract at i j k ready in
+        let too = reduces_too d.names x u (w ∷ []) o in
+        let u' = relabelled d.names u in
+        let b : length (map (λ w. renamed d.names w) (w ∷ [])) ≤ length way.more = some_more in
+        let h = through x' u' v' way.more (map (λ w. renamed d.names w) (w ∷ [])) too.reduction way.onward b in
+        elim p [
+          | inl q ↦ not_both u' (first_small u' v' h.more h.onward (h.small (way.small c.small))) (long_too d.names u q)
+          | inr q ↦
+              let a = letters_of_too c.names ds in
+              let e = letters_of_too d.names es in
+              let f = letters_of_too d.names (w ∷ []) in
+              let g = ap letters_of way.is in
+              let y = letters_append renamed_es way.more in
+              let z = ap letters_of h.is in
+              let m = letters_append (map (λ w. renamed d.names w) (w ∷ [])) h.more in
+              let n = letters_append es (w ∷ []) in
+              let few = r.few in
+              absurd (omega (arith, a, e, f, g, y, z, m, n, few, q))
+        ]
+
+    not_cut : IsCut most es x → ⊥
+    not_cut (all_made e i) = let m = r.made in absurd (omega (arith, e, m, l))
+    not_cut (too_large {at = at} {d = w} {u = u} i j k p) = not_long at w u i j k p
+
+    not_longer : (b : Bool) → Stops most es x b → ⊥
+    not_longer true n = not_normal n
+    not_longer false n = not_cut n
+
+one_stop : (most : ℕ) (ds es : List Label) (v x : Labelled) (a b : Bool) → leftmost (erased x) ≡ leftmost (erased v) →
+    Stops most ds v a → Stops most es x b → a ≡ b
+one_stop most ds es v x true true e p q = refl
+one_stop most ds es v x true false e p q = absurd (redex_left most es x q (e ∙ p))
+one_stop most ds es v x false true e p q = absurd (redex_left most ds v p (sym e ∙ q))
+one_stop most ds es v x false false e p q = refl
+
+module _ (t : Tree) (most n m : ℕ) (a b : Bool) (c : Counted t most n a) (d : Counted t most m b) where
+  one_count : (length c.degrees ≡ length d.degrees)
+      ⊎ ((length c.degrees < length d.degrees) ⊎ (length d.degrees < length c.degrees)) → (n ≡ m) × (a ≡ b)
+  one_count (inl e) = (
+    one_different t most c.degrees d.degrees c.end d.end c.reduction d.reduction e n m c.different d.different,
+    one_stop most c.degrees d.degrees c.end d.end a b
+        (one_leftmost t most c.degrees d.degrees c.end d.end c.reduction d.reduction e) c.stops d.stops,
+  )
+  one_count (inr (inl l)) =
+      absurd (not_longer t most d.degrees c.degrees d.end c.end d.reduction c.reduction l a c.stops)
+  one_count (inr (inr l)) =
+      absurd (not_longer t most c.degrees d.degrees c.end d.end c.reduction d.reduction l b d.stops)
 
 pub count_is_one : FamilyCountIsOne
-count_is_one t most (Some n) (Some m) (ended {ds = ds} {v = v} r a z w h) (ended {ds = es} {v = x} s b y u k) =
-    ap (λ (n : ℕ). Some n) (ended_ended t most ds es v x n m r s a b h k)
-count_is_one t most (Some n) None (ended {ds = ds} {v = v} r a z w h) (short {ds = es} {v = x} s l i) =
-    absurd (not_short t most ds es v x r s a l i)
-count_is_one t most (Some n) None (ended {ds = ds} {v = v} r a z w h) (past {ds = es} {v = x} s p) =
-    absurd (not_past t most ds es v x r s a z p)
-count_is_one t most (Some n) None (ended {ds = ds} {v = v} r a z w h) (long {ds = es} {v = x} s p) =
-    absurd (not_long t most ds es v x r s a w p)
-count_is_one t most None (Some n) (short {ds = es} {v = x} s l i) (ended {ds = ds} {v = v} r a z w h) =
-    absurd (not_short t most ds es v x r s a l i)
-count_is_one t most None (Some n) (past {ds = es} {v = x} s p) (ended {ds = ds} {v = v} r a z w h) =
-    absurd (not_past t most ds es v x r s a z p)
-count_is_one t most None (Some n) (long {ds = es} {v = x} s p) (ended {ds = ds} {v = v} r a z w h) =
-    absurd (not_long t most ds es v x r s a w p)
-count_is_one t most None None a b = refl
+count_is_one t most n m a b h k =
+    let c = counted t most n a h in
+    let d = counted t most m b k in
+    one_count t most n m a b c d (cases_order (length c.degrees) (length d.degrees))

@@ -1,6 +1,5 @@
 -- From step to step: what the code holds is a labelled term on the way of leftmost reduction.
-use Rattle.std.proofs.Common.{◌≡◌, ℕ, zero, suc, ◌+◌, ◌<◌, ◌≤◌, inl, inr, List, [], ◌∷◌, ◌++◌, length, length-append}
-use Rattle.std.proofs.Common.{Option, Some, None, refl, sym, ap, ◌∙◌, subst, arith, ◌↔◌}
+use Rattle.std.proofs.Common.{◌≡◌, ℕ, zero, suc, ◌+◌, ◌<◌, ◌≤◌, ◌⊎◌, inl, inr, List, [], ◌∷◌, ◌++◌, length, length-append, Option, Some, None, true, false, refl, sym, ap, ◌∙◌, subst, arith, ◌↔◌}
 use Rattle.std.specs.Prelude.{slice_get, slice_index_or, IsSome}
 use Rattle.std.specs.Option.{option_map}
 use Rattle.std.proofs.lemmas.Option.{get_or_from_slice_get, slice_get_within}
@@ -15,8 +14,8 @@ use Rattle.ol_law_optimality.specs.Labels.{Label, none, Labelled, erased, Leftmo
 use Rattle.ol_law_optimality.specs.Labels as labels
 use Rattle.ol_term.specs.Trees.{Tree}
 use Rattle.ol_families.specs.declared.degrees.Letter.{Letter}
-use Rattle.ol_families.specs.Counts.{IsShortLabelled, AreShortLabelled, ReducesLabelled, IsFamilyCount, ended, short}
-use Rattle.ol_families.specs.Counts.{past, long}
+use Rattle.ol_families.specs.Counts.{IsShortLabelled, IsLongLabelled, AreShortLabelled, ReducesLabelled, IsFamilyCount, ended, cut, all_made, too_large}
+use Rattle.ol_law_optimality.specs.HeadFamilies.{HasSoManyDifferent}
 use Rattle.ol_families.specs.Letters.{letters, letters_of, most_letters}
 use Rattle.ol_families.specs.Held.{Held, bare, lettered, contracted, degree, held_letters}
 use Rattle.ol_families.specs.Steps.{AreLetters}
@@ -173,15 +172,19 @@ module _ (t : Tree) (made : ℕ) (here : Tree) (h : Held) (ls : List Label) (wri
     own = f.own;
     reduction = f.reduction;
     made = (let e = f.made_is in omega arith);
+    short = f.small;
+    few = (let w = f.written_is in let b = f.few in omega arith);
   }
 
-  pub ends : (most : ℕ) → made ≤ most → leftmost here ≡ None → IsFamilyCount t most (Some (length ls))
-  ends most l e = ended (so_far most l) (leftmost_here None e) f.small (let w = f.written_is in let b = f.few in omega arith)
-      (ls, f.different, f.same, refl)
+  so_many : HasSoManyDifferent f.degrees (length ls)
+  so_many = (ls, f.different, f.same, refl)
 
-  pub stops : (most : ℕ) (at : List ℕ) → made ≡ most → leftmost here ≡ Some at → IsFamilyCount t most None
-  stops most at l e = short (so_far most (omega arith)) (f.made_is ∙ l)
-      (subst IsSome (sym (leftmost_here (Some at) e)) (search))
+  pub ends : (most : ℕ) → made ≤ most → leftmost here ≡ None → IsFamilyCount t most (length ls) true
+  ends most l e = ended (so_far most l) (leftmost_here None e) so_many
+
+  pub stops : (most : ℕ) (at : List ℕ) → made ≡ most → leftmost here ≡ Some at → IsFamilyCount t most (length ls) false
+  stops most at l e = cut (so_far most (omega arith))
+      (all_made (f.made_is ∙ l) (subst IsSome (sym (leftmost_here (Some at) e)) (search))) so_many
 
   -- ---- one step more
 
@@ -198,27 +201,23 @@ module _ (t : Tree) (made : ℕ) (here : Tree) (h : Held) (ls : List Label) (wri
       stepped v d = one_more f.start (labelled ls h) v f.degrees (label_of ls r) f.reduction at (leftmost_here (Some at) l)
           degree_there d
 
-      one_further : (most : ℕ) → made < most → (v : Labelled) → labels.contracted (labelled ls h) at ≡ Some v →
-          ReducesLabelled t most (f.degrees ++ label_of ls r ∷ []) v
-      one_further most b v d = record {
-        start = f.start;
-        is = f.is;
-        own = f.own;
-        reduction = (stepped v d).reduction;
-        made = (let e = f.made_is in let a = length-append f.degrees (label_of ls r ∷ []) in omega arith);
-      }
+      -- the step leads out of bounds
+      cut_here : (most : ℕ) → made < most → (v : Labelled) → labels.contracted (labelled ls h) at ≡ Some v →
+          IsLongLabelled v ⊎ (most_letters < letters_of (f.degrees ++ label_of ls r ∷ [])) →
+          IsFamilyCount t most (length ls) false
+      cut_here most b v d p = cut (so_far most (omega (arith, b)))
+          (too_large (leftmost_here (Some at) l) degree_there d p) so_many
 
-      pub grows_past : (most : ℕ) → made < most → IsPast next → IsFamilyCount t most None
-      grows_past most b p = let s = step_there in
-          past (one_further most b s.0 s.1) (inl (subst IsPast (sym s.2) p))
+      pub grows_past : (most : ℕ) → made < most → IsPast next → IsFamilyCount t most (length ls) false
+      grows_past most b p = let s = step_there in cut_here most b s.0 s.1 (inl (inl (subst IsPast (sym s.2) p)))
 
-      pub too_long : (most : ℕ) → made < most → most_letters < written + length r → IsFamilyCount t most None
+      pub too_long : (most : ℕ) → made < most → most_letters < written + length r → IsFamilyCount t most (length ls) false
       too_long most b p =
           let s = step_there in
           let e = letters_more f.degrees (label_of ls r) in
           let a = label_letters ls r in
           let w = f.written_is in
-          long (one_further most b s.0 s.1) (omega arith)
+          cut_here most b s.0 s.1 (inr (omega arith))
 
       -- a table with the degree of this step
       module _ (k : ℕ) (after more : List Label) (is : after ≡ ls ++ more)
@@ -278,9 +277,9 @@ module _ (t : Tree) (made : ℕ) (here : Tree) (h : Held) (ls : List Label) (wri
           }
 
       -- where the labels would have too many letters
-      pub too_large : (n most : ℕ) → made < most → AreLetters (contracted 0 h at) n → most_letters < n →
-          IsFamilyCount t most None
-      too_large n most b a p =
+      pub too_many_letters : (n most : ℕ) → made < most → AreLetters (contracted 0 h at) n → most_letters < n →
+          IsFamilyCount t most (length ls) false
+      too_many_letters n most b a p =
           let k = length ls in
           let after = ls ++ label_of ls r ∷ [] in
           let o = has_step k h at next (ap (λ (t : Tree). beta.contracted t at) f.bare_is ∙ c) in
@@ -289,4 +288,4 @@ module _ (t : Tree) (made : ℕ) (here : Tree) (h : Held) (ls : List Label) (wri
           let i = named_step k after (label_of ls r ∷ []) refl q o.0 o.1 in
           let d : n ≡ held_letters o.0 = same_letters k 0 h at o.0 n o.1 a in
           let e = letters_are after o.0 in
-          past (one_further most b (labelled after o.0) i) (inr (omega arith))
+          cut_here most b (labelled after o.0) i (inl (inr (omega arith)))

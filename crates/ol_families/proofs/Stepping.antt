@@ -1,6 +1,5 @@
 -- What a step of the code comes to.
-use Rattle.std.proofs.Common.{◌≡◌, ℕ, ◌+◌, ◌<◌, ◌≤◌, Bool, true, false, if◌then◌else◌, List}
-use Rattle.std.proofs.Common.{Option, Some, None, refl, sym, ap, ◌∙◌, subst}
+use Rattle.std.proofs.Common.{◌≡◌, ℕ, ◌+◌, ◌<◌, ◌≤◌, Bool, true, false, if◌then◌else◌, List, length, Option, Some, None, refl, sym, ap, ◌∙◌, subst}
 use Rattle.std.specs.Prelude.{IsSome}
 use Rattle.std.proofs.lemmas.Option.{none-some}
 use Rattle.ol_beta.specs.Beta as beta
@@ -66,7 +65,7 @@ module _ (t : Tree) (made most : ℕ) (here : Tree) (old : Labelling)
       (is_something (contracted 0 (held_of old.term) at) s.0 s.1)
 
   pub past_here : (at : List ℕ) (size deep : ℕ) → made < most → leftmost here ≡ Some at →
-      IsPastAfter here at size deep → IsFamilyCount t most None
+      IsPastAfter here at size deep → IsFamilyCount t most (length (degrees_of old.degrees)) false
   past_here at size deep b l p =
       let s = has_step 0 (held_of old.term) at p.after (ap (λ (t : Tree). beta.contracted t at) f.bare_is ∙ p.is) in
       let d = has_degree 0 (held_of old.term) at s.0 s.1 in
@@ -77,7 +76,7 @@ module _ (t : Tree) (made most : ℕ) (here : Tree) (old : Labelling)
       (c : beta.contracted here at ≡ Some next) (b : made < most) (w : IsWithin next) where
     abbrev pub Outcome : Bool → Type 0
     Outcome true = Follows t (made + 1) next (held_of new.term) (degrees_of new.degrees) new.written
-    Outcome false = IsFamilyCount t most None
+    Outcome false = IsFamilyCount t most (length (degrees_of old.degrees)) false
 
     outcome : (s : Bool) → IsStepped at old new s → Outcome s
     outcome true (on row k g n e x y z) =
@@ -87,7 +86,7 @@ module _ (t : Tree) (made most : ℕ) (here : Tree) (old : Labelling)
     outcome false (too_long row g p) =
         onward.too_long t made here (held_of old.term) (degrees_of old.degrees) old.written f at l next c row g most b p
     outcome false (too_large row n g a p) =
-        onward.too_large t made here (held_of old.term) (degrees_of old.degrees) old.written f at l next c row g n most b
+        onward.too_many_letters t made here (held_of old.term) (degrees_of old.degrees) old.written f at l next c row g n most b
         a p
 
     pub went_on : (s : Bool) (moves : List ℕ) → moves ≡ at → IsStepped moves old new s → s ≡ true → Outcome true

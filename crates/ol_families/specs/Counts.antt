@@ -1,10 +1,10 @@
 -- How many families of redexes leftmost reduction of a term contracts (Lévy, Réductions correctes et optimales dans le
 -- lambda-calcul, 1978): the number of different degrees, where each subterm of the term has a letter of its own.
-use Rattle.std.specs.Prelude.{◌≡◌, ℕ, ◌<◌, ◌≤◌, ◌⊎◌, List, length, Option, Some, None, IsSome}
+use Rattle.std.specs.Prelude.{◌≡◌, ℕ, ◌<◌, ◌≤◌, ◌⊎◌, Bool, true, false, List, [], ◌∷◌, ◌++◌, length, Some, None, IsSome}
 use Rattle.ol_term.specs.Trees.{Tree}
 use Rattle.ol_beta.specs.Beta.{IsWithin, IsPast}
 use Rattle.ol_beta.specs.Leftmost.{leftmost}
-use Rattle.ol_law_optimality.specs.Labels.{Label, Labelled, erased, LeftmostContracts, ready, contract}
+use Rattle.ol_law_optimality.specs.Labels.{Label, Labelled, erased, degree, contracted, LeftmostContracts, ready, contract}
 use Rattle.ol_law_optimality.specs.Families.{HaveOwnLetters}
 use Rattle.ol_law_optimality.specs.HeadFamilies.{HasSoManyDifferent}
 use Rattle.ol_families.specs.Letters.{letters_in, letters_of, most_letters}
@@ -22,31 +22,33 @@ abbrev pub AreShortLabelled : {t v : Labelled} {ds : List Label} → LeftmostCon
 AreShortLabelled (ready {t = t}) = IsShortLabelled t
 AreShortLabelled (contract {t = t} at l d c r) = IsShortLabelled t × AreShortLabelled r
 
--- leftmost reduction of a term each of whose subterms has a letter of its own, by at most so many
--- steps, to a labelled term; and the degrees of the redexes that it contracts
+-- Leftmost reduction of a term each of whose subterms has a letter of its own, by at most so many steps, to a labelled
+-- term; and the degrees of the redexes that it contracts. Each term, and the degrees, are within bounds.
 pub record ReducesLabelled (t : Tree) (most : ℕ) (ds : List Label) (v : Labelled) : Type 0 where
   pub start : Labelled
   pub is : erased start ≡ t
   pub own : HaveOwnLetters start
   pub reduction : LeftmostContracts start ds v
   pub made : length ds ≤ most
+  pub short : AreShortLabelled reduction
+  pub few : letters_of ds ≤ most_letters
 
--- How many families leftmost reduction contracts, if it comes to a normal form within so many steps
--- and all stays within bounds: the number of different degrees. Else None: all steps were made and
--- a redex is left; or a term on the way is out of bounds; or the degrees on the way have too many
--- letters altogether.
-pub data IsFamilyCount (t : Tree) (most : ℕ) : Option ℕ → Type 0 where
-  ended : {ds : List Label} {v : Labelled} {n : ℕ} (r : ReducesLabelled t most ds v) →
-      leftmost (erased v) ≡ None → AreShortLabelled r.reduction → letters_of ds ≤ most_letters →
-      HasSoManyDifferent ds n → IsFamilyCount t most (Some n)
-  short : {ds : List Label} {v : Labelled} → ReducesLabelled t most ds v → length ds ≡ most →
-      IsSome (leftmost (erased v)) → IsFamilyCount t most None
-  past : {ds : List Label} {v : Labelled} → ReducesLabelled t most ds v → IsLongLabelled v →
-      IsFamilyCount t most None
-  long : {ds : List Label} {v : Labelled} → ReducesLabelled t most ds v → most_letters < letters_of ds →
-      IsFamilyCount t most None
+-- Why such a reduction is cut: all steps were made and a redex is left; or the next step leads to a term out of bounds,
+-- or gives the degrees of all steps too many letters.
+pub data IsCut (most : ℕ) (ds : List Label) (v : Labelled) : Type 0 where
+  all_made : length ds ≡ most → IsSome (leftmost (erased v)) → IsCut most ds v
+  too_large : {at : List ℕ} {d : Label} {u : Labelled} → leftmost (erased v) ≡ Some at → degree v at ≡ Some d →
+      contracted v at ≡ Some u → IsLongLabelled u ⊎ (most_letters < letters_of (ds ++ d ∷ [])) → IsCut most ds v
+
+-- How many families leftmost reduction contracts within bounds, which is the number of different degrees; and whether
+-- it has ended, in a normal form. Else it is cut.
+pub data IsFamilyCount (t : Tree) (most : ℕ) : ℕ → Bool → Type 0 where
+  ended : {ds : List Label} {v : Labelled} {n : ℕ} → ReducesLabelled t most ds v → leftmost (erased v) ≡ None →
+      HasSoManyDifferent ds n → IsFamilyCount t most n true
+  cut : {ds : List Label} {v : Labelled} {n : ℕ} → ReducesLabelled t most ds v → IsCut most ds v →
+      HasSoManyDifferent ds n → IsFamilyCount t most n false
 
 -- A term has one count, whichever letters its subterms have.
 abbrev pub FamilyCountIsOne : Type 0
-FamilyCountIsOne = (t : Tree) (most : ℕ) (a b : Option ℕ) → IsFamilyCount t most a →
-    IsFamilyCount t most b → a ≡ b
+FamilyCountIsOne = (t : Tree) (most n m : ℕ) (a b : Bool) → IsFamilyCount t most n a →
+    IsFamilyCount t most m b → (n ≡ m) × (a ≡ b)

@@ -18,6 +18,13 @@ use ol_limits::NoMemory;
 use ol_term::Term;
 use std::alloc::Global;
 
+/// A number, and whether the count has ended. If the count was cut, there may be more.
+#[derive(Clone, Copy, Debug, PartialEq, Eq)]
+pub struct Count {
+    pub number: u32,
+    pub ended: bool,
+}
+
 /// A labelled term on the way, the different degrees so far, and how many letters the degrees of
 /// all steps have.
 #[derive(Drop)]
@@ -90,40 +97,49 @@ fn moves_of(alloc: Global, at: &Address) -> Result<Vec<u8>, NoMemory>
 /// term are made of them, and there are as many families as different degrees. The degree of a
 /// redex is the label of its abstraction.
 ///
-/// None comes exactly if a redex is left after `most` steps; or if a term on the way has more than
-/// 100,000 constructors, more than 1,000 of them one within another, or labels of more than
-/// 10,000,000 letters; or if the degrees of the steps have more than 10,000,000 letters. An
-/// overlined or underlined word counts as one letter.
+/// The count has ended exactly if the reduction reaches the normal form. The count is cut if a
+/// redex is left after `most` steps; or before a step that leads to a term of more than 100,000
+/// constructors, more than 1,000 of them nested, or labels of more than 10,000,000 letters; or
+/// before a step with which the degrees have more than 10,000,000 letters. The number is that of
+/// the families of the steps before the cut. An overlined or underlined word counts as one letter.
 ///
 /// The term itself has at most 100,000 constructors, at most 1,000 of them one within another, and
 /// each `Var` in it is bound. `NoMemory`: no memory was found.
-pub fn families(alloc: Global, term: &Term, most: u32) -> Result<Option<u32>, NoMemory>
+pub fn families(alloc: Global, term: &Term, most: u32) -> Result<Count, NoMemory>
     requires within { IsWithin (tree_of term.now) }
     requires bound { is_below 0 (tree_of term.now) ≡ true }
-    ensures { IfOk result (λ count. IsFamilyCount (tree_of term.now) most count) }
+    ensures { IfOk result (λ c. IsFamilyCount (tree_of term.now) most c.number c.ended) }
 {
     let mut labelling = Labelling::new(alloc, term)?;
     let mut here = plain(alloc, &labelling.term)?;
     let mut made: u32 = 0;
     'steps: loop {
+        let number = labelling.degrees.len();
         let Some(at) = redex(alloc, &here)? else {
-            return Ok(Some(labelling.degrees.len()));
+            return Ok(Count {
+                number,
+                ended: true,
+            });
+        };
+        let cut = Count {
+            number,
+            ended: false,
         };
         if made == most {
-            return Ok(None);
+            return Ok(cut);
         }
         match beta(alloc, &here, &at) {
             Ok(next) => {
                 let moves = moves_of(alloc, &at)?;
                 let on = labelling.step(alloc, &moves)?;
                 if !on {
-                    return Ok(None);
+                    return Ok(cut);
                 }
                 here = next;
                 made += 1;
             }
             Err(fault) => match fault {
-                BetaFault::Past { .. } => return Ok(None),
+                BetaFault::Past { .. } => return Ok(cut),
                 BetaFault::NotRedex => unreachable!(),
                 BetaFault::NoMemory => return Err(NoMemory),
             },

@@ -16,5 +16,5 @@ mod labelling;
 mod laws;
 mod measuring;
 
-pub use counting::families;
+pub use counting::{Count, families};
 pub use laws::count_is_one;

@@ -1,4 +1,4 @@
-use Rattle.std.proofs.Common.{◌≡◌, ℕ, ◌≤◌, true, Some, None, sym, ap, ◌∙◌, subst, arith}
+use Rattle.std.proofs.Common.{◌≡◌, ℕ, ◌≤◌, true, false, Some, None, sym, ap, ◌∙◌, subst, arith}
 use Rattle.ol_beta.specs.Beta.{IsWithin, IsPastAfter}
 use Rattle.ol_beta.specs.Leftmost.{leftmost}
 use Rattle.ol_beta.specs.Faults.{IsBetaFault}
@@ -35,7 +35,7 @@ returns-in_default c =
     let l = c.steps in
     let i = l.invariant in
     let e : leftmost (tree_of l.here) ≡ None = sym c.in_ok-at.ensures ∙ c.in_default.is in
-    subst (λ (n : ℕ). IsFamilyCount (tree_of c.args.term.now) c.args.most (Some n)) (sym c.len.ensures)
+    subst (λ (n : ℕ). IsFamilyCount (tree_of c.args.term.now) c.args.most n true) (sym c.len-number.ensures)
     (ends (tree_of c.args.term.now) l.made (tree_of l.here) (held_of l.labelling.term) (degrees_of l.labelling.degrees)
     l.labelling.written i.3 c.args.most i.0 e)
 
@@ -44,8 +44,9 @@ returns-then-made-most c =
     let l = c.steps in
     let i = l.invariant in
     let a : leftmost (tree_of l.here) ≡ Some c.in-Some.at = sym c.in_ok-at.ensures ∙ c.in-Some.is in
-    stops (tree_of c.args.term.now) l.made (tree_of l.here) (held_of l.labelling.term) (degrees_of l.labelling.degrees)
-    l.labelling.written i.3 c.args.most c.in-Some.at c.if-made-most.true a
+    subst (λ (n : ℕ). IsFamilyCount (tree_of c.args.term.now) c.args.most n false) (sym c.len-number.ensures)
+    (stops (tree_of c.args.term.now) l.made (tree_of l.here) (held_of l.labelling.term) (degrees_of l.labelling.degrees)
+    l.labelling.written i.3 c.args.most c.in-Some.at c.if-made-most.true a)
 
 pub returns-in-Past : goal.returns-in-Past
 returns-in-Past c =
@@ -54,8 +55,9 @@ returns-in-Past c =
     let a : leftmost (tree_of l.here) ≡ Some c.in-Some.at = sym c.in_ok-at.ensures ∙ c.in-Some.is in
     let p : IsPastAfter (tree_of l.here) c.in-Some.at c.in-Past.size c.in-Past.depth =
     subst (λ (e : BetaFault). IsBetaFault (tree_of l.here) c.in-Some.at e) c.in-Past.is c.in-Err.ensures.refusal in
-    past_here (tree_of c.args.term.now) l.made c.args.most (tree_of l.here) l.labelling i.3 c.in-Some.at c.in-Past.size
-    c.in-Past.depth (omega (arith, i.0, c.if-made-most.false)) a p
+    subst (λ (n : ℕ). IsFamilyCount (tree_of c.args.term.now) c.args.most n false) (sym c.len-number.ensures)
+    (past_here (tree_of c.args.term.now) l.made c.args.most (tree_of l.here) l.labelling i.3 c.in-Some.at c.in-Past.size
+    c.in-Past.depth (omega (arith, i.0, c.if-made-most.false)) a p)
 
 pub unreachable-requires : goal.unreachable-requires
 unreachable-requires c =
@@ -85,9 +87,10 @@ returns-then-not-on c =
     let l = c.steps in
     let i = l.invariant in
     let a : leftmost (tree_of l.here) ≡ Some c.in-Some.at = sym c.in_ok-at.ensures ∙ c.in-Some.is in
-    stopped (tree_of c.args.term.now) l.made c.args.most (tree_of l.here) l.labelling i.3 c.step.new.self c.in-Some.at
+    subst (λ (n : ℕ). IsFamilyCount (tree_of c.args.term.now) c.args.most n false) (sym c.len-number.ensures)
+    (stopped (tree_of c.args.term.now) l.made c.args.most (tree_of l.here) l.labelling i.3 c.step.new.self c.in-Some.at
     (tree_of c.in-Ok.next) a c.in-Ok.ensures.step (omega (arith, i.0, c.if-made-most.false)) c.in-Ok.ensures.within
-    c.in_ok-on-in-Ok.on c.deref.result.now (c.deref.ensures.value ∙ c.in_ok-moves-in-Ok.ensures) c.in_ok-on-in-Ok.ensures c.if-not-on.true
+    c.in_ok-on-in-Ok.on c.deref.result.now (c.deref.ensures.value ∙ c.in_ok-moves-in-Ok.ensures) c.in_ok-on-in-Ok.ensures c.if-not-on.true)
 
 pub steps-preserved : goal.steps-preserved
 steps-preserved c =
