@@ -358,8 +358,8 @@ fn counts() -> Usage {
     "
   in leftmost and applicative order a term has at most 100000 constructors and depth 1000
   the labels of a term, and the degrees of all steps, have at most 10000000 letters",
-    "  0   each column that is shown and applies has numbers
-  1   a strategy exceeds a bound, or `demand` has no free port to read from",
+    "  0   no column was cut
+  1   a column was cut by a bound: a + follows its numbers, and there may be more",
     "  $ ol-bench counts --no-run --no-demand --need --families -e '(\\x. x x) (\\y. y)'
                       leftmost        need    families
   beta                       2           2           2"

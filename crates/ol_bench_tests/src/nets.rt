@@ -41,9 +41,9 @@ fn counts(shown: bool) -> OnOne {
 #[test]
 fn a_net_is_counted(rt: HostRuntime) -> Result<(), Fail> {
     let rows = b"ol net 1\nfree 0\nnode eraser -\nnode eraser -\nlink 0.0 1.0\n|\
-        No: {\"columns\":{\"run\":{\"beta\":0,\"fan\":0,\"croissant\":0,\"bracket\":0,\
+        Yes: {\"columns\":{\"run\":{\"beta\":0,\"fan\":0,\"croissant\":0,\"bracket\":0,\
         \"cross-fan\":0,\"cross-croissant\":0,\"cross-bracket\":0,\"erase\":1,\
-        \"interactions\":1,\"stuck\":0},\"demand\":null,\"leftmost\":null,\
+        \"interactions\":1,\"stuck\":0,\"ended\":true},\"demand\":null,\"leftmost\":null,\
         \"applicative\":null,\"need\":null,\"families\":null}}\n!";
     assert_one(&rt, rt.alloc(), counts(true), rows)?;
     let none = b"ol net 1\nfree 0\n|Yes: {\"columns\":{}}\n!";

@@ -1,13 +1,10 @@
 -- What came is applied to an argument: an abstraction takes it by a family step, a name has one argument more.
-use Rattle.std.proofs.Common.{◌≡◌, ℕ, suc, ◌+◌, ◌<◌, inl, inr, List, [], ◌∷◌, ◌++◌}
-use Rattle.std.proofs.Common.{true, refl, sym, ◌∙◌, subst, arith}
+use Rattle.std.proofs.Common.{◌≡◌, ℕ, suc, ◌+◌, ◌<◌, inl, inr, List, [], ◌∷◌, ◌++◌, true, refl, sym, ◌∙◌, subst, arith}
 use Rattle.std.proofs.lemmas.List.{length_push}
 use Rattle.ol_law_edges.specs.Edges.{IsIn}
-use Rattle.ol_counts.specs.Machines.{Machine, Link, function, name, Cell, Frame, argument, write}
-use Rattle.ol_counts.specs.Machines.{Control, came, behind, next}
+use Rattle.ol_counts.specs.Machines.{Machine, Link, function, name, Cell, Frame, argument, write, Control, came, behind, next}
 use Rattle.ol_term.specs.Trees.{Tree}
-use Rattle.ol_law_optimality.specs.Labels.{Label, none, over, under, joined, Labelled, var, lam, app}
-use Rattle.ol_law_optimality.specs.Labels.{before}
+use Rattle.ol_law_optimality.specs.Labels.{Label, none, over, under, joined, Labelled, var, lam, app, before}
 use Rattle.ol_law_optimality.specs.Reductions.{Parallel, of_redex, reduct, FamilyStep, FamilyReduces}
 use Rattle.ol_law_optimality.specs.Reductions as reductions
 use Rattle.ol_law_optimality.proofs.Putting.{up, inst, inst_reduct}
@@ -15,23 +12,14 @@ use Rattle.ol_law_optimality.proofs.Needed.{Of}
 use Rattle.ol_law_optimality.proofs.Steps.{at_once}
 use Rattle.ol_law_optimality.proofs.Together.{parallel_same, parallel_inst}
 use Rattle.ol_law_optimality.proofs.Erasing.{erased_before}
-use Rattle.ol_counts.proofs.Heaps.{Sees, sees_after}
-use Rattle.ol_counts.proofs.Heaps.{var_after}
-use Rattle.ol_counts.proofs.Stacks.{sees_arg, sees_var, Stands}
-use Rattle.ol_counts.proofs.Stacks.{stands_sees}
-use Rattle.ol_counts.proofs.Stacks.{UnderArgument, under_argument_view, Replaced, replaced}
-use Rattle.ol_counts.proofs.Stacks.{StepFurther, step_further, FirstPlain, first_replaced}
+use Rattle.ol_counts.proofs.Heaps.{Sees, sees_after, var_after}
+use Rattle.ol_counts.proofs.Stacks.{sees_arg, sees_var, Stands, stands_sees, UnderArgument, under_argument_view, Replaced, replaced, StepFurther, step_further, FirstPlain, first_replaced}
 use Rattle.ol_counts.proofs.Normals.{redex_or_shape}
-use Rattle.ol_counts.proofs.Places.{shape_inside}
-use Rattle.ol_counts.proofs.Places.{WholeStep, whole_step}
-use Rattle.ol_counts.proofs.Matching.{env, first_kept, chain_new}
-use Rattle.ol_counts.proofs.Matching.{reduct_env, Abstraction, NameOf, of_argument}
-use Rattle.ol_counts.proofs.Matching.{name_more, cell_more}
-use Rattle.ol_counts.proofs.Moving.{Held, State, have_still, same_sees}
-use Rattle.ol_counts.proofs.Moving.{means, measure_of, Onward, Contracted}
+use Rattle.ol_counts.proofs.Places.{shape_inside, WholeStep, whole_step}
+use Rattle.ol_counts.proofs.Matching.{env, first_kept, chain_new, reduct_env, Abstraction, NameOf, of_argument, name_more, cell_more}
+use Rattle.ol_counts.proofs.Moving.{Held, State, have_still, same_sees, means, measure_of, Onward, Contracted, values_of}
 use Rattle.ol_counts.proofs.Firsts.{Any, to_any, First, first_here}
 use Rattle.ol_law_edges.proofs.Lists.{got_last}
-use Rattle.ol_counts.proofs.Moving.{values_of}
 
 family_more : {T V W : Labelled} {d : Label} {ds : List Label} → FamilyReduces T ds V →
     FamilyStep d V W → FamilyReduces T (ds ++ d ∷ []) W

@@ -1,12 +1,10 @@
 -- Where the machine comes to its end, as many family steps led to the normal form as it made beta steps.
-use Rattle.std.proofs.Common.{◌≡◌, ℕ, zero, suc, ◌+◌, ◌<◌, ◌==◌, ◌&&◌, Bool, true, false, if◌then◌else◌, inl, List, []}
-use Rattle.std.proofs.Common.{◌∷◌, length, None, Some, is_none, refl, sym, ap, ◌∙◌, subst, arith}
+use Rattle.std.proofs.Common.{◌≡◌, ℕ, zero, suc, ◌+◌, ◌<◌, ◌==◌, ◌&&◌, Bool, true, false, if◌then◌else◌, inl, List, [], ◌∷◌, length, None, Some, is_none, refl, sym, ap, ◌∙◌, subst, arith}
 use Rattle.std.proofs.lemmas.Bool.{eqb-true, ltb-true, and_parts}
 use Rattle.std.proofs.lemmas.Option.{same_Some, none-some}
 use Rattle.ol_beta.specs.Leftmost.{IsNormal}
 use Rattle.ol_demand.proofs.Onward.{is_start}
-use Rattle.ol_counts.specs.Machines.{Machine, Link, function, name, Cell, Frame, Control, goes, came, first_link}
-use Rattle.ol_counts.specs.Machines.{after, begun, has_name, is_ended, need_count}
+use Rattle.ol_counts.specs.Machines.{Machine, Link, function, name, Cell, Frame, Control, goes, came, first_link, after, begun, has_name, is_ended, need_count}
 use Rattle.ol_net.specs.Numbered.{net_of}
 use Rattle.ol_term.specs.Trees.{is_below}
 use Rattle.ol_law_confluence.proofs.Meetings.{normal_one}
@@ -23,8 +21,7 @@ use Rattle.ol_counts.proofs.Stacks.{root, at_root}
 use Rattle.ol_counts.proofs.Normals.{Normal, is_normal}
 use Rattle.ol_counts.proofs.Places.{Around, top, finished, inst_same}
 use Rattle.ol_counts.proofs.Matching.{NameOf, of_var, of_free, of_argument, ControlOf}
-use Rattle.ol_counts.proofs.Moving.{Held, State}
-use Rattle.ol_counts.proofs.Moving.{values_of}
+use Rattle.ol_counts.proofs.Moving.{Held, State, values_of}
 use Rattle.ol_counts.proofs.Stepping.{moves}
 
 -- ---- the beginning

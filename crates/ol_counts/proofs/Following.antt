@@ -1,17 +1,13 @@
 -- The machine follows the rules of call-by-need.
-use Rattle.std.proofs.Common.{◌≡◌, ℕ, zero, suc, ◌+◌, ◌<◌, ◌≤◌, ◌==◌, ◌&&◌, true, false, ◌⊎◌, inl, inr}
-use Rattle.std.proofs.Common.{List, [], ◌∷◌, ◌++◌, length, slice_get, slice_set, Some}
-use Rattle.std.proofs.Common.{if◌then◌else◌, refl, sym, ap, ◌∙◌, subst, arith}
+use Rattle.std.proofs.Common.{◌≡◌, ℕ, zero, suc, ◌+◌, ◌<◌, ◌≤◌, ◌==◌, ◌&&◌, true, false, ◌⊎◌, inl, inr, List, [], ◌∷◌, ◌++◌, length, slice_get, slice_set, Some, if◌then◌else◌, refl, sym, ap, ◌∙◌, subst, arith}
 use Rattle.std.proofs.lemmas.Bool.{eqb-true, ltb-true, and_parts, cases_eq}
 use Rattle.std.proofs.lemmas.List.{length_push}
 use Rattle.std.proofs.lemmas.Option.{same_Some}
-use Rattle.ol_counts.specs.Machines.{Machine, Link, Weak, Frame, Control, goes, came, first_link, behind, behind_link}
-use Rattle.ol_counts.specs.Machines.{entered, entered_cell, entered_link, next, after, has_name, is_ended, steps_if_ended, passed}
+use Rattle.ol_counts.specs.Machines.{Machine, Link, Weak, Frame, Control, goes, came, first_link, behind, behind_link, entered, entered_cell, entered_link, next, after, has_name, is_ended, steps_if_ended, passed}
 use Rattle.ol_counts.specs.Machines as machine
 use Rattle.ol_term.specs.Trees.{Tree, is_below}
 use Rattle.ol_term.specs.Trees as trees
-use Rattle.ol_counts.specs.NeedRules.{free, WeakForm, function, name, HeapCell, waits, taken, has, Evaluates, of_free}
-use Rattle.ol_counts.specs.NeedRules.{of_lam, first_use, later_use, beta, argument}
+use Rattle.ol_counts.specs.NeedRules.{free, WeakForm, function, name, HeapCell, waits, taken, has, Evaluates, of_free, of_lam, first_use, later_use, beta, argument}
 use Rattle.ol_law_edges.specs.Edges.{IsIn}
 use Rattle.ol_law_optimality.specs.Labels.{Labelled}
 use Rattle.ol_counts.proofs.Heaps.{Sees}

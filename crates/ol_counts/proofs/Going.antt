@@ -1,29 +1,18 @@
 -- A term is reduced in an environment: the move is no family step.
-use Rattle.std.proofs.Common.{◌≡◌, ℕ, suc, ◌+◌, ◌<◌, ◌⊎◌, inl, inr, List, [], ◌∷◌, ◌++◌, length}
-use Rattle.std.proofs.Common.{true, slice_get, Some, refl, sym, ap, ◌∙◌, subst, arith}
+use Rattle.std.proofs.Common.{◌≡◌, ℕ, suc, ◌+◌, ◌<◌, ◌⊎◌, inl, inr, List, [], ◌∷◌, ◌++◌, length, true, slice_get, Some, refl, sym, ap, ◌∙◌, subst, arith}
 use Rattle.std.proofs.lemmas.Bool.{cases_eq}
 use Rattle.std.proofs.lemmas.List.{length_push}
 use Rattle.ol_law_edges.specs.Edges.{IsIn}
-use Rattle.ol_counts.specs.Machines.{Machine, Link, name, Cell, waits, Frame, argument, write}
-use Rattle.ol_counts.specs.Machines.{Control, goes, behind, entered_link, next}
+use Rattle.ol_counts.specs.Machines.{Machine, Link, name, Cell, waits, Frame, argument, write, Control, goes, behind, entered_link, next}
 use Rattle.ol_term.specs.Trees.{Tree}
 use Rattle.ol_term.specs.Trees as trees
 use Rattle.ol_law_optimality.specs.Labels.{none, Labelled, var, free, lam, app}
 use Rattle.ol_law_optimality.proofs.Putting.{inst, before_none}
-use Rattle.ol_counts.proofs.Heaps.{with_at, with_own, with_other, Sees, Sound, rank, rank_own}
-use Rattle.ol_counts.proofs.Heaps.{sees_more, sees_below, cell_values, one_cell_more}
-use Rattle.ol_counts.proofs.Stacks.{sees_fun, sees_arg, sees_app, var_sees, Stands, under_argument}
-use Rattle.ol_counts.proofs.Stacks.{stands_sees, root_sees, busy_within}
-use Rattle.ol_counts.proofs.Stacks.{stands_more, Replaced, replaced}
-use Rattle.ol_counts.proofs.Stacks.{SameValue, same_value}
-use Rattle.ol_counts.proofs.Places.{Around}
-use Rattle.ol_counts.proofs.Places.{around_else}
-use Rattle.ol_counts.proofs.Matching.{slice_get_kept}
-use Rattle.ol_counts.proofs.Matching.{Closure}
-use Rattle.ol_counts.proofs.Matching.{cell_more, Found, var_closure}
-use Rattle.ol_counts.proofs.Matching.{free_closure, lam_closure, app_closure, Application}
-use Rattle.ol_counts.proofs.Moving.{HasCell, HaveCells, Held, State, have_still, more_sees}
-use Rattle.ol_counts.proofs.Moving.{enters, measure_of, Onward}
+use Rattle.ol_counts.proofs.Heaps.{with_at, with_own, with_other, Sees, Sound, rank, rank_own, sees_more, sees_below, cell_values, one_cell_more}
+use Rattle.ol_counts.proofs.Stacks.{sees_fun, sees_arg, sees_app, var_sees, Stands, under_argument, stands_sees, root_sees, busy_within, stands_more, Replaced, replaced, SameValue, same_value}
+use Rattle.ol_counts.proofs.Places.{Around, around_else}
+use Rattle.ol_counts.proofs.Matching.{slice_get_kept, Closure, cell_more, Found, var_closure, free_closure, lam_closure, app_closure, Application}
+use Rattle.ol_counts.proofs.Moving.{HasCell, HaveCells, Held, State, have_still, more_sees, enters, measure_of, Onward}
 use Rattle.ol_counts.proofs.Weights.{weight, weights, weights_else}
 use Rattle.ol_law_edges.proofs.Lists.{got_last}
 

@@ -1,6 +1,5 @@
 -- Where the machine has a name, and nothing is to be done with it, it has come to a head normal form.
-use Rattle.std.proofs.Common.{zero, suc, ◌≡◌, ℕ, ◌≤◌, ◌==◌, Bool, true, false, if◌then◌else◌, List, [], ◌∷◌, ◌++◌}
-use Rattle.std.proofs.Common.{length, None, Some, refl, sym, ap, ◌∙◌, subst, arith}
+use Rattle.std.proofs.Common.{zero, suc, ◌≡◌, ℕ, ◌≤◌, ◌==◌, Bool, true, false, if◌then◌else◌, List, [], ◌∷◌, ◌++◌, length, None, Some, refl, sym, ap, ◌∙◌, subst, arith}
 use Rattle.std.proofs.lemmas.Bool.{eqb-true, and_parts}
 use Rattle.std.proofs.lemmas.Option.{same_Some, none-some}
 use Rattle.ol_counts.specs.Machines.{Machine, Link, function, name, Cell, Frame, Control, goes, came, after, begun}
@@ -15,8 +14,7 @@ use Rattle.ol_law_meaning.specs.Shows.{BetaReduces, IsHeadNormal, IsVariable, ap
 use Rattle.ol_law_optimality.specs.Labels.{Labelled, var, free, lam, app, erased}
 use Rattle.ol_law_optimality.proofs.HeadNeeded.{none_is_shorter_for_a_head, with_labels}
 use Rattle.ol_law_optimality.proofs.Putting.{inst}
-use Rattle.ol_counts.specs.NeedLaws.{has_come_to_name, has_head, steps_if_headed, need_head_count}
-use Rattle.ol_counts.specs.NeedLaws.{DemandIsNoMoreThanNeedForAHead, NeedFindsAHead, NeedComesToAHead}
+use Rattle.ol_counts.specs.NeedLaws.{has_come_to_name, has_head, steps_if_headed, need_head_count, DemandIsNoMoreThanNeedForAHead, NeedFindsAHead, NeedComesToAHead}
 use Rattle.ol_law_confluence.proofs.HeadForms.{ends}
 use Rattle.ol_law_confluence.proofs.Meetings.{convertible}
 use Rattle.ol_law_optimality.proofs.Demanding.{contracts_beta}
@@ -36,11 +34,10 @@ use Rattle.ol_term.specs.declared.translations.Translation.{Translation}
 use Rattle.ol_translate.specs.Translation.{translation_of}
 use Rattle.ol_counts.proofs.Ending.{begins, states}
 use Rattle.ol_counts.proofs.Matching.{ControlOf, name_neutral}
-use Rattle.ol_counts.proofs.Moving.{Held}
+use Rattle.ol_counts.proofs.Moving.{Held, values_of}
 use Rattle.ol_counts.proofs.Normals.{Neutral, HeadShape, shape_ren, neutral_shape}
 use Rattle.ol_counts.proofs.Places.{Around, top, below, in_function, in_argument}
 use Rattle.ol_counts.proofs.Stacks.{at_root}
-use Rattle.ol_counts.proofs.Moving.{values_of}
 
 -- ---- head normal forms
 

@@ -6,6 +6,7 @@ pub mod Tallying
 pub mod Agreeing
 pub mod Traced
 pub mod OneSubject
+pub mod ReadingCounted
 pub mod ColumnsSoFar
 pub mod RowOn
 pub mod Heaps

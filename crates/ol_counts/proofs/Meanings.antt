@@ -1,6 +1,5 @@
 -- The rules of call-by-need are sound: a term and what it comes to are convertible.
-use Rattle.std.proofs.Common.{◌≡◌, ℕ, zero, suc, ◌-◌, ◌<◌, ◌≤◌, true, ◌⊎◌, inl, inr, List, [], ◌∷◌, ◌++◌, length}
-use Rattle.std.proofs.Common.{slice_get, slice_set, Some, refl, sym, ap, ◌∙◌, subst, arith}
+use Rattle.std.proofs.Common.{◌≡◌, ℕ, zero, suc, ◌-◌, ◌<◌, ◌≤◌, true, ◌⊎◌, inl, inr, List, [], ◌∷◌, ◌++◌, length, slice_get, slice_set, Some, refl, sym, ap, ◌∙◌, subst, arith}
 use Rattle.std.proofs.lemmas.Bool.{cases_eq}
 use Rattle.std.proofs.lemmas.List.{length_push}
 use Rattle.std.proofs.lemmas.Option.{same_Some, slice_get_within}
@@ -8,12 +7,8 @@ use Rattle.ol_term.specs.Trees.{Tree, is_below}
 use Rattle.ol_term.specs.Trees as trees
 use Rattle.ol_law_confluence.specs.Reductions.{Convertible, same, joined}
 use Rattle.ol_law_confluence.proofs.Substitutions.{ren, up, inst, point, inst_inst, inst_like, inst_ren, ren_inst}
-use Rattle.ol_counts.specs.NeedRules.{Head, free, level, WeakForm, function, name, HeapCell, waits, taken, has, Evaluates, of_free}
-use Rattle.ol_counts.specs.NeedRules.{of_lam, first_use, later_use, beta, argument, head_at, Task, closure, spine}
-use Rattle.ol_counts.specs.NeedRules.{NormalisesByNeed, into_body, into_arguments, no_argument, one_argument, ReducesByNeed}
-use Rattle.ol_counts.proofs.Conversions.{convertible_lam, convertible_app, convertible_fun, convertible_is}
-use Rattle.ol_counts.proofs.Conversions.{convertible_beta, inst_var, below_same}
-use Rattle.ol_counts.proofs.Conversions.{Neutral, Normal}
+use Rattle.ol_counts.specs.NeedRules.{Head, free, level, WeakForm, function, name, HeapCell, waits, taken, has, Evaluates, of_free, of_lam, first_use, later_use, beta, argument, head_at, Task, closure, spine, NormalisesByNeed, into_body, into_arguments, no_argument, one_argument, ReducesByNeed}
+use Rattle.ol_counts.proofs.Conversions.{convertible_lam, convertible_app, convertible_fun, convertible_is, convertible_beta, inst_var, below_same, Neutral, Normal}
 use Rattle.ol_counts.proofs.Heaps.{with_at, with_own, with_other}
 use Rattle.ol_counts.proofs.Writing.{set_length}
 

@@ -1,13 +1,12 @@
 -- The moves of the machine: each adds at most one cell, link and step, and none is made at its end.
-use Rattle.std.proofs.Common.{◌≡◌, ℕ, zero, suc, ◌+◌, ◌-◌, ◌≤◌, Bool, true, false, List, [], ◌∷◌, length, slice_get, slice_set, Option, None, Some, is_none, ◌==◌, ◌&&◌, ◌⊎◌, inl, inr, refl, sym, ap, ◌∙◌, subst, arith}
-use Rattle.std.proofs.Common.{if◌then◌else◌}
+use Rattle.std.proofs.Common.{◌≡◌, ℕ, zero, suc, ◌+◌, ◌-◌, ◌≤◌, Bool, true, false, List, [], ◌∷◌, length, slice_get, slice_set, Option, None, Some, is_none, ◌==◌, ◌&&◌, ◌⊎◌, inl, inr, refl, sym, ap, ◌∙◌, subst, arith, if◌then◌else◌}
 use Rattle.std.proofs.lemmas.List.{length_push}
 use Rattle.std.proofs.lemmas.Bool.Decides.{eqb_tells}
 use Rattle.std.proofs.lemmas.Option.{none-some, same_Some}
 use Rattle.std.specs.Prelude.{eqb, ◌≢◌}
 use Rattle.ol_term.specs.Trees as trees
 use Rattle.ol_term.specs.Trees.{Tree}
-use Rattle.ol_counts.specs.Machines.{Machine, Weak, Cell, Frame, Control, Link, function, name, waits, has, argument, write, goes, came, first_link, behind, entered_cell, entered_link, went, applied, passed, named, shown, done, moved, next, has_name, is_ended, after, begun, steps_if_ended, need_count}
+use Rattle.ol_counts.specs.Machines.{Machine, Weak, Cell, Frame, Control, Link, function, name, waits, has, argument, write, goes, came, first_link, behind, entered_cell, entered_link, went, applied, passed, named, shown, done, moved, next, has_name, is_ended, after, begun, steps_if_ended, need_count, IsNeedCount}
 
 none_is : {X : Type 0} (o : Option X) → is_none o ≡ true → o ≡ None
 none_is None e = refl
@@ -54,16 +53,28 @@ after_end (suc n) k m e =
     ap (λ (j : ℕ). after j m) (let q : k + suc n ≡ suc (k + n) = omega arith in q)
     ∙ ap next (after_end n k m e) ∙ ended_stays (after k m) e
 
--- the count, where the machine has come to its end after fewer moves
-pub ends_within : (t : Tree) (k moves : ℕ) (m : Machine) → m ≡ after k (begun t) → k ≤ moves → is_ended m ≡ true →
-    Some m.steps ≡ need_count t moves
-ends_within t k moves m e f d =
+-- the machine that has come to its end after fewer moves
+ended_within : (t : Tree) (k moves : ℕ) (m : Machine) → m ≡ after k (begun t) → k ≤ moves → is_ended m ≡ true →
+    m ≡ after moves (begun t)
+ended_within t k moves m e f d =
     let n = moves - k in
     let s : k + n ≡ moves = omega (arith, f) in
     let h : is_ended (after k (begun t)) ≡ true = subst (λ (m : Machine). is_ended m ≡ true) e d in
-    let a : after moves (begun t) ≡ m =
-    subst (λ (j : ℕ). after j (begun t) ≡ after k (begun t)) s (after_end n k (begun t) h) ∙ sym e in
-    subst (λ (p : Machine). Some m.steps ≡ steps_if_ended p) (sym a) (rw d refl)
+    e ∙ sym (subst (λ (j : ℕ). after j (begun t) ≡ after k (begun t)) s (after_end n k (begun t) h))
+
+pub ends_within : (t : Tree) (k moves : ℕ) (m : Machine) → m ≡ after k (begun t) → k ≤ moves → is_ended m ≡ true →
+    Some m.steps ≡ need_count t moves
+ends_within t k moves m e f d =
+    subst (λ (p : Machine). Some m.steps ≡ steps_if_ended p) (ended_within t k moves m e f d) (rw d refl)
+
+-- its count
+pub counted_now : (t : Tree) (moves : ℕ) (m : Machine) → m ≡ after moves (begun t) → (b : Bool) → b ≡ is_ended m →
+    IsNeedCount t moves m.steps b
+counted_now t moves m e b d = (ap (λ (m : Machine). m.steps) e, d ∙ ap (λ (m : Machine). is_ended m) e)
+
+pub counted_within : (t : Tree) (k moves : ℕ) (m : Machine) → m ≡ after k (begun t) → k ≤ moves → is_ended m ≡ true →
+    IsNeedCount t moves m.steps true
+counted_within t k moves m e f d = counted_now t moves m (ended_within t k moves m e f d) true (sym d)
 
 -- one cell, link and step more at most
 abbrev pub Grows : Machine → Machine → Type 0

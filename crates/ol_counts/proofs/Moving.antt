@@ -1,9 +1,7 @@
 -- Each move of the machine, as a step of the labelled term, or none.
-use Rattle.std.proofs.Common.{Bool, ◌≡◌, ℕ, suc, ◌+◌, ◌<◌, ◌≤◌, ◌⊎◌, inl, inr, List, ◌∷◌, length}
-use Rattle.std.proofs.Common.{true, slice_get, Some, refl, sym, ap, ◌∙◌, subst, arith}
+use Rattle.std.proofs.Common.{Bool, ◌≡◌, ℕ, suc, ◌+◌, ◌<◌, ◌≤◌, ◌⊎◌, inl, inr, List, ◌∷◌, length, true, slice_get, Some, refl, sym, ap, ◌∙◌, subst, arith}
 use Rattle.ol_law_edges.specs.Edges.{IsIn}
-use Rattle.ol_counts.specs.Machines.{Machine, Link, Cell, waits, has, Frame, write, Control, goes, came, entered}
-use Rattle.ol_counts.specs.Machines.{entered_cell, is_ended}
+use Rattle.ol_counts.specs.Machines.{Machine, Link, Cell, waits, has, Frame, write, Control, goes, came, entered, entered_cell, is_ended}
 use Rattle.ol_law_optimality.specs.Labels.{Label, none, Labelled, var, before}
 use Rattle.ol_law_optimality.specs.Reductions.{FamilyReduces}
 use Rattle.ol_law_optimality.proofs.Putting.{inst, before_none, before_inst}
@@ -11,8 +9,7 @@ use Rattle.ol_counts.proofs.Heaps.{Sees, IsName, IsBound, Sound, rank, rank_othe
 use Rattle.ol_counts.proofs.Firsts.{FirstStep}
 use Rattle.ol_counts.proofs.Normals.{HeadShape}
 use Rattle.ol_counts.proofs.Weights.{weight, weight_before, weights, Four, Less}
-use Rattle.ol_counts.proofs.Stacks.{sees_var, var_sees, Stands, under_write, stands_sees, busy_rank, busy_or_not}
-use Rattle.ol_counts.proofs.Stacks.{replaced, same_value}
+use Rattle.ol_counts.proofs.Stacks.{sees_var, var_sees, Stands, under_write, stands_sees, busy_rank, busy_or_not, replaced, same_value}
 use Rattle.ol_counts.proofs.Places.{Around}
 use Rattle.ol_counts.proofs.Matching.{CellOf, ControlOf, weak_before}
 

@@ -1,5 +1,5 @@
 -- One step more of an order.
-use Rattle.std.proofs.Common.{◌≡◌, ℕ, zero, suc, ◌≤◌, List, Some, None, refl, sym, subst}
+use Rattle.std.proofs.Common.{◌≡◌, ℕ, zero, suc, ◌≤◌, false, List, Some, refl, sym, subst}
 use Rattle.ol_term.specs.Trees.{Tree}
 use Rattle.ol_beta.specs.Beta.{IsWithin, IsPastAfter}
 use Rattle.ol_strategies.specs.Redexes.{next}
@@ -16,6 +16,6 @@ leads_on order zero t u v e w s = (
 leads_on order (suc n) t u v h w s = (h.0, (h.1.0, (h.1.1.0, leads_on order n h.1.0 u v h.1.1.1 w s)))
 
 pub past_on : (order : Order) (n most : ℕ) (t u : Tree) (at : List ℕ) (size deep : ℕ) → LeadsWithin order n t u →
-    IsWithin u → next order u ≡ Some at → IsPastAfter u at size deep → suc n ≤ most → IsOrderCount order t most None
+    IsWithin u → next order u ≡ Some at → IsPastAfter u at size deep → suc n ≤ most → IsOrderCount order t most (suc n) false
 past_on order n most t u at size deep l w a p f =
-    past (suc n) p.after f (leads_on order n t u p.after l w (at, a, p.is)) p.past
+    past p.after f (leads_on order n t u p.after l w (at, a, p.is)) p.past

@@ -1,32 +1,21 @@
 -- What came is in the normal form: the body of an abstraction, or the arguments of a name, are next.
-use Rattle.std.proofs.Common.{Bool, false, ◌≡◌, ℕ, suc, ◌+◌, ◌<◌, ◌⊎◌, inl, inr, List, [], ◌∷◌, ◌++◌, length}
-use Rattle.std.proofs.Common.{true, is_none, slice_get, Option, Some, refl, sym, ap, ◌∙◌, subst, arith}
+use Rattle.std.proofs.Common.{Bool, false, ◌≡◌, ℕ, suc, ◌+◌, ◌<◌, ◌⊎◌, inl, inr, List, [], ◌∷◌, ◌++◌, length, true, is_none, slice_get, Option, Some, refl, sym, ap, ◌∙◌, subst, arith}
 use Rattle.std.proofs.lemmas.Bool.{cases_eq}
 use Rattle.std.proofs.lemmas.List.{length_push}
 use Rattle.ol_law_edges.specs.Edges.{IsIn}
-use Rattle.ol_counts.specs.Machines.{Machine, Link, function, name, Cell, has, write}
-use Rattle.ol_counts.specs.Machines.{came, first_link, behind, passed, named, next}
+use Rattle.ol_counts.specs.Machines.{Machine, Link, function, name, Cell, has, write, came, first_link, behind, passed, named, next}
 use Rattle.ol_term.specs.Trees.{Tree}
-use Rattle.ol_law_optimality.specs.Labels.{Label, none, Labelled, var, lam, app}
-use Rattle.ol_law_optimality.specs.Labels.{before, substituted}
+use Rattle.ol_law_optimality.specs.Labels.{Label, none, Labelled, var, lam, app, before, substituted}
 use Rattle.ol_law_optimality.proofs.Putting.{ren, up, inst, before_none, inst_inst, inst_substituted}
-use Rattle.ol_counts.proofs.Heaps.{Sees, rank, rank_own, rank_other}
-use Rattle.ol_counts.proofs.Heaps.{one_name_more}
-use Rattle.ol_counts.proofs.Stacks.{sees_fun, var_sees, root}
-use Rattle.ol_counts.proofs.Stacks.{root_sees}
-use Rattle.ol_counts.proofs.Stacks.{at_root}
+use Rattle.ol_counts.proofs.Heaps.{Sees, rank, rank_own, rank_other, one_name_more}
+use Rattle.ol_counts.proofs.Stacks.{sees_fun, var_sees, root, root_sees, at_root}
 use Rattle.ol_counts.proofs.Normals.{Normal}
-use Rattle.ol_counts.proofs.Places.{close_at, open_at, substituted_open, closed_again, Around, below}
-use Rattle.ol_counts.proofs.Places.{in_function, onward}
-use Rattle.ol_counts.proofs.Matching.{Chain, env, slice_get_kept, first_kept, chain_new, put_env}
-use Rattle.ol_counts.proofs.Matching.{Abstraction, NameOf, of_var, of_free, of_argument}
-use Rattle.ol_counts.proofs.Matching.{name_neutral, cell_more}
+use Rattle.ol_counts.proofs.Places.{close_at, open_at, substituted_open, closed_again, Around, below, in_function, onward}
+use Rattle.ol_counts.proofs.Matching.{Chain, env, slice_get_kept, first_kept, chain_new, put_env, Abstraction, NameOf, of_var, of_free, of_argument, name_neutral, cell_more}
 use Rattle.ol_counts.specs.NeedLaws.{has_head}
-use Rattle.ol_counts.proofs.Moving.{HasCell, HaveCells, Held, State, have_still, more_sees}
-use Rattle.ol_counts.proofs.Moving.{enters, total, measure_of, Onward, Outcome}
+use Rattle.ol_counts.proofs.Moving.{HasCell, HaveCells, Held, State, have_still, more_sees, enters, total, measure_of, Onward, Outcome, values_of}
 use Rattle.ol_counts.proofs.Weights.{weight, weight_ren, some_weight, weights, less_first}
 use Rattle.ol_law_edges.proofs.Lists.{got_last}
-use Rattle.ol_counts.proofs.Moving.{values_of}
 
 -- ---- an abstraction
 

@@ -1,16 +1,10 @@
 -- Every move of the machine, as a family step of the labelled term, or none.
-use Rattle.std.proofs.Common.{◌≡◌, ℕ, inl, inr, List, [], ◌∷◌}
-use Rattle.std.proofs.Common.{true, sym}
-use Rattle.ol_counts.specs.Machines.{Machine, Link, Weak, function, name, Cell, Frame, argument, write}
-use Rattle.ol_counts.specs.Machines.{Control, goes, came, next}
+use Rattle.std.proofs.Common.{◌≡◌, ℕ, inl, inr, List, [], ◌∷◌, true, sym}
+use Rattle.ol_counts.specs.Machines.{Machine, Link, Weak, function, name, Cell, Frame, argument, write, Control, goes, came, next}
 use Rattle.ol_law_optimality.specs.Labels.{Labelled}
-use Rattle.ol_counts.proofs.Matching.{WeakOf}
-use Rattle.ol_counts.proofs.Matching.{ControlOf}
+use Rattle.ol_counts.proofs.Matching.{WeakOf, ControlOf}
 use Rattle.ol_counts.specs.NeedLaws.{has_head}
-use Rattle.ol_counts.proofs.Moving.{onward_if, contracted_if}
-use Rattle.ol_counts.proofs.Moving.{Held, State}
-use Rattle.ol_counts.proofs.Moving.{measure_of, Outcome}
-use Rattle.ol_counts.proofs.Moving.{values_of}
+use Rattle.ol_counts.proofs.Moving.{onward_if, contracted_if, Held, State, measure_of, Outcome, values_of}
 use Rattle.ol_counts.proofs.Going.{goes_on}
 use Rattle.ol_counts.proofs.Applying.{came_abstraction, came_name}
 use Rattle.ol_counts.proofs.Writing.{came_write}

@@ -1,22 +1,14 @@
 -- What came is written over a cell.
-use Rattle.std.proofs.Common.{◌≡◌, ℕ, zero, suc, ◌+◌, ◌<◌, ◌⊎◌, inl, inr, List, [], ◌∷◌, length}
-use Rattle.std.proofs.Common.{true, slice_get, slice_set, Some, refl, sym, ap, ◌∙◌, subst, arith}
+use Rattle.std.proofs.Common.{◌≡◌, ℕ, zero, suc, ◌+◌, ◌<◌, ◌⊎◌, inl, inr, List, [], ◌∷◌, length, true, slice_get, slice_set, Some, refl, sym, ap, ◌∙◌, subst, arith}
 use Rattle.std.proofs.lemmas.Bool.{cases_eq}
 use Rattle.ol_law_edges.specs.Edges.{IsIn}
-use Rattle.ol_counts.specs.Machines.{Link, Weak, Cell, has, Frame, write}
-use Rattle.ol_counts.specs.Machines.{came, next}
-use Rattle.ol_law_optimality.specs.Labels.{Labelled}
-use Rattle.ol_law_optimality.specs.Labels.{before}
-use Rattle.ol_counts.proofs.Stacks.{sees_var}
-use Rattle.ol_counts.proofs.Stacks.{stands_sees, busy_rank, busy_or_not}
-use Rattle.ol_counts.proofs.Stacks.{UnderWrite, under_write_view}
+use Rattle.ol_counts.specs.Machines.{Link, Weak, Cell, has, Frame, write, came, next}
+use Rattle.ol_law_optimality.specs.Labels.{Labelled, before}
+use Rattle.ol_counts.proofs.Stacks.{sees_var, stands_sees, busy_rank, busy_or_not, UnderWrite, under_write_view}
 use Rattle.ol_counts.proofs.Places.{Around}
-use Rattle.ol_counts.proofs.Matching.{WeakOf}
-use Rattle.ol_counts.proofs.Matching.{weak_before}
-use Rattle.ol_counts.proofs.Moving.{HasCell, HaveCells, Held, State, Looked, looked}
-use Rattle.ol_counts.proofs.Moving.{measure_of, Onward}
+use Rattle.ol_counts.proofs.Matching.{WeakOf, weak_before}
+use Rattle.ol_counts.proofs.Moving.{HasCell, HaveCells, Held, State, Looked, looked, measure_of, Onward, values_of}
 use Rattle.ol_counts.proofs.Weights.{weight, weights}
-use Rattle.ol_counts.proofs.Moving.{values_of}
 
 pub set_same : {X : Type 0} (xs : List X) (i : ℕ) (x : X) → i < length xs →
     slice_get (slice_set xs i x) i ≡ Some x

@@ -6,6 +6,7 @@ pub mod Waves
 pub mod WaveAnswers
 pub mod WaveLaws
 pub mod Ways
+pub mod Crossings
 pub mod Tallies
 pub mod Tables
 pub mod Objects
@@ -16,5 +17,6 @@ pub mod NeedExamples
 pub mod Columns
 -- What only contracts of private functions and proofs cite.
 pub mod HeldMachines
+pub mod ReadingCounted
 pub mod CountsOfWaves
 pub mod Tabled

@@ -3,8 +3,7 @@
 --
 -- A closure is a term with an environment, in which each variable has a cell. A cell has a closure, or what came out of
 -- it, its weak head normal form, which is written over it. So a closure is reduced at most once, however often it is used.
-use Rattle.std.specs.Prelude.{ℕ, zero, suc, ◌+◌, Bool, false, List, [], ◌∷◌, ◌++◌, length, slice_get, slice_set}
-use Rattle.std.specs.Prelude.{Option, None, Some, is_none, if◌then◌else◌, ◌==◌, ◌&&◌}
+use Rattle.std.specs.Prelude.{◌≡◌, ℕ, zero, suc, ◌+◌, Bool, false, List, [], ◌∷◌, ◌++◌, length, slice_get, slice_set, Option, None, Some, is_none, if◌then◌else◌, ◌==◌, ◌&&◌}
 use Rattle.ol_term.specs.Trees as trees
 use Rattle.ol_term.specs.Trees.{Tree}
 
@@ -169,3 +168,7 @@ steps_if_ended m = if is_ended m then Some m.steps else None
 
 abbrev pub need_count : Tree → ℕ → Option ℕ
 need_count t moves = steps_if_ended (after moves (begun t))
+
+-- how many beta steps the machine makes within so many moves, and whether it ends
+abbrev pub IsNeedCount : Tree → ℕ → ℕ → Bool → Type 0
+IsNeedCount t moves n ended = (n ≡ (after moves (begun t)).steps) × (ended ≡ is_ended (after moves (begun t)))

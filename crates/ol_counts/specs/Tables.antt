@@ -1,6 +1,5 @@
 -- The text of a table.
-use Rattle.std.specs.Prelude.{ℕ, ◌+◌, ◌-◌, Bool, true, false, if◌then◌else◌, List, [], ◌∷◌, ◌++◌}
-use Rattle.std.specs.Prelude.{length, take, codes, Option, None, Some}
+use Rattle.std.specs.Prelude.{ℕ, ◌+◌, ◌-◌, Bool, true, false, if◌then◌else◌, List, [], ◌∷◌, ◌++◌, length, take, codes, Option, None, Some}
 use Rattle.std.specs.Fmt.{decimal}
 use Rattle.std.specs.List.{flat_map, list_all, list_any}
 use Rattle.ol_rules.specs.declared.journal.Counts.{Counts}
@@ -10,43 +9,58 @@ use Rattle.ol_subjects.specs.declared.answers.End.TheVariants.{Yes, No}
 use Rattle.ol_counts.specs.declared.tables.Column.{Column}
 use Rattle.ol_counts.specs.declared.tables.Row.{Row}
 use Rattle.ol_counts.specs.declared.tables.Row.TheVariants as row
-use Rattle.ol_counts.specs.declared.tallies.Tally.{Tally}
-use Rattle.ol_counts.specs.declared.tallies.Tally.TheVariants.{Rules, Steps, NotEnded, NoTerm}
+use Rattle.ol_counts.specs.declared.tallies.Readback.{Readback}
+use Rattle.ol_counts.specs.declared.tallies.Numbers.{Numbers}
+use Rattle.ol_counts.specs.declared.tallies.Numbers.TheVariants.{Net, Steps, Nothing}
 use Rattle.ol_counts.specs.Ways.{is_of_net, title}
 
 -- ---- the numbers
 
--- the number of a row of a run
-abbrev pub in_row : Row → Counts → ℕ → ℕ
-in_row row.Beta c stuck = c.beta
-in_row row.Fan c stuck = c.fan
-in_row row.Croissant c stuck = c.croissant
-in_row row.Bracket c stuck = c.bracket
-in_row row.CrossFan c stuck = c.cross_fan
-in_row row.CrossCroissant c stuck = c.cross_croissant
-in_row row.CrossBracket c stuck = c.cross_bracket
-in_row row.Erase c stuck = c.erase
-in_row row.Interactions c stuck = interactions c
-in_row row.Stuck c stuck = stuck
+abbrev pub places_in : Option Readback → Option ℕ
+places_in (Some read) = Some read.places
+places_in None = None
+
+abbrev pub crossings_in : Option Readback → Option ℕ
+crossings_in (Some read) = Some read.crossings
+crossings_in None = None
+
+-- the number that a reduction of a net has in a row, if it is known
+abbrev pub in_row : Row → Counts → (stuck : ℕ) → Option Readback → Option ℕ
+in_row row.Beta c stuck read = Some c.beta
+in_row row.Fan c stuck read = Some c.fan
+in_row row.Croissant c stuck read = Some c.croissant
+in_row row.Bracket c stuck read = Some c.bracket
+in_row row.CrossFan c stuck read = Some c.cross_fan
+in_row row.CrossCroissant c stuck read = Some c.cross_croissant
+in_row row.CrossBracket c stuck read = Some c.cross_bracket
+in_row row.Erase c stuck read = Some c.erase
+in_row row.Interactions c stuck read = Some (interactions c)
+in_row row.Stuck c stuck read = Some stuck
+in_row row.Places c stuck read = places_in read
+in_row row.Crossings c stuck read = crossings_in read
 
 -- beta steps alone
 abbrev pub steps_in : Row → ℕ → Option ℕ
 steps_in row.Beta n = Some n
 steps_in _ n = None
 
--- the number of a row, where there is one
-abbrev pub number_in : Row → Tally → Option ℕ
-number_in r (Rules counts stuck) = Some (in_row r counts stuck)
+-- the number of a row, if there is any
+abbrev pub number_in : Row → Numbers → Option ℕ
+number_in r (Net counts stuck read) = in_row r counts stuck read
 number_in r (Steps n) = steps_in r n
-number_in r NotEnded = None
-number_in r NoTerm = None
+number_in r Nothing = None
 
 -- ---- the text
 
--- a number, or a hyphen where there is none
-abbrev pub digits : Option ℕ → List ℕ
-digits (Some n) = decimal n
-digits None = codes "-"
+-- what follows the numbers of a way: a plus if it was cut
+abbrev pub sign : (ended : Bool) → List ℕ
+sign true = []
+sign false = codes "+"
+
+-- a number with its sign, or a hyphen if there is none
+abbrev pub digits : Option ℕ → (ended : Bool) → List ℕ
+digits (Some n) ended = decimal n ++ sign ended
+digits None ended = codes "-"
 
 -- a text at the right end of twelve columns
 abbrev pub at_right : List ℕ → List ℕ
@@ -57,7 +71,7 @@ head c = at_right (title c.way)
 
 -- what a column has in a row
 abbrev pub cell : Row → Column → List ℕ
-cell r c = at_right (digits (number_in r c.tally))
+cell r c = at_right (digits (number_in r c.tally.numbers) c.tally.ended)
 
 abbrev pub row_name : Row → List ℕ
 row_name row.Beta = codes "beta            "
@@ -70,6 +84,8 @@ row_name row.CrossBracket = codes "cross-bracket   "
 row_name row.Erase = codes "erase           "
 row_name row.Interactions = codes "interactions    "
 row_name row.Stuck = codes "stuck           "
+row_name row.Places = codes "places          "
+row_name row.Crossings = codes "crossings       "
 
 abbrev pub row_text : List Column → Row → List ℕ
 row_text columns r = row_name r ++ flat_map (cell r) columns ++ codes "\n"
@@ -77,7 +93,8 @@ row_text columns r = row_name r ++ flat_map (cell r) columns ++ codes "\n"
 -- the rows that only runs of a net have
 abbrev pub net_rows : List Row
 net_rows = row.Fan ∷ row.Croissant ∷ row.Bracket ∷ row.CrossFan ∷ row.CrossCroissant
-    ∷ row.CrossBracket ∷ row.Erase ∷ row.Interactions ∷ row.Stuck ∷ []
+    ∷ row.CrossBracket ∷ row.Erase ∷ row.Interactions ∷ row.Stuck ∷ row.Places
+    ∷ row.Crossings ∷ []
 
 -- a run of a net is shown
 abbrev pub has_net : List Column → Bool
@@ -91,16 +108,9 @@ table_text columns =
 
 -- ---- the end
 
--- a way without a term has nothing to end
-abbrev pub has_ended : Tally → Bool
-has_ended (Rules counts stuck) = true
-has_ended (Steps n) = true
-has_ended NotEnded = false
-has_ended NoTerm = true
-
 abbrev pub have_ended : List Column → Bool
-have_ended columns = list_all (λ c. has_ended c.tally) columns
+have_ended columns = list_all (λ c. c.tally.ended) columns
 
--- yes where all have ended
+-- Yes if all have ended
 abbrev pub end_of : List Column → End
 end_of columns = if have_ended columns then Yes else No

@@ -114,29 +114,36 @@ fn of_net_file(
 /// What a term, or a net, costs by each way that has a column, side by side. Nothing is reckoned
 /// for a way that has none.
 ///
-/// - `run`, `demand`: of each rule how often the run applies it, all interactions, and how many
-///   pairs are stuck in the net that is left.
-/// - `leftmost`, `applicative`: how many beta steps that order makes to its end.
-/// - `need`: how many beta steps the machine of call-by-need makes to the normal form (`need_count`
-///   of `ol_counts`).
-/// - `families`: of how many families the redexes are that leftmost reduction contracts
+/// - `run`, `demand`: how often the reduction of the net applies each rule, the number of
+///   interactions, and how many pairs are stuck in the last net. `demand` also has `places`, the
+///   number of subterms of the normal form that were read, and `crossings`, the number of crossings
+///   of the paths in the last net that lead to the heads of these subterms.
+/// - `leftmost`, `applicative`: the number of β-steps of that order.
+/// - `need`: the number of β-steps of the machine of call-by-need (`IsNeedCount`).
+/// - `families`: the number of families of the redexes that leftmost reduction contracts
 ///   (`IsFamilyCount` of `ol_families`).
 ///
-/// The ways that aren't runs of the net have beta steps alone. If no run is shown, the row of beta
-/// steps is the only one.
+/// The last four have β-steps alone. The row of β-steps is the only row if neither `run` nor
+/// `demand` is shown.
 ///
-/// As `Layout::Object` it is a JSON object on one line: `columns` is an object with a member for each
-/// column, by its title. That is an object of numbers, by the names of the rows that the way has, or
-/// `null` where the table has hyphens alone.
+/// If a bound cuts a way, the numbers of that way are those up to the cut, and a plus follows each
+/// of them: there may be more. `run` is cut by the fuel; `demand` by the fuel, or if subterms of
+/// the normal form are left after `heads`. An order is cut after `steps`, or at a term of more than
+/// 100,000 constructors, or of more than 1,000 that are nested. `families` is cut with leftmost
+/// reduction, or by labels of more than 10,000,000 letters (`families` of `ol_families`). `need` is
+/// cut after `moves`.
 ///
-/// A hyphen stands where there is nothing to count: of a net alone only runs are counted. It also
-/// stands in a column whose way goes on beyond its bound. For an order that is beyond `steps`, or
-/// to a term of more than 100,000 constructors or of more than 1,000 of them one within another.
-/// For `families` it is the same of leftmost reduction, or labels of more than 10,000,000 letters
-/// (`families` of `ol_families`). For `need` it is beyond `moves`.
+/// A hyphen means that there is nothing to count: a net without a term has numbers of `run` and
+/// `demand` only, and those of `demand` only if the net has a free port. `places` and `crossings`
+/// are unknown if the fuel cuts `demand`.
 ///
-/// - `Yes`: each way that is shown and that had something to count has ended.
-/// - `No`: one of them goes on, or there is no free port from which `demand` could read.
+/// As `Layout::Object` the text is a JSON object on one line: `columns` is an object with a member
+/// for each column, by its title. The member is an object with the numbers of the column, by the
+/// names of the rows, and with `ended`, which is false if the way was cut; or `null`, if the column
+/// has hyphens alone.
+///
+/// - `Yes`: no way that is shown was cut.
+/// - `No`: a way that is shown was cut.
 /// - `Refused`: `ol` refuses the file, by this line.
 ///
 /// The file has at most 1,048,576 bytes with a term, and 33,554,432 with a net. `NoMemory`: no

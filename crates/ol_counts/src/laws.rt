@@ -87,10 +87,10 @@ pub fn small_terms()
     ensures forms { SmallForms }
 {}
 
-/// In a table that `ol-bench counts` writes of a text of the grammar, whatever the bounds are, the
-/// numbers stand in one order, where the columns are shown and have numbers: beta steps of demand order
-/// are no more than families, families no more than beta steps by need, and these no more than the steps
-/// of leftmost reduction.
+/// In a table that `ol-bench counts` prints of a valid term, for any bounds, the columns that are shown
+/// and have ended are in this order: on-demand reduction has as many β-steps as there are families,
+/// call-by-need at least as many, and leftmost reduction at least as many as call-by-need. If
+/// on-demand reduction was cut, its β-steps are at most as many as the families.
 pub fn table_is_in_order()
     ensures { TableIsInOrder }
 {}

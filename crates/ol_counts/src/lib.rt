@@ -2,6 +2,7 @@
 //!
 //! - `sums`: how many interactions some counts tell
 //! - `ordered`: how many beta steps an order of reduction makes to its end
+//! - `crossings`: how many crossings the reading of a net takes
 //! - `need`: how many beta steps call-by-need makes: a machine with closures, each of which is reduced
 //!   once
 //! - `ways`: ways of reducing, and which of them are shown
@@ -18,6 +19,7 @@
 #![tactic(auto)]
 
 mod counting;
+mod crossings;
 mod laws;
 mod need;
 mod objects;

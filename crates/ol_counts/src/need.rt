@@ -7,9 +7,10 @@
 ghost use Rattle.std.specs.Prelude.{◌≡◌, suc, ◌+◌, ◌<◌, [], ◌∷◌, ◌++◌, length, IfOk, OnOk, IfSome, IfNone, slice_get, slice_set};
 ghost use Rattle.std.specs.Option.{option_map};
 ghost use Rattle.ol_term.specs.Trees.{tree_of};
-ghost use Rattle.ol_counts.specs.Machines.{goes, came, has, applied, begun, behind, behind_link, entered, entered_link, first_link, has_name, is_ended, linked, named, need_count, next, shown, went, done};
+ghost use Rattle.ol_counts.specs.Machines.{goes, came, has, applied, begun, behind, behind_link, entered, entered_link, first_link, has_name, is_ended, linked, named, next, IsNeedCount, shown, went, done};
 ghost use Rattle.ol_counts.specs.HeldMachines.{cell_of, frame_of, link_of, machine_of, weak_of, HasRoom};
 
+use ol_families::Count;
 use ol_limits::NoMemory;
 use ol_term::Term;
 use std::alloc::Global;
@@ -384,21 +385,25 @@ impl<'a> Reducer<'a> {
 /// most once, to weak head normal form (Sestoft, Deriving a lazy abstract machine, 1997). What
 /// stands below an abstraction is reduced anew each time that the abstraction is applied.
 ///
-/// None comes exactly if the machine doesn't come to its end within `moves` moves, which are more
-/// than the beta steps. A variable that nothing binds is a name. No call is as deep as the term.
+/// The machine makes at most `moves` moves, of which some are β-steps. The count is cut if the machine
+/// doesn't end within these moves. A free variable is a name. No call is as deep as the term.
 /// `NoMemory`: no memory was found.
-pub fn steps_by_need(alloc: Global, term: &Term, moves: u32) -> Result<Option<u32>, NoMemory>
-    ensures { IfOk result (λ steps. steps ≡ need_count (tree_of term.now) moves) }
+pub fn steps_by_need(alloc: Global, term: &Term, moves: u32) -> Result<Count, NoMemory>
+    ensures { IfOk result (λ c. IsNeedCount (tree_of term.now) moves c.number c.ended) }
 {
     let mut machine = Reducer::new(alloc, term);
     for _made in 0..moves {
         if machine.is_ended() {
-            return Ok(Some(machine.steps));
+            return Ok(Count {
+                number: machine.steps,
+                ended: true,
+            });
         }
         machine.step()?;
     }
-    if machine.is_ended() {
-        return Ok(Some(machine.steps));
-    }
-    Ok(None)
+    let ended = machine.is_ended();
+    Ok(Count {
+        number: machine.steps,
+        ended,
+    })
 }

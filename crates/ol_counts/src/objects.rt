@@ -2,10 +2,10 @@
 
 ghost use Rattle.std.specs.Prelude.{◌≡◌, ◌++◌, [], IfOk, OnOk};
 ghost use Rattle.std.specs.List.{flat_map};
-ghost use Rattle.ol_counts.specs.Objects.{column_member, key, members_after, net_members, number_member, object_text, tally_object, text_in};
+ghost use Rattle.ol_counts.specs.Objects.{column_member, ended_member, key, known_member, members_after, net_members, number_member, object_text, tally_object, text_in};
 
 use crate::tables::{Column, NET_ROWS, Row, in_row, table};
-use crate::tallies::Tally;
+use crate::tallies::{Numbers, Readback, Tally};
 use crate::ways::title;
 use ol_limits::NoMemory;
 use ol_rules::Counts;
@@ -26,6 +26,8 @@ fn key(row: Row) -> &'static str
         Row::Erase => "\"erase\":",
         Row::Interactions => "\"interactions\":",
         Row::Stuck => "\"stuck\":",
+        Row::Places => "\"places\":",
+        Row::Crossings => "\"crossings\":",
     }
 }
 
@@ -45,37 +47,68 @@ fn put_number_member(
     put_number(alloc, text, number)
 }
 
+// Appends the member of a row that only runs of a net have, if its number is known.
+fn put_net_member(
+    alloc: Global,
+    text: &mut Vec<u8>,
+    row: Row,
+    number: Option<u64>,
+) -> Result<(), NoMemory>
+    ensures { OnOk result (text.new.items ≡ text.old.items ++ known_member row number) }
+{
+    match number {
+        Some(number) => put_number_member(alloc, text, b",", row, number),
+        None => Ok(()),
+    }
+}
+
 // Appends the members of the rows that only runs of a net have.
 fn put_net_members(
     alloc: Global,
     text: &mut Vec<u8>,
     counts: Counts,
     stuck: u32,
+    read: Option<Readback>,
 ) -> Result<(), NoMemory>
-    ensures { OnOk result (text.new.items ≡ text.old.items ++ net_members counts stuck) }
+    ensures { OnOk result (text.new.items ≡ text.old.items ++ net_members counts stuck read) }
 {
     for row in NET_ROWS {
-        put_number_member(alloc, text, b",", row, in_row(row, counts, stuck))?;
+        put_net_member(alloc, text, row, in_row(row, counts, stuck, read))?;
     }
     Ok(())
 }
 
+// Whether a way has ended, as the last member of its object.
+fn ended_member(ended: bool) -> &'static str
+    ensures { result.now ≡ ended_member ended }
+{
+    if ended {
+        ",\"ended\":true}"
+    } else {
+        ",\"ended\":false}"
+    }
+}
+
 // Appends what a way comes to.
 fn put_tally(alloc: Global, text: &mut Vec<u8>, tally: Tally) -> Result<(), NoMemory>
-    ensures { OnOk result (text.new.items ≡ text.old.items ++ tally_object tally) }
+    ensures { OnOk result
+        (text.new.items ≡ text.old.items ++ tally_object tally.numbers tally.ended) }
 {
-    match tally {
-        Tally::Rules { counts, stuck } => {
+    match tally.numbers {
+        Numbers::Net {
+            counts,
+            stuck,
+            read,
+        } => {
             put_number_member(alloc, text, b"{", Row::Beta, counts.beta as u64)?;
-            put_net_members(alloc, text, counts, stuck)?;
-            put(text, b"}")
+            put_net_members(alloc, text, counts, stuck, read)?;
+            put(text, ended_member(tally.ended).as_bytes())
         }
-        Tally::Steps(steps) => {
+        Numbers::Steps(steps) => {
             put_number_member(alloc, text, b"{", Row::Beta, steps as u64)?;
-            put(text, b"}")
+            put(text, ended_member(tally.ended).as_bytes())
         }
-        Tally::NotEnded => put(text, b"null"),
-        Tally::NoTerm => put(text, b"null"),
+        Numbers::Nothing => put(text, b"null"),
     }
 }
 

@@ -5,6 +5,7 @@ ghost use Rattle.ol_term.specs.Trees.{tree_of, is_below, term_size};
 ghost use Rattle.ol_counts.specs.Ordered.{IsOrderCount};
 
 use ol_beta::{BetaFault, beta};
+use ol_families::Count;
 use ol_limits::{MOST_DEPTH, MOST_SIZE, NoMemory};
 use ol_strategies::{Order, redex};
 use ol_term::{Term, depth, size};
@@ -21,36 +22,42 @@ fn last<'a>(first: &'a Term, later: &'a Option<Term>) -> &'a Term
     }
 }
 
-/// How many steps an order of reduction makes from a term to its end, within `most`.
+/// How many steps an order of reduction makes from a term, at most `most`, and whether the reduction
+/// has ended.
 ///
-/// None comes exactly if the order goes on after `most` steps, or if the term itself, or one that
-/// these steps would give, has more than 100,000 constructors or more than 1,000 of them one within
-/// another.
+/// The count is cut if a redex is left after `most` steps, or if the term itself, or the result of a
+/// step, has more than 100,000 constructors or more than 1,000 that are nested. That step is counted
+/// too.
 ///
 /// Each `Var` in the term is bound, and the term has fewer than 2^64 constructors. `NoMemory`: no
 /// memory was found.
-pub fn steps_to_end(
-    alloc: Global,
-    order: Order,
-    term: &Term,
-    most: u32,
-) -> Result<Option<u32>, NoMemory>
+pub fn steps_to_end(alloc: Global, order: Order, term: &Term, most: u32) -> Result<Count, NoMemory>
     requires few { term_size (tree_of term.now) < 2 ^ 64 }
     requires bound { is_below 0 (tree_of term.now) ≡ true }
-    ensures { IfOk result (λ steps. IsOrderCount order (tree_of term.now) most steps) }
+    ensures { IfOk result (λ c.
+        IsOrderCount order (tree_of term.now) most c.number c.ended) }
 {
     if size(term) > MOST_SIZE as u64 || depth(term) > MOST_DEPTH as u64 {
-        return Ok(None);
+        return Ok(Count {
+            number: 0,
+            ended: false,
+        });
     }
     let mut later: Option<Term> = None;
     let mut made: u32 = 0;
     loop {
         let here = last(term, &later);
         let Some(at) = redex(alloc, order, here)? else {
-            return Ok(Some(made));
+            return Ok(Count {
+                number: made,
+                ended: true,
+            });
         };
         if made == most {
-            return Ok(None);
+            return Ok(Count {
+                number: made,
+                ended: false,
+            });
         }
         match beta(alloc, here, &at) {
             Ok(next) => {
@@ -58,7 +65,12 @@ pub fn steps_to_end(
                 made += 1;
             }
             Err(fault) => match fault {
-                BetaFault::Past { .. } => return Ok(None),
+                BetaFault::Past { .. } => {
+                    return Ok(Count {
+                        number: made + 1,
+                        ended: false,
+                    });
+                }
                 BetaFault::NotRedex => unreachable!(),
                 BetaFault::NoMemory => return Err(NoMemory),
             },

@@ -2,10 +2,10 @@
 
 ghost use Rattle.std.specs.Prelude.{◌≡◌, ◌++◌, IfOk, OnOk};
 ghost use Rattle.std.specs.List.{flat_map};
-ghost use Rattle.ol_counts.specs.Tables.{at_right, cell, digits, end_of, has_ended, has_net, have_ended, head, in_row, net_rows, number_in, row_name, row_text, steps_in, table_text};
+ghost use Rattle.ol_counts.specs.Tables.{at_right, cell, crossings_in, digits, end_of, has_net, have_ended, head, in_row, net_rows, number_in, places_in, row_name, row_text, sign, steps_in, table_text};
 
 use crate::sums::interactions;
-use crate::tallies::Tally;
+use crate::tallies::{Numbers, Readback, Tally};
 use crate::ways::{Way, is_of_net, title};
 use ol_limits::NoMemory;
 use ol_rules::Counts;
@@ -43,10 +43,14 @@ pub enum Row {
     Interactions,
     /// How many pairs are left that have no rule.
     Stuck,
+    /// How many subterms of the normal form were read.
+    Places,
+    /// How many crossings the paths to the heads of these subterms have.
+    Crossings,
 }
 
 /// The rows that only runs of a net have.
-pub const NET_ROWS: [Row; 9] = [
+pub const NET_ROWS: [Row; 11] = [
     Row::Fan,
     Row::Croissant,
     Row::Bracket,
@@ -56,6 +60,8 @@ pub const NET_ROWS: [Row; 9] = [
     Row::Erase,
     Row::Interactions,
     Row::Stuck,
+    Row::Places,
+    Row::Crossings,
 ];
 
 // As many spaces as a column is wide.
@@ -75,24 +81,46 @@ fn row_name(row: Row) -> &'static str
         Row::Erase => "erase           ",
         Row::Interactions => "interactions    ",
         Row::Stuck => "stuck           ",
+        Row::Places => "places          ",
+        Row::Crossings => "crossings       ",
     }
 }
 
-/// The number of a row of a run.
-pub fn in_row(row: Row, counts: Counts, stuck: u32) -> u64
-    ensures { result ≡ in_row row counts stuck }
+fn places_in(read: Option<Readback>) -> Option<u64>
+    ensures { result ≡ places_in read }
+{
+    match read {
+        Some(read) => Some(read.places as u64),
+        None => None,
+    }
+}
+
+fn crossings_in(read: Option<Readback>) -> Option<u64>
+    ensures { result ≡ crossings_in read }
+{
+    match read {
+        Some(read) => Some(read.crossings),
+        None => None,
+    }
+}
+
+/// The number that a reduction of a net has in a row, if the number is known.
+pub fn in_row(row: Row, counts: Counts, stuck: u32, read: Option<Readback>) -> Option<u64>
+    ensures { result ≡ in_row row counts stuck read }
 {
     match row {
-        Row::Beta => counts.beta as u64,
-        Row::Fan => counts.fan as u64,
-        Row::Croissant => counts.croissant as u64,
-        Row::Bracket => counts.bracket as u64,
-        Row::CrossFan => counts.cross_fan as u64,
-        Row::CrossCroissant => counts.cross_croissant as u64,
-        Row::CrossBracket => counts.cross_bracket as u64,
-        Row::Erase => counts.erase as u64,
-        Row::Interactions => interactions(counts),
-        Row::Stuck => stuck as u64,
+        Row::Beta => Some(counts.beta as u64),
+        Row::Fan => Some(counts.fan as u64),
+        Row::Croissant => Some(counts.croissant as u64),
+        Row::Bracket => Some(counts.bracket as u64),
+        Row::CrossFan => Some(counts.cross_fan as u64),
+        Row::CrossCroissant => Some(counts.cross_croissant as u64),
+        Row::CrossBracket => Some(counts.cross_bracket as u64),
+        Row::Erase => Some(counts.erase as u64),
+        Row::Interactions => Some(interactions(counts)),
+        Row::Stuck => Some(stuck as u64),
+        Row::Places => places_in(read),
+        Row::Crossings => crossings_in(read),
     }
 }
 
@@ -106,26 +134,37 @@ fn steps_in(row: Row, steps: u32) -> Option<u64>
     }
 }
 
-// The number of a row, where there is one.
-fn number_in(row: Row, tally: Tally) -> Option<u64>
-    ensures { result ≡ number_in row tally }
+// The number of a row, if there is any.
+fn number_in(row: Row, numbers: Numbers) -> Option<u64>
+    ensures { result ≡ number_in row numbers }
 {
-    match tally {
-        Tally::Rules { counts, stuck } => Some(in_row(row, counts, stuck)),
-        Tally::Steps(steps) => steps_in(row, steps),
-        Tally::NotEnded => None,
-        Tally::NoTerm => None,
+    match numbers {
+        Numbers::Net {
+            counts,
+            stuck,
+            read,
+        } => in_row(row, counts, stuck, read),
+        Numbers::Steps(steps) => steps_in(row, steps),
+        Numbers::Nothing => None,
     }
 }
 
-// The digits of a number, or a hyphen.
-fn digits(alloc: Global, number: Option<u64>) -> Result<Vec<u8>, NoMemory>
-    ensures { IfOk result (λ text. text.items ≡ digits number) }
+// What follows a number.
+fn sign(ended: bool) -> &'static str
+    ensures { result.now ≡ sign ended }
+{
+    if ended { "" } else { "+" }
+}
+
+// A number with its sign, or a hyphen.
+fn digits(alloc: Global, number: Option<u64>, ended: bool) -> Result<Vec<u8>, NoMemory>
+    ensures { IfOk result (λ text. text.items ≡ digits number ended) }
 {
     let mut text = Vec::new(alloc);
     match number {
         Some(number) => {
             put_number(alloc, &mut text, number)?;
+            put(&mut text, sign(ended).as_bytes())?;
             Ok(text)
         }
         None => {
@@ -147,7 +186,8 @@ fn put_at_right(text: &mut Vec<u8>, word: &[u8]) -> Result<(), NoMemory>
 fn put_cell(alloc: Global, text: &mut Vec<u8>, row: Row, column: Column) -> Result<(), NoMemory>
     ensures { OnOk result (text.new.items ≡ text.old.items ++ cell row column) }
 {
-    let word = digits(alloc, number_in(row, column.tally))?;
+    let number = number_in(row, column.tally.numbers);
+    let word = digits(alloc, number, column.tally.ended)?;
     put_at_right(text, &word)
 }
 
@@ -219,27 +259,14 @@ pub fn table(alloc: Global, columns: &[Column]) -> Result<Vec<u8>, NoMemory>
     Ok(text)
 }
 
-// Whether a way has ended, or had nothing to begin with.
-fn has_ended(tally: Tally) -> bool
-    ensures { result ≡ has_ended tally }
-{
-    match tally {
-        Tally::Rules { .. } => true,
-        Tally::Steps(_) => true,
-        Tally::NotEnded => false,
-        Tally::NoTerm => true,
-    }
-}
-
-// Whether all have.
+// Whether all ways have ended.
 fn have_ended(columns: &[Column]) -> bool
     ensures { result ≡ have_ended columns.now }
 {
-    columns.iter().all(|column| has_ended(column.tally))
+    columns.iter().all(|column| column.tally.ended)
 }
 
-/// `Yes`, if all ways that are shown have ended; a way without a term has nothing to end. Else
-/// `No`.
+/// `Yes` if no way that is shown was cut, otherwise `No`.
 pub fn end_of(columns: &[Column]) -> End
     ensures { result ≡ end_of columns.now }
 {

@@ -1,4 +1,4 @@
 use Rattle.ol_counts.proofs.tallies.order_tally.Goals as goal
 
 pub returns : goal.returns
-returns c = (c.in_ok-steps.steps, c.in_ok-steps.ensures, c.steps_tally.ensures)
+returns c = (c.in_ok-steps.steps.number, c.in_ok-steps.steps.ended, c.in_ok-steps.ensures, c.steps_tally.ensures)
