@@ -18,6 +18,7 @@ left. By need, what comes out of a closure is written over it. If nothing is wri
 The last line is 'N passed, M failed'; above it: how many steps and families there were.
 """
 import collections
+import typing
 
 import random_terms
 
@@ -27,11 +28,25 @@ COLUMNS = ["counts", "--no-run", "--no-demand", "--need", "--most", MOST_STEPS, 
 
 
 class TooMany(Exception):
-    """More steps than are followed: a hyphen in the program's column."""
+    """More steps than are followed: the program's column is cut."""
 
 
 class TooLarge(Exception):
     """A term, a label or a normal form grew past what is followed here."""
+
+
+class Count(typing.NamedTuple):
+    """A number, and whether the count has ended. If it was cut, there may be more."""
+    number: int
+    ended: bool = True
+
+    def __str__(self):
+        return str(self.number) + ("" if self.ended else "+")
+
+
+def read(cell):
+    """The count that a cell of the table has; None for a hyphen."""
+    return None if cell == "-" else Count(int(cell.removesuffix("+")), not cell.endswith("+"))
 
 
 class Letters:
@@ -215,24 +230,24 @@ class Machine:
 
 
 def counted(term):
-    """What the program's columns have to be: None for a hyphen. A column isn't there where this script gives up, and families only where
-    the leftmost reduction ends."""
+    """What the program's columns have to be. A column isn't there where this script gives up, and families only where the leftmost
+    reduction ends."""
     found = {}
     for titles, count in ((["leftmost", "families"], leftmost), (["applicative"], lambda term: [applicative(term)]),
                           (["need"], lambda term: [Machine(True, MOST_PLACES).normal(term)])):
         try:
-            found.update(zip(titles, count(term)))
+            found.update(zip(titles, map(Count, count(term))))
         except TooMany:
-            found[titles[0]] = None
+            found[titles[0]] = Count(MOST_STEPS, False)
         except TooLarge:
             pass
     return found
 
 
 def columns(table):
-    """The number of beta steps in each column, None for a hyphen."""
-    titles, (beta, *numbers) = (line.split() for line in table.splitlines()[:2])
-    return {title: None if number == "-" else int(number) for title, number in zip(titles, numbers) if beta == "beta"}
+    """The count of beta steps in each column, None for a hyphen."""
+    titles, (beta, *cells) = (line.split() for line in table.splitlines()[:2])
+    return dict(zip(titles, map(read, cells))) if beta == "beta" else {}
 
 
 def draw(chance):
@@ -247,21 +262,23 @@ def main(words):
         own = counted(tree)
         if "leftmost" not in own:
             return None
-        steps, families, told = own["leftmost"], own.get("families"), []
-        if steps is not None:
+        told = []
+        if own["leftmost"].ended:
+            steps, families = own["leftmost"].number, own["families"].number
             sums.update(terms=1, steps=steps, families=families, fewer=families < steps)
             if Machine(False, MOST_SIZE).normal(tree) != steps:
                 told.append("the machine and substitution count different leftmost steps")
             for translation in (1, 2):
                 status, text = term.ol("demand", "--translation", translation, "--heads", 100_000, term.file)
-                if (status, text.split("\n")[1:2]) != (0, [f"beta {families}"]):
-                    told.append(f"translation {translation}: {text.split()[1:3]} with status {status}, and {families} families")
+                normal_form, *counts = text.split("\n")
+                if (status, counts[:1], "..." in normal_form) != (0, [f"beta {families}"], False):
+                    told.append(f"translation {translation}: {counts[:1]} with status {status}, and {families} families")
         shown = [f"--{title}" for title in ("applicative", "families") if title in own]
         status, table = term.bench(*COLUMNS, *shown, term.file)
         found = columns(table)
-        told += [f"{title}: {found.get(title)}, and {number} is counted" for title, number in own.items()
-                 if title not in found or found[title] != number]
-        if set(found) != {*own, "need"} or status != (1 if None in found.values() else 0):
+        told += [f"{title}: {found.get(title)} in the table, and {count} by this script" for title, count in own.items()
+                 if found.get(title) != count]
+        if set(found) != {*own, "need"} or status != (0 if all(count and count.ended for count in found.values()) else 1):
             told.append(f"columns {' '.join(found)} with status {status}")
         return told
 

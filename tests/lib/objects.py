@@ -9,6 +9,7 @@ Python's json reads, with just the members that the plain answer has (docs/runti
 import json
 import re
 
+import counts
 import random_terms
 
 FIRST_LINE = re.compile(r"(complete|run|not a run at line|bad text at line) ?(\d*)")
@@ -29,10 +30,10 @@ def of_table(text):
     """The object for the plain answer of `counts`."""
     titles, *rows = map(str.split, text.splitlines())
     columns = {title: {} for title in titles}
-    for name, *numbers in rows:
-        for title, number in zip(titles, numbers):
-            if number != "-":
-                columns[title][name] = int(number)
+    for name, *cells in rows:
+        for title, count in zip(titles, map(counts.read, cells)):
+            if count:
+                columns[title].update({name: count.number, "ended": count.ended})
     return {"columns": {title: numbers or None for title, numbers in columns.items()}}
 
 
