@@ -2,7 +2,7 @@
 use Rattle.std.proofs.Common.{◌≡◌, ℕ, suc, ◌+◌, ◌<◌, inl, inr, List, [], ◌∷◌, ◌++◌, true, refl, sym, ◌∙◌, subst, arith}
 use Rattle.std.proofs.lemmas.List.{length_push}
 use Rattle.ol_law_edges.specs.Edges.{IsIn}
-use Rattle.ol_counts.specs.Machines.{Machine, Link, function, name, Cell, Frame, argument, write, Control, came, behind, next}
+use Rattle.ol_counts.specs.Machines.{Machine, Link, function, name, Cell, Frame, argument, write, Control, came, next}
 use Rattle.ol_term.specs.Trees.{Tree}
 use Rattle.ol_law_optimality.specs.Labels.{Label, none, over, under, joined, Labelled, var, lam, app, before}
 use Rattle.ol_law_optimality.specs.Reductions.{Parallel, of_redex, reduct, FamilyStep, FamilyReduces}

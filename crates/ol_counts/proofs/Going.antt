@@ -3,10 +3,10 @@ use Rattle.std.proofs.Common.{◌≡◌, ℕ, suc, ◌+◌, ◌<◌, ◌⊎◌, 
 use Rattle.std.proofs.lemmas.Bool.{cases_eq}
 use Rattle.std.proofs.lemmas.List.{length_push}
 use Rattle.ol_law_edges.specs.Edges.{IsIn}
-use Rattle.ol_counts.specs.Machines.{Machine, Link, name, Cell, waits, Frame, argument, write, Control, goes, behind, entered_link, next}
+use Rattle.ol_counts.specs.Machines.{Machine, Link, Cell, waits, Frame, argument, write, Control, goes, behind, entered_link, next}
 use Rattle.ol_term.specs.Trees.{Tree}
 use Rattle.ol_term.specs.Trees as trees
-use Rattle.ol_law_optimality.specs.Labels.{none, Labelled, var, free, lam, app}
+use Rattle.ol_law_optimality.specs.Labels.{none, Labelled, var, app}
 use Rattle.ol_law_optimality.proofs.Putting.{inst, before_none}
 use Rattle.ol_counts.proofs.Heaps.{with_at, with_own, with_other, Sees, Sound, rank, rank_own, sees_more, sees_below, cell_values, one_cell_more}
 use Rattle.ol_counts.proofs.Stacks.{sees_fun, sees_arg, sees_app, var_sees, Stands, under_argument, stands_sees, root_sees, busy_within, stands_more, Replaced, replaced, SameValue, same_value}

@@ -3,7 +3,7 @@ use Rattle.std.proofs.Common.{Bool, false, ◌≡◌, ℕ, suc, ◌+◌, ◌<◌
 use Rattle.std.proofs.lemmas.Bool.{cases_eq}
 use Rattle.std.proofs.lemmas.List.{length_push}
 use Rattle.ol_law_edges.specs.Edges.{IsIn}
-use Rattle.ol_counts.specs.Machines.{Machine, Link, function, name, Cell, has, write, came, first_link, behind, passed, named, next}
+use Rattle.ol_counts.specs.Machines.{Machine, Link, function, name, Cell, has, write, came, first_link, passed, named, next}
 use Rattle.ol_term.specs.Trees.{Tree}
 use Rattle.ol_law_optimality.specs.Labels.{Label, none, Labelled, var, lam, app, before, substituted}
 use Rattle.ol_law_optimality.proofs.Putting.{ren, up, inst, before_none, inst_inst, inst_substituted}

@@ -1,5 +1,5 @@
 -- Private: words of private contracts alone: the counts of each wave, side by side.
-use Rattle.std.specs.Prelude.{◌≡◌, ℕ, zero, suc, ◌+◌, ◌<◌, ◌≤◌, List, [], ◌++◌, length, slice_index_or}
+use Rattle.std.specs.Prelude.{◌≡◌, ℕ, zero, suc, ◌<◌, ◌≤◌, List, [], ◌++◌, length, slice_index_or}
 use Rattle.ol_rules.specs.declared.journal.Entry.{Entry}
 use Rattle.ol_rules.specs.declared.journal.Counts.{Counts}
 use Rattle.ol_rules.specs.Counting.{counts_of}

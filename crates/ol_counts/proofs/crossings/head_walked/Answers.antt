@@ -1,7 +1,6 @@
 use Rattle.std.proofs.Common.{List, ℕ, map, refl, sym, ap, ◌∙◌, subst, arith}
 use Rattle.ol_net.specs.Numbered.{net_of}
 use Rattle.ol_context.specs.Shapes.{value, AreHeld, context_of}
-use Rattle.ol_context.specs.declared.answers.OpenWalk.{OpenWalk}
 use Rattle.ol_context.specs.declared.answers.OpenWalk.TheVariants.{Exit, Undefined, Budget}
 use Rattle.ol_readback.specs.Frames.{Frame, frame_at, frames_of, ParentsFirst}
 use Rattle.ol_readback.specs.Heads.{answer_of, IsMatched}

@@ -1,4 +1,4 @@
-use Rattle.std.proofs.Common.{◌≡◌, sym, ap}
+use Rattle.std.proofs.Common.{ap}
 use Rattle.ol_rules.specs.declared.journal.Counts.{Counts}
 use Rattle.ol_counts.specs.declared.tallies.Tally.{Tally}
 use Rattle.ol_counts.specs.declared.tallies.Numbers.TheVariants.{Net}

@@ -1,6 +1,5 @@
 use Rattle.std.proofs.Common.{arith}
 use Rattle.ol_readback.specs.Frames.{frames_of}
-use Rattle.ol_readback.specs.Heads.{answer_of}
 use Rattle.ol_readback.proofs.FrameLists.{count_frames}
 use Rattle.ol_readback.proofs.Walking.{walk_known}
 use Rattle.ol_counts.proofs.ReadingCounted.{walk_answered}
@@ -12,7 +11,7 @@ returns-clause-answered c =
     walk_answered c.args.net.now.now c.args.self.now.edges c.args.values.now c.walk_counted.new.values
     c.args.asked.now.frames.now.items c.args.asked.now.at c.in_ok-walked.walked.0 c.in_ok-walked.walked.1
     c.requires.asked.last c.in_ok-walked.ensures.walked n0.now s0.edges s0.crossings c.args.self.now.crossings
-    c.in-Some.crossings heads places front t ss (search) z b u
+    c.in-Some.crossings heads places front t ss (omega (arith, c.in-Some.ensures.1)) z b u
 
 pub returns-clause-known : goal.returns-clause-known
 returns-clause-known c =
