@@ -111,8 +111,7 @@ fn of_net_file(
     }
 }
 
-/// What a term, or a net, costs by each way that has a column, side by side. Nothing is reckoned
-/// for a way that has none.
+/// What a term, or a net, costs by each way that has a column, side by side.
 ///
 /// - `run`, `demand`: how often the reduction of the net applies each rule, the number of
 ///   interactions, and how many pairs are stuck in the last net. `demand` also has `places`, the

@@ -24,7 +24,7 @@ pub enum Way {
     Families,
 }
 
-/// Which ways have a column. Those that have none aren't reckoned.
+/// Which ways have a column.
 #[derive(Clone, Copy, Debug, PartialEq, Eq)]
 pub struct Columns {
     pub run: bool,

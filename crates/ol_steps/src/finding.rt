@@ -8,7 +8,7 @@ use crate::earlier::Earlier;
 use ol_term::{Term, size};
 
 /// The step whose term is this one, counted from 0. None comes exactly where it is that of no step
-/// yet. Terms of another size aren't looked at.
+/// yet.
 pub fn step_of(kept: &[Earlier], term: &Term) -> Option<usize>
     requires few { term_size (tree_of term.now) < 2 ^ 64 }
     ensures { IsFound (terms_of kept.now) (tree_of term.now) result }
