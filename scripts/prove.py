@@ -18,7 +18,8 @@ import made_from
 TOP = made_from.TOP
 ROOM = TOP + '/out/prove'
 LOGIC = 'dac8208d650f15bf'  # the program logic that the proofs were last checked with
-SPACE = 10  # GB of disk that all proofs take
+SPACE = 7  # GB of disk: the proofs take 2, and `rt` keeps nothing if less than 5 are left
+ROOMY = 12  # GB of free memory, with which there may be as many processes as processors (four take 9)
 
 
 def tell(text):
@@ -40,6 +41,12 @@ def check_the_machine():
         stop(f'less than {SPACE} GB of disk are free, which the proofs take.')
 
 
+def free_memory():
+    with open('/proc/meminfo', encoding='ascii') as file:
+        sizes = dict(line.split(':') for line in file)
+    return int(sizes['MemAvailable'].split()[0]) / 10**6
+
+
 def clock(start):
     took = int(time.time() - start)
     return f'{took // 60:3}:{took % 60:02}'
@@ -58,10 +65,10 @@ def make_room(rows):
 
 
 def prove(lanes, tell_of):
-    """Proves all crates in the room by at most so many processes, tells of each when it is proved, and builds the program. What `rt` says
-    of a crate comes before the line that the crate is proved, or isn't."""
-    said = []
-    with subprocess.Popen(['rt', 'ci'], cwd=ROOM, env={**os.environ, 'RT_JOBS': str(lanes)}, stdin=subprocess.DEVNULL,
+    """Proves all crates in the room by at most so many processes, or as many as `rt` finds memory for, tells of each when it is proved, and
+    builds the program. What `rt` says of a crate comes before the line that the crate is proved, or isn't."""
+    said, jobs = [], {'RT_JOBS': str(lanes)} if lanes else {}
+    with subprocess.Popen(['rt', 'ci'], cwd=ROOM, env={**os.environ, **jobs}, stdin=subprocess.DEVNULL,
                           stdout=subprocess.PIPE, stderr=subprocess.STDOUT, text=True, errors='replace') as running:
         try:
             for line in running.stdout:
@@ -80,9 +87,11 @@ def prove(lanes, tell_of):
 
 
 def words_of(words):
-    """The name of the program that is asked for, and by how many processes it is proved."""
+    """The name of the program that is asked for, and by how many processes it is proved: 0 if memory is short and no number is given."""
     name = words.pop(0) if words and words[0] in made_from.CRATES else 'ol'
-    number = words.pop(0) if words else str(len(os.sched_getaffinity(0)))
+    if not words:
+        return name, len(os.sched_getaffinity(0)) if free_memory() >= ROOMY else 0
+    number = words.pop(0)
     if words or not number.isdecimal() or not int(number):
         stop('usage: ./prove [ol|ol-bench] [JOBS], where JOBS is a number from 1 on.')
     return name, int(number)
@@ -110,7 +119,7 @@ def main():
         ended.append(crate)
         tell(f'{len(ended):2} of {len(rows)} {clock(start)}  {crate}')
 
-    tell(f'{len(rows)} crates, by at most {lanes} processes.')
+    tell(f'{len(rows)} crates, by at most {lanes} processes.' if lanes else f'{len(rows)} crates, by as many processes as fit in the free memory.')
     with only_one():
         try:
             make_room(rows)
